@@ -13,6 +13,7 @@ pub mod CallRows
 pub mod FilterRows
 pub mod FurtherRows
 pub mod MacroRows
+pub mod MacroTrees
 pub mod SpreadRows
 pub mod ObjectRows
 pub mod OperatorRows

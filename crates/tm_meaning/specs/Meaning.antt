@@ -1,6 +1,6 @@
 -- What trees mean. No stream's place and no operand stands here.
 use Rattle.std.specs.Prelude.{ℕ, zero, suc, ◌+◌, ◌^◌, ◌-◌, pos, List, [], ◌∷◌, ◌++◌, Option, Some, None, Bool, true, false, ◌&&◌}
-use Rattle.std.specs.Prelude.{nat_lt, if◌then◌else◌, Ok, slice_get}
+use Rattle.std.specs.Prelude.{nat_lt, nat_eq, if◌then◌else◌, Ok, slice_get, length, codes}
 use Rattle.tm_values.specs.Answer.{Answer, invalid}
 use Rattle.tm_values.specs.Val.{Val, undefined, number, text}
 use Rattle.tm_values.specs.declared.error.ErrorKind.{ErrorKind}
@@ -20,25 +20,28 @@ use Rattle.tm_syntax.specs.declared.tree.AssignmentTarget.{AssignmentTarget, Nam
 use Rattle.tm_syntax.specs.declared.tree.AssignmentTarget.{Row_of-AssignmentTarget}
 use Rattle.tm_syntax.specs.declared.tree.AssignmentTarget.{end_of-AssignmentTarget as no_target, more_of-AssignmentTarget as target}
 use Rattle.tm_syntax.specs.declared.tree.Assignment.{Assignment}
+use Rattle.tm_syntax.specs.declared.tree.Parameter.{Parameter}
 use Rattle.tm_syntax.specs.declared.tree.CaptureUse.{CaptureUse}
 use Rattle.tm_syntax.specs.declared.tree.CaptureUse.TheVariants as uses
 use Rattle.tm_syntax.specs.declared.tree.Stmt.{Stmt, EmitRaw, EmitExpr, EmitLoop, If', For', Break, Continue, Block', Set, CaptureBlock'}
-use Rattle.tm_syntax.specs.declared.tree.Stmt.{With', Do, AutoEscape', Row_of-Stmt, end_of-Stmt as no_statement}
+use Rattle.tm_syntax.specs.declared.tree.Stmt.{With', Do, AutoEscape', Macro', CallBlock', Row_of-Stmt, end_of-Stmt as no_statement}
 use Rattle.tm_syntax.specs.declared.tree.Stmt.{more_of-Stmt as statement, Held-Stmt-If-2 as Otherwise, None' as no_else}
 use Rattle.tm_syntax.specs.declared.tree.Stmt.{Some' as otherwise}
 use Rattle.tm_syntax.specs.Forms.{unary, chained, conditional, with_condition, with_comparison, with_pair, plain, spread, keyword, item}
 use Rattle.tm_syntax.specs.Forms.{spread_keywords, slice, binary, compare, and_then, or_else}
-use Rattle.tm_syntax.specs.Code.{count_targets, for_flags, pass_flags}
-use Rattle.tm_syntax.specs.Loops.{passes, within_loop, past, pasts, FoundLoop, loops_in}
+use Rattle.tm_syntax.specs.Code.{count_targets, for_flags, pass_flags, macro_head}
+use Rattle.tm_syntax.specs.Fragments.{MacroHead}
+use Rattle.tm_syntax.specs.Loops.{passes, Numbers, first_numbers, within_loop, past, pasts, FoundLoop, loops_in, FoundMacro, macros_in}
 use Rattle.tm_meaning.specs.World.{choose, TemplateId, root_of, World, HostValue, Res, Good, Bad, bind, answered, tick, ticked, looked_up}
 use Rattle.tm_meaning.specs.World.{template_at, emitted, escape_for, with_escape, captured_text, open_loop, next_turn}
-use Rattle.tm_meaning.specs.World.{cleared, items_over, store, set_member, unpacked_items, push, pop, plain_scope}
+use Rattle.tm_meaning.specs.World.{cleared, items_over, store, set_member, unpacked_items, push, pop, plain_scope, enclose, own_closure}
+use Rattle.tm_meaning.specs.World.{make_macro}
 use Rattle.tm_meaning.specs.Calls.{Callee, whole, macro_of, NestedCall, Asked, has, refused, runs, recurs, undone, wrapped, run_value}
 use Rattle.tm_meaning.specs.Calls.{enter_block, call_named}
 use Rattle.tm_meaning.specs.Calls.{applied, call_callee, call_innermost, own_blocks}
 use Rattle.tm_meaning.specs.Tree.{Body, Trees}
 use Rattle.tm_meaning.specs.Operators.{truth, applied_unary, operated, applied_binary, attribute, item_at, slice_of}
-use Rattle.tm_meaning.specs.Operators.{list_of_values, map_of_pairs, listed, mapped, passed, turned}
+use Rattle.tm_meaning.specs.Operators.{list_of_values, map_of_pairs, listed, mapped, passed, turned, is_undefined}
 
 -- ---------------------------------------------------------------- runs and outcomes
 -- A run of a stream's tree: the escape at its start, whether it is heard, whether this stands inside a capture of its own, the parent that
@@ -145,6 +148,10 @@ block_tag u run b out w =
     choose (none_waits run.parent && audible run) (λ _. in_place_of u run out (enter_block u.host b w)) (λ _. so_far run out w)
 
 -- ---------------------------------------------------------------- expressions
+-- What arguments by their names become in the end, behind a row of names with their values.
+abbrev pub RowValues : Type 0
+RowValues = List (Val × Val) → World → Res (List Val)
+
 -- what is guarded where the condition is true, with the jump behind it, and else what stands for it
 abbrev pub under_condition : HostValue → (World → Res Val) → (World → Res Val) → (World → Res Val) → World → Res Val
 under_condition host test guarded other w =
@@ -159,8 +166,8 @@ abbrev mutual
   eval u run (Tuple' _ es) w = bind (eval_all u run es w) (λ vs world1. ticked world1 (λ world2. Good (list_of_values vs) world2))
   eval u run (Map' _ ps) w = bind (eval_pairs u run ps w) (λ es world1. ticked world1 (λ world2. Good (map_of_pairs es) world2))
   eval u run (Call' f _ given _ named) w =
-      bind (passed u.host [] given named (λ world1. eval_arguments u run given world1) (λ world1. eval_keywords u run [] named world1)
-      (λ by_name world1. eval_lists u run [] given by_name world1) w) (λ vs world1.
+      bind (passed u.host [] given named (λ world1. eval_arguments u run given world1)
+      (λ world1. eval_keywords u run mapped [] named world1) (λ by_name world1. eval_lists u run [] given by_name world1) w) (λ vs world1.
       ticked world1 (λ world2. value_of u run (call_named u.host f vs world2)))
   eval u run (unary op a) w = bind (eval u run a w) (λ v world1. ticked world1 (λ world2. applied_unary u.host op v world2))
   eval u run (chained a _ ss) w = bind (eval u run a w) (λ v world1. eval_steps u run ss v world1)
@@ -203,25 +210,25 @@ abbrev mutual
       bind (listed row w) (λ ls world1. bind (eval u run a world1) (λ v world2.
       bind (eval_lists u run [] more by_name world2) (λ vs world3. Good (ls ++ v ∷ vs) world3)))
 
-  -- behind a row of names with their values, a name being charged: each row as a map, and each value that is spread
-  pub eval_keywords : {n : _} → Under → Run → List (Val × Val) → Row_of-Keyword n → World → Res (List Val)
-  eval_keywords u run row no_keyword w = mapped row w
-  eval_keywords u run row (keyword_and (keyword x a) more) w =
-      ticked w (λ world1. bind (eval u run a world1) (λ v world2. eval_keywords u run (row ++ (text x false, v) ∷ []) more world2))
-  eval_keywords u run row (keyword_and (spread_keywords a) more) w =
+  -- behind a row of names with their values, a name being charged: each row as a map, and each value that is spread; so the last row ends
+  pub eval_keywords : {n : _} → Under → Run → RowValues → List (Val × Val) → Row_of-Keyword n → World → Res (List Val)
+  eval_keywords u run end row no_keyword w = end row w
+  eval_keywords u run end row (keyword_and (keyword x a) more) w =
+      ticked w (λ world1. bind (eval u run a world1) (λ v world2. eval_keywords u run end (row ++ (text x false, v) ∷ []) more world2))
+  eval_keywords u run end row (keyword_and (spread_keywords a) more) w =
       bind (mapped row w) (λ ms world1. bind (eval u run a world1) (λ v world2.
-      bind (eval_keywords u run [] more world2) (λ ns world3. Good (ms ++ v ∷ ns) world3)))
+      bind (eval_keywords u run end [] more world2) (λ ns world3. Good (ms ++ v ∷ ns) world3)))
 
   -- a value goes on; `and` and `or` charge their test, and give the operand that ran last
   pub eval_step : Under → Run → Step → Val → World → Res Val
   eval_step u run (Attribute x) v w = ticked w (λ world1. attribute u.host v x world1)
   eval_step u run (Apply' k x _ given _ named) v w =
       bind (passed u.host (v ∷ []) given named (λ world1. eval_arguments u run given world1)
-      (λ world1. eval_keywords u run [] named world1) (λ by_name world1. eval_lists u run (v ∷ []) given by_name world1) w) (λ vs world1.
+      (λ world1. eval_keywords u run mapped [] named world1) (λ by_name world1. eval_lists u run (v ∷ []) given by_name world1) w) (λ vs world1.
       ticked world1 (λ world2. bind (value_of u run (applied u.host k x vs world2)) (λ y world3. turned u.host k y world3)))
   eval_step u run (Called _ given _ named) v w =
       bind (passed u.host (v ∷ []) given named (λ world1. eval_arguments u run given world1)
-      (λ world1. eval_keywords u run [] named world1) (λ by_name world1. eval_lists u run (v ∷ []) given by_name world1) w) (λ vs world1.
+      (λ world1. eval_keywords u run mapped [] named world1) (λ by_name world1. eval_lists u run (v ∷ []) given by_name world1) w) (λ vs world1.
       ticked world1 (λ world2. value_of u run (call_callee u.host vs world2)))
   eval_step u run (item a) v w = bind (eval u run a w) (λ k world1. ticked world1 (λ world2. item_at u.host v k world2))
   eval_step u run (slice a b c) v w =
@@ -276,6 +283,73 @@ set_to u run t e w = bind (eval u run e w) (λ v world1. assign u run t v world1
 abbrev pub set_each : Under → Run → List Assignment → World → Res (Unit {0})
 set_each u run [] w = Good tt w
 set_each u run (a ∷ more) w = bind (set_to u run a.target a.value w) (λ _ world1. set_each u run more world1)
+
+-- ---------------------------------------------------------------- macros
+-- each of these names is enclosed, charged
+abbrev pub enclose_each : HostValue → List (List ℕ) → World → Res (Unit {0})
+enclose_each host [] w = Good tt w
+enclose_each host (x ∷ xs) w = ticked w (λ world1. bind (enclose host x world1) (λ _ world2. enclose_each host xs world2))
+
+-- The macro of a number as a value: the jump over it, each name that it encloses, its closure and the names of its parameters are charged.
+abbrev pub declared : HostValue → ℕ → MacroHead → World → Res Val
+declared host n m w =
+    ticked w (λ world1. bind (enclose_each host m.free world1) (λ _ world2. ticked world2 (λ world3. ticked world3 (λ world4.
+    make_macro n (own_closure world3.scopes.frames) m.name m.parameters m.caller world4))))
+
+-- the value of an argument, or the default where that is undefined, which is tested at a charge
+abbrev pub or_default : Under → Run → Option Expr → Val → World → Res Val
+or_default u run None v w = Good v w
+or_default u run (Some e) v w =
+    ticked w (λ world1. ticked world1 (λ world2. choose (is_undefined v) (λ _. eval u run e world2) (λ _. Good v world2)))
+
+abbrev pub take_parameter : Under → Run → Parameter → Val → World → Res (Unit {0})
+take_parameter u run p v w = bind (or_default u run p.default v w) (λ x world1. assign u run (To p.name) x world1)
+
+-- Parameters take the values of as many arguments, from the last to the first.
+abbrev pub take_parameters : Under → Run → List Parameter → List Val → World → Res (Unit {0})
+take_parameters u run [] vs w = Good tt w
+take_parameters u run (p ∷ ps) [] w = Good tt w
+take_parameters u run (p ∷ ps) (v ∷ vs) w = bind (take_parameters u run ps vs w) (λ _ world1. take_parameter u run p v world1)
+
+-- ---------------------------------------------------------------- calls that are given a macro
+-- behind a row of names with their values the macro of a number, under the name `caller`
+abbrev pub with_caller : HostValue → ℕ → MacroHead → RowValues
+with_caller host n m row w =
+    ticked w (λ world1. bind (declared host n m world1) (λ v world2. mapped (row ++ (text (codes "caller") false, v) ∷ []) world2))
+
+-- What a call is passed, behind values before the arguments, where those by their names end so.
+abbrev pub passed_so : {n m : _} → Under → Run → RowValues → List Val → Row_of-Argument n → Row_of-Keyword m → World → Res (List Val)
+passed_so u run end before given named w =
+    passed u.host before given named (λ world1. eval_arguments u run given world1)
+    (λ world1. eval_keywords u run end [] named world1) (λ by_name world1. eval_lists u run before given by_name world1) w
+
+-- a value is called with what is behind its arguments alone
+abbrev pub call_alone : Under → Run → RowValues → Val → World → Res Val
+call_alone u run end v w =
+    bind (end [] w) (λ ks world1. ticked world1 (λ world2. value_of u run (call_callee u.host (v ∷ ks) world2)))
+
+-- The last step of a value is its call, whose arguments end so; what a step that is no call gives is called.
+abbrev pub step_call : Under → Run → RowValues → Step → Val → World → Res Val
+step_call u run end (Apply' k x _ given _ named) v w =
+    bind (passed_so u run end (v ∷ []) given named w) (λ vs world1.
+    ticked world1 (λ world2. bind (value_of u run (applied u.host k x vs world2)) (λ y world3. turned u.host k y world3)))
+step_call u run end (Called _ given _ named) v w =
+    bind (passed_so u run end (v ∷ []) given named w) (λ vs world1.
+    ticked world1 (λ world2. value_of u run (call_callee u.host vs world2)))
+step_call u run end s v w = bind (eval_step u run s v w) (λ x world1. call_alone u run end x world1)
+
+abbrev pub steps_call : {n : _} → Under → Run → RowValues → Row_of-Step n → Val → World → Res Val
+steps_call u run end no_step v w = call_alone u run end v w
+steps_call u run end (step s no_step) v w = step_call u run end s v w
+steps_call u run end (step s (step t more)) v w = bind (eval_step u run s v w) (λ x world1. steps_call u run end (step t more) x world1)
+
+-- An expression that is a call, whose arguments end so; what another gives is called.
+abbrev pub call : Under → Run → RowValues → Expr → World → Res Val
+call u run end (Call' f _ given _ named) w =
+    bind (passed_so u run end [] given named w) (λ vs world1.
+    ticked world1 (λ world2. value_of u run (call_named u.host f vs world2)))
+call u run end (chained a _ ss) w = bind (eval u run a w) (λ v world1. steps_call u run end ss v world1)
+call u run end e w = bind (eval u run e w) (λ v world1. call_alone u run end v world1)
 
 -- ---------------------------------------------------------------- statements
 -- What is closed behind a body, however it ended, but for a fault.
@@ -368,7 +442,7 @@ has_none [] = true
 has_none (v ∷ vs) = false
 
 abbrev mutual
-  pub exec : Under → ℕ → Stmt → Run → List ℕ → World → Outcome
+  pub exec : Under → Numbers → Stmt → Run → List ℕ → World → Outcome
   exec u at (EmitRaw t) run out w = use_it (tick w) run out (λ _ world1. so_far run (say run t out) world1)
   exec u at (EmitExpr e) run out w = use_it (eval u run e w) run out (λ v world1. emit u run out v world1)
   exec u at (EmitLoop e) run out w =
@@ -379,9 +453,9 @@ abbrev mutual
       use_it (truth u.host v world2) run out (λ b world3.
       choose b (λ _. behind_first other run (exec_all u at body run out world3)) (λ _. exec_else u (pasts at body) other run out world3))))
   exec u at (For' t e c recursive _ body other) run out w =
-      use_it (loop_items u at run t e c w) run out (λ vs world1.
+      use_it (loop_items u at.loops run t e c w) run out (λ vs world1.
       then_do run
-      (loop_over u.host (at + passes c) recursive (λ item run1 out1 world2.
+      (loop_over u.host (at.loops + passes c) recursive (λ item run1 out1 world2.
       use_it (assign u run1 t item world2) run1 out1 (λ _ world3. exec_all u (within_loop c at) body run1 out1 world3))
       vs run out world1)
       (λ run1 out1 world2. exec_behind_loop u (pasts (within_loop c at) body) other (has_none vs) run1 out1 world2))
@@ -401,18 +475,24 @@ abbrev mutual
       use_it (eval u run e w) run out (λ v world1.
       use_it (answered (escape_for run.first v) world1) run out (λ x world2.
       closing (with_escape world2.escape) (exec_all u at body run out (with_escape x world2))))
+  exec u at (Macro' x ps _ body) run out w =
+      use_it (declared u.host at.macros (macro_head x ps body) w) run out (λ v world1.
+      use_it (assign u run (To x) v world1) run out (λ _ world2. so_far run out world2))
+  exec u at (CallBlock' e ps _ body) run out w =
+      use_it (call u run (with_caller u.host at.macros (macro_head (codes "caller") ps body)) e w) run out
+      (λ v world1. emit u run out v world1)
 
-  pub exec_all : {n : _} → Under → ℕ → Row_of-Stmt n → Run → List ℕ → World → Outcome
+  pub exec_all : {n : _} → Under → Numbers → Row_of-Stmt n → Run → List ℕ → World → Outcome
   exec_all u at no_statement run out w = so_far run out w
   exec_all u at (statement s ss) run out w =
       then_do run (exec u at s run out w) (λ run1 out1 world1. exec_all u (past at s) ss run1 out1 world1)
 
-  pub exec_else : Under → ℕ → Otherwise → Run → List ℕ → World → Outcome
+  pub exec_else : Under → Numbers → Otherwise → Run → List ℕ → World → Outcome
   exec_else u at no_else run out w = so_far run out w
   exec_else u at (otherwise _ body) run out w = exec_all u at body run out w
 
   -- what runs where a loop had no items, behind its test, which is charged
-  pub exec_behind_loop : Under → ℕ → Otherwise → Bool → Run → List ℕ → World → Outcome
+  pub exec_behind_loop : Under → Numbers → Otherwise → Bool → Run → List ℕ → World → Outcome
   exec_behind_loop u at no_else none_taken run out w = so_far run out w
   exec_behind_loop u at (otherwise _ body) none_taken run out w =
       use_it (tick w) run out (λ _ world1. choose none_taken (λ _. exec_all u at body run out world1) (λ _. so_far run out world1))
@@ -436,7 +516,19 @@ at_end (fault chain) o = o
 at_end e o = done_by (tick o.world) o
 
 abbrev pub stream_run : Under → Body → Run → List ℕ → World → Outcome
-stream_run u body run out w = let o = exec_all u 0 body.row run out w in at_end o.ending o
+stream_run u body run out w = let o = exec_all u first_numbers body.row run out w in at_end o.ending o
+
+-- A macro's body, once its parameters have taken the values of its arguments.
+abbrev pub macro_body : Under → FoundMacro → List Val → Run → List ℕ → World → Outcome
+macro_body u m given run out w =
+    use_it (take_parameters u run m.parameters given w) run out (λ _ world1. exec_all u m.at m.body.row run out world1)
+
+-- the run of a macro, where there is one that takes so many arguments
+abbrev pub macro_run : Under → Option FoundMacro → List Val → Run → List ℕ → World → Outcome
+macro_run u None given run out w = failed InvalidOperation run out w
+macro_run u (Some m) given run out w =
+    choose (nat_eq (length m.parameters) (length given))
+    (λ _. let o = macro_body u m given run out w in at_end o.ending o) (λ _. failed InvalidOperation run out w)
 
 abbrev pub over : HostValue → Nests → Again → Under
 over host nests again = record { host = host; nests = nests; again = again }
@@ -455,7 +547,7 @@ again_in u (Some l) n items run out w =
 abbrev pub again_of : HostValue → Nests → Body → ℕ → Again
 again_of host nests body zero n items run out w = failed InvalidOperation run out w
 again_of host nests body (suc k) n items run out w =
-    again_in (over host nests (again_of host nests body k)) (slice_get (loops_in 0 body.row) n) n items run out w
+    again_in (over host nests (again_of host nests body k)) (slice_get (loops_in first_numbers body.row) n) n items run out w
 
 abbrev pub under : HostValue → Nests → Body → Under
 under host nests body = over host nests (again_of host nests body (host.limit + 1))
@@ -464,7 +556,9 @@ under host nests body = over host nests (again_of host nests body (host.limit + 
 -- limit
 abbrev pub nests_of : HostValue → Trees → ℕ → Nests
 nests_of host trees zero callee heard out w = failed InvalidOperation (new_run heard w) out w
-nests_of host trees (suc n) (macro_of s entry given) heard out w = failed InvalidOperation (new_run heard w) out w
+nests_of host trees (suc n) (macro_of s entry given) heard out w =
+    macro_run (under host (nests_of host trees n) (trees s)) (slice_get (macros_in first_numbers (trees s).row) entry) given
+    (new_run heard w) out w
 nests_of host trees (suc n) (whole s) heard out w =
     stream_run (under host (nests_of host trees n) (trees s)) (trees s) (new_run heard w) out w
 

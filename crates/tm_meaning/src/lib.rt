@@ -13,6 +13,7 @@ ghost use Rattle.tm_meaning.specs.World.{View, find_name};
 mod base;
 mod function;
 mod guards;
+mod macro_trees;
 mod macros;
 mod mark;
 mod operators;
@@ -28,6 +29,7 @@ pub use guards::{
     block_guards, call_guards, emission_guards, fuel_guards, look_up_guards, loop_guards,
     view_guards,
 };
+pub use macro_trees::{call_tag_rows, enclosed_rows, macro_value_rows, parameter_rows};
 pub use macros::{binding_rows, closure_rows, macro_call_rows, macro_part_rows, macro_rows};
 pub use mark::LoopMark;
 pub use operators::{arithmetic_rows, comparison_rows, item_rows, membership_rows, slice_rows};

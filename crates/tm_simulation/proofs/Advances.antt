@@ -10,7 +10,8 @@ use Rattle.tm_values.specs.declared.error.ErrorKind.TheVariants.{InvalidOperatio
 use Rattle.tm_syntax.specs.declared.instruction.LoopFlags.{LoopFlags}
 use Rattle.tm_meaning.specs.World.{Bindings, choose, with_frames, World, Scopes, Scope, Loop, loop_scope, new_loop, turned_at, turned_of}
 use Rattle.tm_meaning.specs.World.{top_mark, next_turn, without_locals, cleared, Res, Good, Bad, pop, depth, without_first, stored_in}
-use Rattle.tm_meaning.specs.World.{own_closure, put_at, put_in, put_enclosed, store, with_escape, Named, Layers}
+use Rattle.tm_meaning.specs.World.{own_closure, put_at, put_in, put_enclosed, store, with_escape, Named, Layers, with_own, one_closure_more}
+use Rattle.tm_meaning.specs.World.{closing_over, is_there, with_stream}
 use Rattle.tm_meaning.specs.Calls.{keeping_at, is_changed, outermost, undone, of_block, of_macro}
 use Rattle.tm_meaning.specs.declared.mark.LoopMark.{LoopMark}
 use Rattle.tm_simulation.specs.Kept.{shape, shapes, GoesOn, bare, LieOver, BlocksGrow}
@@ -294,6 +295,47 @@ enclosed_kept : (x : List ℕ) (v : Val) (w : World) → Kept w (put_enclosed x 
 enclosed_kept x v w =
     kept_lasting (lasts_by_closures w (put_in (own_closure w.scopes.frames) x v w.closures)
     (omega (arith, put_in_long (own_closure w.scopes.frames) x v w.closures))) refl refl refl refl
+
+own_bare : (n : ℕ) (frames : List Scope) → bare (with_own n frames) ≡ bare frames
+own_bare n [] = refl
+own_bare n (s ∷ ss) = refl
+
+more_closures : (frames : List Scope) (cs : List Bindings) → length cs ≤ length (one_closure_more frames cs)
+more_closures [] cs = omega arith
+more_closures (s ∷ ss) cs = omega (arith, length-append cs ([] ∷ []))
+
+-- the innermost scope has a closure of its own
+closing_kept : (o : Option ℕ) (w : World) → Kept w (closing_over o w)
+closing_kept (Some n) w = kept_same w
+closing_kept None w =
+    let frames = with_own (length w.closures) w.scopes.frames in
+    let v = with_frames frames w in
+    kept_then (kept_named frames w (own_bare (length w.closures) w.scopes.frames))
+    (kept_lasting (lasts_by_closures v (one_closure_more w.scopes.frames w.closures) (more_closures w.scopes.frames w.closures))
+    refl refl refl refl)
+
+-- and a name more in it
+pub closed_over_kept : (x : List ℕ) (v : Val) (o : Option ℕ) (w : World) → Kept w (put_enclosed x v (closing_over o w))
+closed_over_kept x v o w = kept_then (closing_kept o w) (enclosed_kept x v (closing_over o w))
+
+more_by : (b : Bool) (s : StreamId) (ts : List StreamId) → length ts ≤ length (if b then ts else ts ++ s ∷ [])
+more_by true s ts = omega arith
+more_by false s ts = omega (arith, length-append ts (s ∷ []))
+
+-- a stream that declared a macro
+pub stream_kept : (s : StreamId) (w : World) → Kept w (record w { streams = with_stream s w.streams })
+stream_kept s w = kept_lasting (record {
+  same_id = refl;
+  same_fuel_set = refl;
+  fuel = omega arith;
+  loops = goes_on_same w.loops;
+  namespaces = omega arith;
+  closures = omega arith;
+  streams = more_by (is_there s w.streams) s w.streams;
+  temps = omega arith;
+  loaded = omega arith;
+  blocks = blocks_same w.blocks;
+}) refl refl refl refl
 
 pub store_kept : (x : List ℕ) (v : Val) (w : World) → Kept w (store x v w)
 store_kept x v w =

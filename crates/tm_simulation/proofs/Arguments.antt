@@ -14,7 +14,7 @@ use Rattle.tm_syntax.specs.CacheNumbers.{no_cache}
 use Rattle.tm_syntax.specs.declared.tree.Application.TheVariants as applications
 use Rattle.tm_syntax.specs.declared.instruction.Instruction.{Instruction}
 use Rattle.tm_syntax.specs.declared.instruction.Instruction.TheVariants as i
-use Rattle.tm_syntax.specs.Code.{together, count, count_lists, count_maps, count_by}
+use Rattle.tm_syntax.specs.Code.{RowEnd, row_end, together, count, count_lists, count_maps, count_by}
 use Rattle.tm_syntax.specs.Code.{unary_code, binary_code, application_code, list_of_row, map_of_row, merged_code, merging, passing_by}
 use Rattle.tm_syntax.specs.Code.{has_spread_keyword}
 use Rattle.tm_syntax.specs.Fragments.{Fragment, ◌⨾◌, Labels, beyond_all, beyond}
@@ -34,7 +34,7 @@ use Rattle.tm_meaning.specs.Machine.{after, goes, taken, on_taken, asked}
 use Rattle.tm_meaning.specs.Machine.{with_world}
 use Rattle.tm_meaning.specs.Instructions.{binary_of, apply_of, paired, group_on, take_counted}
 use Rattle.tm_meaning.specs.Steps.{act}
-use Rattle.tm_syntax.proofs.Standing.{HasAt, At}
+use Rattle.tm_syntax.proofs.Standing.{HasAt, AtWhere, everywhere}
 use Rattle.tm_simulation.proofs.Gives.{Gives, tick_gives}
 use Rattle.tm_simulation.proofs.Advances.{Kept, kept_then}
 use Rattle.tm_simulation.proofs.Asks.{Asks, applied_asks}
@@ -45,7 +45,9 @@ use Rattle.tm_simulation.proofs.Follow.{LeadsToEnd}
 use Rattle.tm_simulation.proofs.Follow.{Spot, told, cfg}
 use Rattle.tm_simulation.proofs.Follow.{Follows, follows_map_kept, bound_follows, bound_twice, bind_then}
 use Rattle.tm_simulation.proofs.Follow.{Go, silent, at, after_then, pushes, choose_then}
-use Rattle.tm_simulation.proofs.Operands.{IsLong, bind_long, flat, flat_long}
+use Rattle.tm_simulation.proofs.Operands.{IsLong, bind_long, flat, flat_long, mapped_long}
+use Rattle.tm_meaning.specs.Meaning.{RowValues}
+use Rattle.tm_simulation.proofs.Evaluates.{mapped_gives}
 use Rattle.tm_simulation.proofs.Operands.{onto_both, paired_flat, taken_all}
 use Rattle.tm_simulation.proofs.Levels.{Setting, Here, asked_then, here_kept, meaning, nest_ends}
 
@@ -94,12 +96,12 @@ module _ (setting : Setting) where
   binary_then op s pc a b stack w is h = operates op _ (λ c. refl) s pc a b stack w is.0 h
 
   -- What a call is passed, on others: one by one, or as a group.
-  abbrev passed_on : Bool → List Val → List Val → List Val
+  abbrev pub passed_on : Bool → List Val → List Val → List Val
   passed_on false vs stack = onto vs stack
   passed_on true vs stack = group_on vs stack
 
   -- a group knows how many it has
-  abbrev Counted : Bool → ℕ → List Val → Type 0
+  abbrev pub Counted : Bool → ℕ → List Val → Type 0
   Counted false m vs = length vs ≡ m
   Counted true m vs = Unit {0}
 
@@ -240,9 +242,12 @@ module _ (setting : Setting) where
       (bind_then context (told s) w (tick w) _ _ _ (tick_gives _ w) h (λ _ world1 k g.
       silent context (told s) _ (at context i.DiscardTop s (end + 1) (y ∷ v ∷ stack) world1 is.1.0 (silent context (told s) _ g)))))
 
-  -- code that stands in the stream of a spot
+  -- code that stands in the stream of a spot, the place of each macro of which is marked so
+  abbrev pub InWhere : (ℕ → Bool) → Spot → Labels → ℕ → Fragment → Type 0
+  InWhere marks s l pc c = AtWhere marks (context.program.code s.run.stream) l pc c
+
   abbrev pub In : Spot → Labels → ℕ → Fragment → Type 0
-  In s l pc c = At (context.program.code s.run.stream) l pc c
+  In s l pc c = InWhere everywhere s l pc c
 
   -- Wherever this code stands it pushes this value.
   abbrev pub Runs : Run → Fragment → (World → Res Val) → Type 0
@@ -250,58 +255,79 @@ module _ (setting : Setting) where
       (s : Spot) (l : Labels) (pc : ℕ) (stack : List Val) (w : World) → Here setting run s w → In s l pc code →
       Follows context (told s) (value w) (λ v world1. Go context s (beyond pc code) (v ∷ stack) world1) → Go context s pc stack w
 
-  -- Wherever this code stands it pushes these values.
-  abbrev pub Pushes : Run → Fragment → (World → Res (List Val)) → Type 0
-  Pushes run code values =
-      (s : Spot) (l : Labels) (pc : ℕ) (stack : List Val) (w : World) → Here setting run s w → In s l pc code →
+  -- Wherever this code stands, with its macros marked so, it pushes these values.
+  abbrev pub Pushes : (ℕ → Bool) → Run → Fragment → (World → Res (List Val)) → Type 0
+  Pushes marks run code values =
+      (s : Spot) (l : Labels) (pc : ℕ) (stack : List Val) (w : World) → Here setting run s w → InWhere marks s l pc code →
       Follows context (told s) (values w) (λ vs world1. Go context s (beyond pc code) (onto vs stack) world1) → Go context s pc stack w
 
   -- what has as many values as are asked for, whatever the world
   abbrev pub Long : ℕ → (World → Res (List Val)) → Type 0
   Long n values = (w : World) → IsLong n (values w)
 
+  -- How arguments by their names end, and that code of theirs pushes what they become.
+  pub record RowRuns (marks : ℕ → Bool) (run : Run) : Type 0 where
+    pub end : RowEnd
+    pub values : RowValues
+    pub gives : (row : List (Val × Val)) → Given context.program.host (values row)
+    pub long : (row : List (Val × Val)) → Long (end.maps (length row)) (values row)
+    pub runs : (n : ℕ) (row : List (Val × Val)) (s : Spot) (l : Labels) (pc : ℕ) (stack : List Val) (w : World) → length row ≡ n →
+        Here setting run s w → InWhere marks s l pc (end.code n) →
+        Follows context (told s) (values row w) (λ ms world1. Go context s (beyond pc (end.code n)) (onto ms stack) world1) →
+        Go context s pc (onto (flat row) stack) w
+
+  -- by a map
+  abbrev pub row_runs : (run : Run) → RowRuns everywhere run
+  row_runs run = record {
+    end = row_end;
+    values = mapped;
+    gives = mapped_gives context.program.host;
+    long = mapped_long;
+    runs = λ n row s l pc stack w e d is h. mapped_then s pc n row stack w e is h;
+  }
+
   -- keyword maps become one argument
-  pub named_runs : {m : _} → (ks : Row_of-Keyword m) (run : Run) (code : Fragment) (maps : World → Res (List Val)) →
-      Given context.program.host maps → Long (count_maps 0 ks) maps → Pushes run code maps →
-      Pushes run (merging ks code) (named_by context.program.host ks maps)
-  named_runs ks run code maps given long part s l pc stack w d is h =
+  pub named_runs : {m : _} → (marks : ℕ → Bool) (end : RowEnd) (ks : Row_of-Keyword m) (run : Run) (code : Fragment)
+      (maps : World → Res (List Val)) → Given context.program.host maps → Long (count_maps end 0 ks) maps → Pushes marks run code maps →
+      Pushes marks run (merging end ks code) (named_by context.program.host ks maps)
+  named_runs marks end ks run code maps given long part s l pc stack w d is h =
       part s l pc stack w d is.0
-      (bind_long context (told s) w (count_maps 0 ks) (maps w) _ _ _ (given w) (long w) h (λ ms world1 k m h1.
-      merged_then (has_spread_keyword ks) s _ (count_maps 0 ks) ms stack world1 m is.1 h1))
+      (bind_long context (told s) w (count_maps end 0 ks) (maps w) _ _ _ (given w) (long w) h (λ ms world1 k m h1.
+      merged_then (has_spread_keyword ks) s _ (count_maps end 0 ks) ms stack world1 m is.1 h1))
 
   -- The code of arguments leaves them on others, from where a call takes them.
-  pub passing_runs : {n m : _} → (b : Bool) (before : List Val) (given : Row_of-Argument n) (named : Row_of-Keyword m) (run : Run)
+  pub passing_runs : {n m : _} → (marks : ℕ → Bool) (end : RowEnd) (b : Bool) (before : List Val) (given : Row_of-Argument n) (named : Row_of-Keyword m) (run : Run)
       (by_place by_name : Fragment) (lists : Fragment → Fragment) (places names : World → Res (List Val))
       (rows : (World → Res (List Val)) → World → Res (List Val)) →
-      Given context.program.host places → Long (count given) places → Pushes run by_place places →
-      Given context.program.host names → Long (together named) names → Pushes run by_name names →
-      Given context.program.host (rows names) → Long (count_lists (length before) given (together named)) (rows names) →
-      ((s : Spot) (l : Labels) (pc : ℕ) (stack : List Val) (w : World) → Here setting run s w → In s l pc (lists by_name) →
+      Given context.program.host places → Long (count given) places → Pushes marks run by_place places →
+      Given context.program.host names → Long (together end named) names → Pushes marks run by_name names →
+      Given context.program.host (rows names) → Long (count_lists (length before) given (together end named)) (rows names) →
+      ((s : Spot) (l : Labels) (pc : ℕ) (stack : List Val) (w : World) → Here setting run s w → InWhere marks s l pc (lists by_name) →
       Follows context (told s) (rows names w) (λ ls world1. Go context s (beyond pc (lists by_name)) (onto ls stack) world1) →
       Go context s pc (onto before stack) w) →
       (s : Spot) (l : Labels) (pc : ℕ) (stack : List Val) (w : World) (g : List Val → World → Res Val) (K : Val → World → Type 0) →
-      Here setting run s w → In s l pc (passing_by b (length before) given named by_place by_name lists) →
+      Here setting run s w → InWhere marks s l pc (passing_by end b (length before) given named by_place by_name lists) →
       Follows context (told s) (bind (passed_by b context.program.host before places names rows w) g) K →
-      ((vs : List Val) (world1 : World) → Kept w world1 → Counted b (count given + together named + length before) vs →
+      ((vs : List Val) (world1 : World) → Kept w world1 → Counted b (count given + together end named + length before) vs →
       Follows context (told s) (g vs world1) K →
-      Go context s (beyond pc (passing_by b (length before) given named by_place by_name lists)) (passed_on b vs stack) world1) →
+      Go context s (beyond pc (passing_by end b (length before) given named by_place by_name lists)) (passed_on b vs stack) world1) →
       Go context s pc (onto before stack) w
-  passing_runs false before given named run by_place by_name lists places names rows pg pl pp ng nl np rg rl rp s l pc stack w g K d is h go =
+  passing_runs marks end false before given named run by_place by_name lists places names rows pg pl pp ng nl np rg rl rp s l pc stack w g K d is h go =
       pp s l pc (onto before stack) w d is.0
       (bind_long context (told s) w (count given) (places w) _ _ _ (pg w) (pl w)
       (bound_twice context (told s) (places w) (λ vs world1. bind (names world1) (λ ks world2. Good (before ++ (vs ++ ks)) world2)) g K h)
       (λ vs world1 k m h1.
       np s l _ (onto vs (onto before stack)) world1 (here_kept setting run s k d) is.1
-      (bind_long context (told s) world1 (together named) (names world1) _ _ _ (ng world1) (nl world1)
+      (bind_long context (told s) world1 (together end named) (names world1) _ _ _ (ng world1) (nl world1)
       (bound_twice context (told s) (names world1) (λ ks world2. Good (before ++ (vs ++ ks)) world2) g K h1)
       (λ ks world2 k2 m2 h2.
       let all = before ++ (vs ++ ks) in
-      let long : length all ≡ count given + together named + length before =
+      let long : length all ≡ count given + together end named + length before =
       omega (arith, length-append before (vs ++ ks), length-append vs ks, m, m2) in
       subst (λ us. Go context s (beyond (beyond pc by_place) by_name) us world2)
       (onto_both before (vs ++ ks) stack ∙ onto_both vs ks (onto before stack)) (go all world2 (kept_then k k2) long h2)))))
-  passing_runs true before given named run by_place by_name lists places names rows pg pl pp ng nl np rg rl rp s l pc stack w g K d is h go =
-      let n = count_lists (length before) given (together named) in
+  passing_runs marks end true before given named run by_place by_name lists places names rows pg pl pp ng nl np rg rl rp s l pc stack w g K d is h go =
+      let n = count_lists (length before) given (together end named) in
       rp s l pc stack w d is.0
       (bind_long context (told s) w n (rows names w) _ _ _ (rg w) (rl w)
       (bound_twice context (told s) (rows names w) (λ ls world1. ticked world1 (λ world2. items_of_lists context.program.host ls world2)) g

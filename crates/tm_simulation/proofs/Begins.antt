@@ -1,5 +1,5 @@
--- The loops that code begins: their numbers, and that each of a tree stands in its code.
-use Rattle.std.proofs.Common.{◌≡◌, ℕ, zero, suc, ◌+◌, ◌⊎◌, List, [], ◌∷◌, ◌++◌, length, Option, Some, None, Bool, true, false, refl}
+-- The loops and the macros of trees in their code, each at its number.
+use Rattle.std.proofs.Common.{◌≡◌, ℕ, zero, suc, ◌+◌, ◌⊎◌, List, [], ◌∷◌, ◌++◌, length, Option, Some, None, Bool, true, refl}
 use Rattle.std.proofs.Common.{sym, ap, subst, ◌∙◌, arith}
 use Rattle.std.specs.Prelude.{slice_get}
 use Rattle.std.proofs.lemmas.List.{append-nil}
@@ -7,36 +7,48 @@ use Rattle.tm_syntax.specs.declared.instruction.Instruction.{Instruction}
 use Rattle.tm_syntax.specs.declared.instruction.Instruction.TheVariants as i
 use Rattle.tm_syntax.specs.declared.instruction.LoopFlags.{LoopFlags}
 use Rattle.tm_syntax.specs.declared.instruction.LoopPlace.{LoopPlace}
-use Rattle.tm_syntax.specs.Code.{for_flags}
-use Rattle.tm_syntax.specs.Loops.{begins, with_place, one_more_loop, loops_before, loop_places, FoundLoop}
-use Rattle.tm_syntax.specs.Fragments.{Fragment, straight, ◌⨾◌, jump_out, bounded, fork, looped, break_loop, next_round, beyond_all}
-use Rattle.tm_syntax.specs.Fragments.{beyond, Labels, outward, inward, jump, assemble, aside, ending_at, over, either}
 use Rattle.tm_syntax.specs.declared.jump.JumpKind.{JumpKind}
-use Rattle.tm_syntax.specs.Entries.{entries_from, name_count}
-use Rattle.tm_syntax.specs.declared.jump.JumpKind.TheVariants.{IfFalse, IfFalseOrPop, IfTrueOrPop}
-use Rattle.tm_syntax.specs.Code.{target_code, statements_code}
+use Rattle.tm_syntax.specs.declared.jump.JumpKind.TheVariants.{IfFalse}
+use Rattle.tm_syntax.specs.Code.{for_flags, target_code, parameters_code, statements_code}
+use Rattle.tm_syntax.specs.Loops.{begins, with_place, loop_places, Numbers, within_macro, FoundLoop, FoundMacro}
+use Rattle.tm_syntax.specs.Fragments.{Fragment, straight, ◌⨾◌, jump_out, bounded, fork, looped, break_loop, next_round, declares}
+use Rattle.tm_syntax.specs.Fragments.{MacroHead, behind_body, beyond, Labels, outward, inward, jump, assemble, ending_at, over, either}
+use Rattle.tm_syntax.specs.Entries.{Entries}
 use Rattle.tm_syntax.proofs.Standing.{HasAt, At, beyond_is}
-use Rattle.tm_simulation.specs.Uncached.{is_uncached, AllUncached}
-use Rattle.tm_simulation.proofs.Numbered.{both_uncached}
+use Rattle.tm_simulation.proofs.Counts.{NoneBegins, Plain, Loopless, NoLoops, plain, jump_none, none_loops, behind_loops, none_places}
+use Rattle.tm_simulation.proofs.Counts.{one_loop_more, counted, counted_none, entered, entered_none, Counts, Has, it, front, back}
 
--- ---------------------------------------------------------------- numbers
-one_more_out : (o : Option LoopFlags) (g : Option LoopFlags) (n : ℕ) → one_more_loop o (one_more_loop g n) ≡ one_more_loop g
-    (one_more_loop o n)
-one_more_out None g n = refl
-one_more_out (Some a) None n = refl
-one_more_out (Some a) (Some b) n = refl
+-- ---------------------------------------------------------------- lists side by side
+-- Two lists are as long, and each item of one stands in a relation to that of the other.
+abbrev pub Paired : {A B : Type 0} → (A → B → Type 0) → List A → List B → Type 0
+Paired R [] [] = Unit {0}
+Paired R [] (y ∷ ys) = ⊥
+Paired R (x ∷ xs) [] = ⊥
+Paired R (x ∷ xs) (y ∷ ys) = R x y × Paired R xs ys
 
-pub after_one : (pc : ℕ) (all : List Instruction) (x : Instruction) → slice_get all pc ≡ Some x →
-    loops_before (pc + 1) all ≡ one_more_loop (begins x) (loops_before pc all)
-after_one zero [] x e = absurd (cc e)
-after_one zero (y ∷ all) x e = let same : y ≡ x = cc e in ap (λ z. one_more_loop (begins z) 0) same
-after_one (suc pc) [] x e = absurd (cc e)
-after_one (suc pc) (y ∷ all) x e =
-    let place : suc pc + 1 ≡ suc (pc + 1) = omega arith in
-    ap (λ n. loops_before n (y ∷ all)) place ∙ ap (one_more_loop (begins y)) (after_one pc all x e) ∙ one_more_out (begins y) (begins x)
-    (loops_before pc all)
+paired_both : {A B : Type 0} (R : A → B → Type 0) (a b : List A) (p q : List B) → Paired R a p → Paired R b q →
+    Paired R (a ++ b) (p ++ q)
+paired_both R [] b [] q h k = k
+paired_both R [] b (y ∷ p) q h k = absurd h
+paired_both R (x ∷ a) b [] q h k = absurd h
+paired_both R (x ∷ a) b (y ∷ p) q h k = (h.0, paired_both R a b p q h.1 k)
 
--- ---------------------------------------------------------------- places
+-- the two of a number
+abbrev pub Both : {A B : Type 0} → (A → B → Type 0) → Option A → Option B → Type 0
+Both R None None = Unit {0}
+Both R (Some x) (Some y) = R x y
+Both R None (Some y) = ⊥
+Both R (Some x) None = ⊥
+
+pub paired_at : {A B : Type 0} (R : A → B → Type 0) (xs : List A) (ys : List B) (n : ℕ) → Paired R xs ys →
+    Both R (slice_get xs n) (slice_get ys n)
+paired_at R [] [] n h = tt
+paired_at R [] (y ∷ ys) n h = absurd h
+paired_at R (x ∷ xs) [] n h = absurd h
+paired_at R (x ∷ xs) (y ∷ ys) zero h = h.0
+paired_at R (x ∷ xs) (y ∷ ys) (suc n) h = paired_at R xs ys n h.1
+
+-- ---------------------------------------------------------------- places of loops
 with_place_front : (o : Option LoopFlags) (pc : ℕ) (a b : List LoopPlace) → with_place o pc (a ++ b) ≡ with_place o pc a ++ b
 with_place_front None pc a b = refl
 with_place_front (Some g) pc a b = refl
@@ -64,250 +76,174 @@ pub record Looped (all : List Instruction) (l : FoundLoop) (place : ℕ) : Type 
   pub code : At all labels place (looped (for_flags true) (target_code l.target ⨾ statements_code [] l.body.row) after)
   pub exit : let end = beyond (place + 1 + 1) (target_code l.target ⨾ statements_code [] l.body.row) + 1 in HasAt all end
       (i.PopLoopFrame ∷ []) ⊎ HasAt all end (i.PushDidNotIterate ∷ i.PopLoopFrame ∷ [])
-  pub numbered : loops_before (beyond (place + 1 + 1) (target_code l.target)) all ≡ l.at
+  pub numbered : Counts all l.at (beyond (place + 1 + 1) (target_code l.target)) (statements_code [] l.body.row)
 
 -- A loop of a tree is this one of the code.
 abbrev pub IsAt : List Instruction → FoundLoop → LoopPlace → Type 0
 IsAt all l p = (p.flags.recursive ≡ l.recursive) × (l.recursive ≡ true → (p.flags ≡ for_flags true) × Looped all l p.place)
 
-abbrev pub Match : List Instruction → List FoundLoop → List LoopPlace → Type 0
-Match all [] [] = Unit {0}
-Match all [] (p ∷ ps) = ⊥
-Match all (l ∷ ls) [] = ⊥
-Match all (l ∷ ls) (p ∷ ps) = IsAt all l p × Match all ls ps
+-- what a call of a macro runs
+abbrev pub body_code : FoundMacro → Fragment
+body_code m = parameters_code m.parameters ⨾ statements_code [] m.body.row
 
-match_both : (all : List Instruction) (a b : List FoundLoop) (p q : List LoopPlace) → Match all a p → Match all b q →
-    Match all (a ++ b) (p ++ q)
-match_both all [] b [] q h k = k
-match_both all [] b (y ∷ p) q h k = absurd h
-match_both all (x ∷ a) b [] q h k = absurd h
-match_both all (x ∷ a) b (y ∷ p) q h k = (h.0, match_both all a b p q h.1 k)
+-- A macro of a tree is the one that is entered there: its code stands at the place, before a return.
+pub record Stands (all : List Instruction) (m : FoundMacro) (place : ℕ) : Type 0 where
+  pub code : At all (ending_at (beyond place (body_code m))) place (body_code m)
+  pub exit : slice_get all (beyond place (body_code m)) ≡ Some i.Return
+  pub numbered : Counts all m.at (beyond place (parameters_code m.parameters)) (statements_code [] m.body.row)
 
--- the loops and the places of a number
-abbrev pub Both : List Instruction → Option FoundLoop → Option LoopPlace → Type 0
-Both all None None = Unit {0}
-Both all (Some l) (Some p) = IsAt all l p
-Both all None (Some p) = ⊥
-Both all (Some l) None = ⊥
-
-pub match_at : (all : List Instruction) (ls : List FoundLoop) (ps : List LoopPlace) (n : ℕ) → Match all ls ps →
-    Both all (slice_get ls n) (slice_get ps n)
-match_at all [] [] n h = tt
-match_at all [] (p ∷ ps) n h = absurd h
-match_at all (l ∷ ls) [] n h = absurd h
-match_at all (l ∷ ls) (p ∷ ps) zero h = h.0
-match_at all (l ∷ ls) (p ∷ ps) (suc n) h = match_at all ls ps n h.1
-
--- ---------------------------------------------------------------- macros
-abbrev pub builds : Instruction → Bool
-builds (i.BuildMacro x place caller) = true
-builds x = false
-
-abbrev pub NoMacros : List Instruction → Type 0
-NoMacros [] = Unit {0}
-NoMacros (x ∷ is) = (builds x ≡ false) × NoMacros is
-
-both_macroless : (a b : List Instruction) → NoMacros a → NoMacros b → NoMacros (a ++ b)
-both_macroless [] b h k = k
-both_macroless (x ∷ a) b h k = (h.0, both_macroless a b h.1 k)
-
--- code without macros has no entries
-pub no_entries : (before : Option ℕ) (is : List Instruction) → NoMacros is → entries_from [] before is ≡ []
-no_entries before [] h = refl
-no_entries before (i.BuildMacro x place caller ∷ is) h = absurd (cc h.0)
-no_entries before (i.LoadConst v ∷ is) h = no_entries (Some (name_count v)) is h.1
-no_entries before (x ∷ is) h = no_entries None is h.1
+abbrev pub IsEntered : List Instruction → FoundMacro → ℕ × ℕ → Type 0
+IsEntered all m e = (e.1 ≡ length m.parameters) × Stands all m e.0
 
 -- ---------------------------------------------------------------- what code begins
--- Wherever this code stands after so many loops it begins these, and so many stand before what follows it. No name in it has a cache, and
--- no macro is built in it.
-pub record Begun (all : List Instruction) (l : Labels) (pc : ℕ) (c : Fragment) (ls : List FoundLoop) (to : ℕ) : Type 0 where
-  pub number : loops_before (beyond pc c) all ≡ to
-  pub found : Match all ls (loop_places pc (assemble l pc c))
-  pub uncached : AllUncached (assemble l pc c)
-  pub macroless : NoMacros (assemble l pc c)
-
-abbrev pub Begins : ℕ → Fragment → List FoundLoop → ℕ → Type 0
-Begins at c ls to = (all : List Instruction) (l : Labels) (pc : ℕ) → At all l pc c → loops_before pc all ≡ at → Begun all l pc c ls to
+-- Wherever this code stands after so many loops and macros, these are its loops and its macros, and so many stand before what follows it.
+pub record Begins (at : Numbers) (c : Fragment) (ls : List FoundLoop) (ms : List FoundMacro) (to : Numbers) : Type 0 where
+  pub plain_code : Plain c
+  pub number : counted at c ≡ to
+  pub found : (all : List Instruction) (l : Labels) (pc : ℕ) → At all l pc c → Counts all at pc c →
+      Paired (IsAt all) ls (loop_places pc (assemble l pc c))
+  pub declared : (all : List Instruction) (l : Labels) (pc : ℕ) → At all l pc c → Counts all at pc c →
+      Paired (IsEntered all) ms (entered pc c)
 
 -- one, and then the other
-pub both_begin : {at m to : ℕ} {c d : Fragment} {ls ks : List FoundLoop} → Begins at c ls m → Begins m d ks to →
-    Begins at (c ⨾ d) (ls ++ ks) to
-both_begin {c = c} {d = d} {ls = ls} {ks = ks} f g all l pc is e =
-    let a = f all l pc is.0 e in
-    let b = g all l (beyond pc c) is.1 a.number in
-    record {
-      number = b.number;
-      found = subst (λ ps. Match all (ls ++ ks) ps) (sym (places_then l pc c (assemble l (beyond pc c) d)))
-          (match_both all ls ks _ _ a.found b.found);
-      uncached = both_uncached (assemble l pc c) (assemble l (beyond pc c) d) a.uncached b.uncached;
-      macroless = both_macroless (assemble l pc c) (assemble l (beyond pc c) d) a.macroless b.macroless;
-    }
-
-pub bounded_begins : {at to : ℕ} {c : Fragment} {ls : List FoundLoop} → Begins at c ls to → Begins at (bounded c) ls to
-bounded_begins {c = c} f all l pc is e =
-    let a = f all (outward (beyond pc c) l) pc is e in
-    record { number = a.number; found = a.found; uncached = a.uncached; macroless = a.macroless }
-
-pub fork_begins : {at m to : ℕ} {c d : Fragment} {ls ks : List FoundLoop} → Begins at c ls m → Begins m d ks to →
-    Begins at (fork c d) (ls ++ ks) to
-fork_begins {c = c} {d = d} {ls = ls} {ks = ks} f g all l pc is e =
-    let second = beyond pc c + 1 in
-    let a = f all (outward second l) pc is.0 e in
-    let b = g all l second is.2 (after_one (beyond pc c) all (i.Jump (beyond second d)) is.1 ∙ a.number) in
-    record {
-      number = b.number;
-      found = subst (λ ps. Match all (ls ++ ks) ps)
-          (sym (places_then (outward second l) pc c (i.Jump (beyond second d) ∷ assemble l second d)))
-          (match_both all ls ks _ _ a.found b.found);
-      uncached = both_uncached (assemble (outward second l) pc c) (i.Jump (beyond second d) ∷ assemble l second d) a.uncached
-          (refl, b.uncached);
-      macroless = both_macroless (assemble (outward second l) pc c) (i.Jump (beyond second d) ∷ assemble l second d) a.macroless
-          (refl, b.macroless);
-    }
-
-pub aside_begins : {at to : ℕ} {c : Fragment} {ls : List FoundLoop} → Begins at c ls to → Begins at (aside c) ls to
-aside_begins {c = c} f all l pc is e =
-    let end = beyond (pc + 1) c in
-    let a = f all (ending_at end) (pc + 1) is.1 (after_one pc all (i.Jump end) is.0 ∙ e) in
-    record { number = a.number; found = a.found; uncached = (refl, a.uncached); macroless = (refl, a.macroless) }
-
--- A loop of code is this one of the tree.
-abbrev pub IsLoop : FoundLoop → ℕ → LoopFlags → Fragment → Fragment → Type 0
-IsLoop f at g c d = (all : List Instruction) (l : Labels) (pc : ℕ) → At all l pc (looped g c d) → loops_before (pc + 1 + 1) all ≡ at + 1 →
-    IsAt all f (record { place = pc; flags = g })
-
-pub loop_begins : {at m to : ℕ} {f : FoundLoop} {g : LoopFlags} {c d : Fragment} {ls ks : List FoundLoop} → IsLoop f at g c d →
-    Begins (at + 1) c ls m → Begins m d ks to → Begins at (looped g c d) (f ∷ (ls ++ ks)) to
-loop_begins {f = f} {g = g} {c = c} {d = d} {ls = ls} {ks = ks} one r s all l pc is e =
-    let end = beyond (pc + 1 + 1) c + 1 in
-    let k = inward (pc + 1) end l in
-    let first = after_one (pc + 1) all (i.Iterate end) is.1 ∙ after_one pc all (i.PushLoop g) is.0 ∙ ap (λ n. n + 1) e in
-    let a = r all k (pc + 1 + 1) is.2 first in
-    let b = s all l end is.4 (after_one (beyond (pc + 1 + 1) c) all (i.Jump (pc + 1)) is.3 ∙ a.number) in
-    record {
-      number = b.number;
-      found = (
-        one all l pc is first,
-        subst (λ ps. Match all (ls ++ ks) ps) (sym (places_then k (pc + 1 + 1) c (i.Jump (pc + 1) ∷ assemble l end d)))
-            (match_both all ls ks _ _ a.found b.found),
-      );
-      uncached = (
-        refl,
-        (refl, both_uncached (assemble k (pc + 1 + 1) c) (i.Jump (pc + 1) ∷ assemble l end d) a.uncached (refl, b.uncached)),
-      );
-      macroless = (
-        refl,
-        (refl, both_macroless (assemble k (pc + 1 + 1) c) (i.Jump (pc + 1) ∷ assemble l end d) a.macroless (refl, b.macroless)),
-      );
-    }
-
--- ---------------------------------------------------------------- code that begins none
--- whether an instruction begins no loop and builds no macro, and no name of its has a cache
-abbrev pub is_simple : Instruction → Bool
-is_simple (i.PushLoop _) = false
-is_simple (i.BuildMacro _ _ _) = false
-is_simple x = is_uncached x
-
-simple_begins : (x : Instruction) → is_simple x ≡ true → begins x ≡ None
-simple_begins (i.PushLoop _) e = absurd (cc e)
-simple_begins _ e = refl
-
-simple_uncached : (x : Instruction) → is_simple x ≡ true → is_uncached x ≡ true
-simple_uncached (i.PushLoop _) e = refl
-simple_uncached (i.ApplyFilter x n cache) e = e
-simple_uncached (i.PerformTest x n cache) e = e
-simple_uncached (i.BuildMacro x place caller) e = refl
-simple_uncached _ e = refl
-
-simple_macroless : (x : Instruction) → is_simple x ≡ true → builds x ≡ false
-simple_macroless (i.BuildMacro x place caller) e = absurd (cc e)
-simple_macroless _ e = refl
-
-abbrev pub NoneBegins : List Instruction → Type 0
-NoneBegins [] = Unit {0}
-NoneBegins (x ∷ is) = (is_simple x ≡ true) × NoneBegins is
-
-abbrev pub Loopless : Fragment → Type 0
-Loopless (straight is) = NoneBegins is
-Loopless (c ⨾ d) = Loopless c × Loopless d
-Loopless (jump_out j) = Unit {0}
-Loopless (bounded c) = Loopless c
-Loopless (fork c d) = Loopless c × Loopless d
-Loopless (looped g c d) = ⊥
-Loopless break_loop = Unit {0}
-Loopless next_round = Unit {0}
-Loopless (aside c) = Loopless c
-
-one_begins : (all : List Instruction) (pc at : ℕ) (x : Instruction) → begins x ≡ None → slice_get all pc ≡ Some x →
-    loops_before pc all ≡ at → loops_before (pc + 1) all ≡ at
-one_begins all pc at x none is e = after_one pc all x is ∙ ap (λ o. one_more_loop o (loops_before pc all)) none ∙ e
-
-none_number : (all : List Instruction) (pc at : ℕ) (is : List Instruction) → NoneBegins is → HasAt all pc is → loops_before pc all ≡ at →
-    loops_before (beyond_all pc is) all ≡ at
-none_number all pc at [] n h e = e
-none_number all pc at (x ∷ is) n h e = none_number all (pc + 1) at is n.1 h.1 (one_begins all pc at x (simple_begins x n.0) h.0 e)
-
-none_places : (pc : ℕ) (is : List Instruction) → NoneBegins is → loop_places pc is ≡ []
-none_places pc [] n = refl
-none_places pc (x ∷ is) n = ap (λ o. with_place o pc (loop_places (pc + 1) is)) (simple_begins x n.0) ∙ none_places (pc + 1) is n.1
-
-none_cached : (is : List Instruction) → NoneBegins is → AllUncached is
-none_cached [] n = tt
-none_cached (x ∷ is) n = (simple_uncached x n.0, none_cached is n.1)
-
-none_built : (is : List Instruction) → NoneBegins is → NoMacros is
-none_built [] n = tt
-none_built (x ∷ is) n = (simple_macroless x n.0, none_built is n.1)
-
-jump_none : (j : JumpKind) (to : ℕ) → is_simple (jump j to) ≡ true
-jump_none IfFalse to = refl
-jump_none IfFalseOrPop to = refl
-jump_none IfTrueOrPop to = refl
-
-straight_begins : (at : ℕ) (is : List Instruction) → NoneBegins is → Begins at (straight is) [] at
-straight_begins at is n all l pc h e = record {
-  number = none_number all pc at is n h e;
-  found = subst (λ ps. Match all [] ps) (sym (none_places pc is n)) tt;
-  uncached = none_cached is n;
-  macroless = none_built is n;
+pub both_begin : {at m to : Numbers} {c d : Fragment} {ls ks : List FoundLoop} {ms ns : List FoundMacro} → Begins at c ls ms m →
+    Begins m d ks ns to → Begins at (c ⨾ d) (ls ++ ks) (ms ++ ns) to
+both_begin {c = c} {d = d} {ls = ls} {ks = ks} {ms = ms} {ns = ns} f g = record {
+  plain_code = (f.plain_code, g.plain_code);
+  number = ap (λ x. counted x d) f.number ∙ g.number;
+  found = λ all l pc is n.
+      subst (λ ps. Paired (IsAt all) (ls ++ ks) ps) (sym (places_then l pc c (assemble l (beyond pc c) d)))
+      (paired_both (IsAt all) ls ks _ _ (f.found all l pc is.0 n.0)
+      (g.found all l (beyond pc c) is.1 (subst (λ x. Counts all x (beyond pc c) d) f.number n.1)));
+  declared = λ all l pc is n.
+      paired_both (IsEntered all) ms ns _ _ (f.declared all l pc is.0 n.0)
+      (g.declared all l (beyond pc c) is.1 (subst (λ x. Counts all x (beyond pc c) d) f.number n.1));
 }
 
-jump_begins : (at : ℕ) (j : JumpKind) → Begins at (jump_out j) [] at
-jump_begins at j all l pc h e =
-    record {
-      number = one_begins all pc at (jump j l.out) (simple_begins (jump j l.out) (jump_none j l.out)) h e;
-      found = subst (λ ps. Match all [] ps) (sym (none_places pc (jump j l.out ∷ []) (jump_none j l.out, tt))) tt;
-      uncached = none_cached (jump j l.out ∷ []) (jump_none j l.out, tt);
-      macroless = none_built (jump j l.out ∷ []) (jump_none j l.out, tt);
-    }
+bounded_begins : {at to : Numbers} {c : Fragment} {ls : List FoundLoop} {ms : List FoundMacro} → Begins at c ls ms to →
+    Begins at (bounded c) ls ms to
+bounded_begins {c = c} f = record {
+  plain_code = f.plain_code;
+  number = f.number;
+  found = λ all l pc is n. f.found all (outward (beyond pc c) l) pc is n;
+  declared = λ all l pc is n. f.declared all (outward (beyond pc c) l) pc is n;
+}
 
-pub none_begin : (at : ℕ) (c : Fragment) → Loopless c → Begins at c [] at
-none_begin at (straight is) n = straight_begins at is n
-none_begin at (c ⨾ d) n = both_begin (none_begin at c n.0) (none_begin at d n.1)
-none_begin at (jump_out j) n = jump_begins at j
-none_begin at (bounded c) n = bounded_begins (none_begin at c n)
-none_begin at (fork c d) n = fork_begins (none_begin at c n.0) (none_begin at d n.1)
-none_begin at (looped g c d) n = absurd n
-none_begin at break_loop n = λ all l pc h e.
-    record { number = one_begins all pc at (i.Jump l.after) refl h e; found = tt; uncached = (refl, tt); macroless = (refl, tt) }
-none_begin at next_round n = λ all l pc h e.
-    record { number = one_begins all pc at (i.Jump l.again) refl h e; found = tt; uncached = (refl, tt); macroless = (refl, tt) }
-none_begin at (aside c) n = aside_begins (none_begin at c n)
+fork_begins : {at m to : Numbers} {c d : Fragment} {ls ks : List FoundLoop} {ms ns : List FoundMacro} → Begins at c ls ms m →
+    Begins m d ks ns to → Begins at (fork c d) (ls ++ ks) (ms ++ ns) to
+fork_begins {c = c} {d = d} {ls = ls} {ks = ks} {ms = ms} {ns = ns} f g = record {
+  plain_code = (f.plain_code, g.plain_code);
+  number = ap (λ x. counted x d) f.number ∙ g.number;
+  found = λ all l pc is n.
+      let second = beyond pc c + 1 in
+      subst (λ ps. Paired (IsAt all) (ls ++ ks) ps)
+      (sym (places_then (outward second l) pc c (i.Jump (beyond second d) ∷ assemble l second d)))
+      (paired_both (IsAt all) ls ks _ _ (f.found all (outward second l) pc is.0 n.0)
+      (g.found all l second is.2 (subst (λ x. Counts all x second d) f.number n.1)));
+  declared = λ all l pc is n.
+      let second = beyond pc c + 1 in
+      paired_both (IsEntered all) ms ns _ _ (f.declared all (outward second l) pc is.0 n.0)
+      (g.declared all l second is.2 (subst (λ x. Counts all x second d) f.number n.1));
+}
+
+-- A loop of code is this one of the tree.
+abbrev pub IsLoop : FoundLoop → Numbers → LoopFlags → Fragment → Fragment → Type 0
+IsLoop f at g c d = (all : List Instruction) (l : Labels) (pc : ℕ) → At all l pc (looped g c d) → Counts all (one_loop_more at) (pc + 1 + 1) c →
+    IsAt all f (record { place = pc; flags = g })
+
+pub loop_begins : {at m to : Numbers} {f : FoundLoop} {g : LoopFlags} {c d : Fragment} {ls ks : List FoundLoop} {ms ns : List FoundMacro} →
+    IsLoop f at g c d → Begins (one_loop_more at) c ls ms m → Begins m d ks ns to →
+    Begins at (looped g c d) (f ∷ (ls ++ ks)) (ms ++ ns) to
+loop_begins {f = f} {g = g} {c = c} {d = d} {ls = ls} {ks = ks} {ms = ms} {ns = ns} one r s = record {
+  plain_code = (r.plain_code, s.plain_code);
+  number = ap (λ x. counted x d) r.number ∙ s.number;
+  found = λ all l pc is n.
+      let end = beyond (pc + 1 + 1) c + 1 in
+      let k = inward (pc + 1) end l in (
+        one all l pc is n.1,
+        subst (λ ps. Paired (IsAt all) (ls ++ ks) ps) (sym (places_then k (pc + 1 + 1) c (i.Jump (pc + 1) ∷ assemble l end d)))
+            (paired_both (IsAt all) ls ks _ _ (r.found all k (pc + 1 + 1) is.2 n.1)
+            (s.found all l end is.4 (subst (λ x. Counts all x end d) r.number n.2))),
+      );
+  declared = λ all l pc is n.
+      let end = beyond (pc + 1 + 1) c + 1 in
+      let k = inward (pc + 1) end l in
+      paired_both (IsEntered all) ms ns _ _ (r.declared all k (pc + 1 + 1) is.2 n.1)
+      (s.declared all l end is.4 (subst (λ x. Counts all x end d) r.number n.2));
+}
+
+-- A macro of code is this one of the tree.
+abbrev pub IsMacro : FoundMacro → Numbers → MacroHead → Fragment → Type 0
+IsMacro f at m c = (all : List Instruction) (pc : ℕ) → At all (ending_at (beyond (pc + 1) c)) (pc + 1) c →
+    slice_get all (beyond (pc + 1) c) ≡ Some i.Return → Counts all (within_macro at) (pc + 1) c →
+    IsEntered all f (pc + 1, length m.parameters)
+
+pub macro_begins : {at to : Numbers} {f : FoundMacro} {m : MacroHead} {c : Fragment} {ls : List FoundLoop} {ms : List FoundMacro} →
+    IsMacro f at m c → Begins (within_macro at) c ls ms to → Begins at (declares m c) ls (f ∷ ms) to
+macro_begins {m = m} {c = c} {ls = ls} one r = record {
+  plain_code = r.plain_code;
+  number = r.number;
+  found = λ all l pc is n.
+      let end = beyond (pc + 1) c in
+      let none = none_places end (behind_body m (pc + 1)) (behind_loops m (pc + 1)) in
+      subst (λ ps. Paired (IsAt all) ls ps)
+      (sym (places_then (ending_at end) (pc + 1) c (behind_body m (pc + 1))
+      ∙ ap (λ ps. loop_places (pc + 1) (assemble (ending_at end) (pc + 1) c) ++ ps) none ∙ append-nil _))
+      (r.found all (ending_at end) (pc + 1) is.1 n.1);
+  declared = λ all l pc is n.
+      let end = beyond (pc + 1) c in
+      (one all pc is.1 is.2.0 n.1, r.declared all (ending_at end) (pc + 1) is.1 n.1);
+}
+
+-- ---------------------------------------------------------------- code that begins none
+none_found : (l : Labels) (pc : ℕ) (c : Fragment) → Loopless c → loop_places pc (assemble l pc c) ≡ []
+none_found l pc (straight is) n = none_places pc is (none_loops is n)
+none_found l pc (c ⨾ d) n =
+    places_then l pc c (assemble l (beyond pc c) d) ∙ ap (λ ps. ps ++ loop_places (beyond pc c) (assemble l (beyond pc c) d))
+    (none_found l pc c n.0) ∙ none_found l (beyond pc c) d n.1
+none_found l pc (jump_out j) n = none_places pc (jump j l.out ∷ []) (none_loops (jump j l.out ∷ []) (jump_none j l.out, tt))
+none_found l pc (bounded c) n = none_found (outward (beyond pc c) l) pc c n
+none_found l pc (fork c d) n =
+    let second = beyond pc c + 1 in
+    places_then (outward second l) pc c (i.Jump (beyond second d) ∷ assemble l second d)
+    ∙ ap (λ ps. ps ++ loop_places second (assemble l second d)) (none_found (outward second l) pc c n.0) ∙ none_found l second d n.1
+none_found l pc (looped g c d) n = absurd n
+none_found l pc break_loop n = refl
+none_found l pc next_round n = refl
+none_found l pc (declares m c) n = absurd n
+
+pub none_begin : (at : Numbers) (c : Fragment) → Loopless c → Begins at c [] [] at
+none_begin at c n = record {
+  plain_code = plain c n;
+  number = counted_none at c n;
+  found = λ all l pc is k. subst (λ ps. Paired (IsAt all) [] ps) (sym (none_found l pc c n)) tt;
+  declared = λ all l pc is k. subst (λ es. Paired (IsEntered all) [] es) (sym (entered_none pc c n)) tt;
+}
 
 -- a jump over code
-pub over_begins : {at to : ℕ} {c : Fragment} {ls : List FoundLoop} (j : JumpKind) → Begins at c ls to → Begins at (over j c) ls to
-over_begins {at = at} j f = bounded_begins (both_begin (jump_begins at j) f)
+pub over_begins : {at to : Numbers} {c : Fragment} {ls : List FoundLoop} {ms : List FoundMacro} (j : JumpKind) → Begins at c ls ms to →
+    Begins at (over j c) ls ms to
+over_begins {at = at} j f = bounded_begins (both_begin (none_begin at (jump_out j) tt) f)
 
 -- either of two
-pub either_begins : {at m to : ℕ} {c d : Fragment} {ls ks : List FoundLoop} → Begins at c ls m → Begins m d ks to →
-    Begins at (either c d) (ls ++ ks) to
-either_begins {at = at} f g = fork_begins (both_begin (jump_begins at IfFalse) f) g
+pub either_begins : {at m to : Numbers} {c d : Fragment} {ls ks : List FoundLoop} {ms ns : List FoundMacro} → Begins at c ls ms m →
+    Begins m d ks ns to → Begins at (either c d) (ls ++ ks) (ms ++ ns) to
+either_begins {at = at} f g = fork_begins (both_begin (none_begin at (jump_out IfFalse) tt) f) g
 
 -- after and before code that begins none
-pub after_none : {at to : ℕ} {d : Fragment} {ls : List FoundLoop} (c : Fragment) → Loopless c → Begins at d ls to → Begins at (c ⨾ d) ls to
+pub after_none : {at to : Numbers} {d : Fragment} {ls : List FoundLoop} {ms : List FoundMacro} (c : Fragment) → Loopless c →
+    Begins at d ls ms to → Begins at (c ⨾ d) ls ms to
 after_none {at = at} c n g = both_begin (none_begin at c n) g
 
-pub before_none : {at to : ℕ} {c : Fragment} {ls : List FoundLoop} (d : Fragment) → Loopless d → Begins at c ls to → Begins at (c ⨾ d) ls to
-before_none {at = at} {to = to} {c = c} {ls = ls} d n f = subst (λ ks. Begins at (c ⨾ d) ks to) (append-nil ls)
-    (both_begin f (none_begin to d n))
+pub before_none : {at to : Numbers} {c : Fragment} {ls : List FoundLoop} {ms : List FoundMacro} (d : Fragment) → Loopless d →
+    Begins at c ls ms to → Begins at (c ⨾ d) ls ms to
+before_none {at = at} {to = to} {c = c} {ls = ls} {ms = ms} d n f =
+    subst (λ ks. Begins at (c ⨾ d) ks ms to) (append-nil ls)
+    (subst (λ ns. Begins at (c ⨾ d) (ls ++ []) ns to) (append-nil ms) (both_begin f (none_begin to d n)))
+
+-- code whose one part begins these
+pub one_part_begins : {at to : Numbers} {x c : Fragment} {ls : List FoundLoop} {ms : List FoundMacro} → Has x c → Begins at x ls ms to →
+    Begins at c ls ms to
+one_part_begins it f = f
+one_part_begins (front {d = d} one none) f = before_none d none (one_part_begins one f)
+one_part_begins (back {c = c} none one) f = after_none c none (one_part_begins one f)

@@ -33,7 +33,7 @@ use Rattle.tm_meaning.specs.World.{World, HostValue, loop_scope, next_turn, clea
 use Rattle.tm_meaning.specs.World.{looked_up}
 use Rattle.tm_meaning.specs.World.{lookup, records_of, with_member, set_member, unpacked_items}
 use Rattle.tm_meaning.specs.Calls.{Callee, NestedCall, undone, wrapped, Asked, has, refused, runs, recurs, applied}
-use Rattle.tm_meaning.specs.Meaning.{text_behind, Run, Outcome, Ending, done, leave, next, fault, Under, audible, value_of, value_behind}
+use Rattle.tm_meaning.specs.Meaning.{RowValues, text_behind, Run, Outcome, Ending, done, leave, next, fault, Under, audible, value_of, value_behind}
 use Rattle.tm_meaning.specs.Meaning.{in_place_of, behind, eval, eval_all, eval_pairs}
 use Rattle.tm_meaning.specs.Operators.{truth, applied_unary, operated, applied_binary}
 use Rattle.tm_meaning.specs.Meaning.{eval_argument, eval_arguments, eval_keywords, eval_lists, one_counted, selected, loop_items}
@@ -252,8 +252,8 @@ module _ (u : Under) (nest_ends : (k : Callee) (heard : Bool) (out : List ℕ) (
         gives_bind u.host w (eval_pairs u run ps w) _ (pairs_give run ps w)
         (λ xs world1. ticked_gives u.host world1 _ (λ world2. kept_same world2))
     eval_gives run (Call' f _ given _ named) w =
-        let by_name = named_by u.host named (λ world1. eval_keywords u run [] named world1) in
-        let names = named_by_gives u.host named _ (λ world1. keywords_give run [] named world1) in
+        let by_name = named_by u.host named (λ world1. eval_keywords u run mapped [] named world1) in
+        let names = named_by_gives u.host named _ (λ world1. keywords_give run mapped (mapped_gives u.host) [] named world1) in
         gives_bind u.host w (passed_by (has_spread given) u.host [] (λ world1. eval_arguments u run given world1) by_name
         (λ by_name1 world1. eval_lists u run [] given by_name1 world1) w) _
         (passed_by_gives (has_spread given) u.host [] _ by_name _ (λ world1. arguments_give run given world1) names
@@ -308,24 +308,24 @@ module _ (u : Under) (nest_ends : (k : Callee) (heard : Bool) (out : List ℕ) (
         gives_bind u.host world2 (eval_lists u run [] more by_name world2) _ (lists_give run [] more by_name h world2)
         (λ vs world3. kept_same world3)))
 
-    pub keywords_give : {n : _} → (run : Run) (row : List (Val × Val)) (ks : Row_of-Keyword n) (w : World) →
-        Gives u.host w (eval_keywords u run row ks w)
-    keywords_give run row no_keyword w = mapped_gives u.host row w
-    keywords_give run row (keyword_and (keyword x a) more) w =
+    pub keywords_give : {n : _} → (run : Run) (end : RowValues) → ((row : List (Val × Val)) (w : World) → Gives u.host w (end row w)) →
+        (row : List (Val × Val)) (ks : Row_of-Keyword n) (w : World) → Gives u.host w (eval_keywords u run end row ks w)
+    keywords_give run end last row no_keyword w = last row w
+    keywords_give run end last row (keyword_and (keyword x a) more) w =
         ticked_gives u.host w _ (λ world1. gives_bind u.host world1 (eval u run a world1) _ (eval_gives run a world1)
-        (λ v world2. keywords_give run (row ++ (text x false, v) ∷ []) more world2))
-    keywords_give run row (keyword_and (spread_keywords a) more) w =
+        (λ v world2. keywords_give run end last (row ++ (text x false, v) ∷ []) more world2))
+    keywords_give run end last row (keyword_and (spread_keywords a) more) w =
         gives_bind u.host w (mapped row w) _ (mapped_gives u.host row w) (λ ms world1.
         gives_bind u.host world1 (eval u run a world1) _ (eval_gives run a world1) (λ v world2.
-        gives_bind u.host world2 (eval_keywords u run [] more world2) _ (keywords_give run [] more world2)
+        gives_bind u.host world2 (eval_keywords u run end [] more world2) _ (keywords_give run end last [] more world2)
         (λ ns world3. kept_same world3)))
 
     pub step_gives : (run : Run) (s : Step) (v : Val) (w : World) → Gives u.host w (eval_step u run s v w)
     step_gives run (Attribute x) v w = ticked_gives u.host w _
         (λ world1. operation_gives u.host _ world1 (attribute_raises u.host.undefined (records_of world1) v x))
     step_gives run (Apply' k x _ given _ named) v w =
-        let by_name = named_by u.host named (λ world1. eval_keywords u run [] named world1) in
-        let names = named_by_gives u.host named _ (λ world1. keywords_give run [] named world1) in
+        let by_name = named_by u.host named (λ world1. eval_keywords u run mapped [] named world1) in
+        let names = named_by_gives u.host named _ (λ world1. keywords_give run mapped (mapped_gives u.host) [] named world1) in
         gives_bind u.host w (passed_by (has_spread given) u.host (v ∷ []) (λ world1. eval_arguments u run given world1) by_name
         (λ by_name1 world1. eval_lists u run (v ∷ []) given by_name1 world1) w) _
         (passed_by_gives (has_spread given) u.host (v ∷ []) _ by_name _ (λ world1. arguments_give run given world1) names
@@ -335,8 +335,8 @@ module _ (u : Under) (nest_ends : (k : Callee) (heard : Bool) (out : List ℕ) (
         gives_bind u.host world2 (value_of u run q) _ (value_gives world2 run q (applied_asks u.host k x vs world2))
         (λ y world3. turned_gives u.host k y world3)))
     step_gives run (Called _ given _ named) v w =
-        let by_name = named_by u.host named (λ world1. eval_keywords u run [] named world1) in
-        let names = named_by_gives u.host named _ (λ world1. keywords_give run [] named world1) in
+        let by_name = named_by u.host named (λ world1. eval_keywords u run mapped [] named world1) in
+        let names = named_by_gives u.host named _ (λ world1. keywords_give run mapped (mapped_gives u.host) [] named world1) in
         gives_bind u.host w (passed_by (has_spread given) u.host (v ∷ []) (λ world1. eval_arguments u run given world1) by_name
         (λ by_name1 world1. eval_lists u run (v ∷ []) given by_name1 world1) w) _
         (passed_by_gives (has_spread given) u.host (v ∷ []) _ by_name _ (λ world1. arguments_give run given world1) names

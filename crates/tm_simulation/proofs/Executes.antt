@@ -5,16 +5,20 @@ use Rattle.tm_values.specs.declared.error.ErrorKind.TheVariants.{InvalidOperatio
 use Rattle.tm_syntax.specs.declared.tree.CaptureUse.{CaptureUse}
 use Rattle.tm_syntax.specs.declared.tree.CaptureUse.TheVariants as uses
 use Rattle.tm_syntax.specs.declared.tree.Stmt.{Stmt, EmitRaw, EmitExpr, EmitLoop, If', For', Break, Continue, Block', Set, CaptureBlock'}
-use Rattle.tm_syntax.specs.declared.tree.Stmt.{With', Do, AutoEscape', Row_of-Stmt, end_of-Stmt as no_statement, more_of-Stmt as statement}
+use Rattle.tm_syntax.specs.declared.tree.Stmt.{With', Do, AutoEscape', Macro', CallBlock', Row_of-Stmt, end_of-Stmt as no_statement}
+use Rattle.tm_syntax.specs.declared.tree.Stmt.{more_of-Stmt as statement}
+use Rattle.tm_syntax.specs.declared.tree.AssignmentTarget.{Name as To}
+use Rattle.tm_syntax.specs.Code.{macro_head}
 use Rattle.tm_syntax.specs.declared.tree.Stmt.{Held-Stmt-If-2 as Otherwise, None' as no_else, Some' as otherwise}
-use Rattle.tm_syntax.specs.Loops.{passes, within_loop, past, pasts, FoundLoop}
+use Rattle.tm_syntax.specs.Loops.{Numbers, passes, within_loop, past, pasts, FoundLoop, FoundMacro}
 use Rattle.tm_meaning.specs.World.{World, answered, tick, pop, depth, emitted, escape_for, with_escape, captured_text}
 use Rattle.tm_meaning.specs.World.{plain_scope}
 use Rattle.tm_meaning.specs.Calls.{Callee}
 use Rattle.tm_meaning.specs.Meaning.{again_in, turn_of, Run, Outcome, Under, use_it, say, block_tag, eval, loop_items, assign}
 use Rattle.tm_meaning.specs.Operators.{truth}
 use Rattle.tm_meaning.specs.Meaning.{set_to, set_each, capturing, loop_over, has_none, exec_behind_loop, emit, filtered, use_text}
-use Rattle.tm_meaning.specs.Meaning.{behind_first, exec, exec_all, exec_else}
+use Rattle.tm_meaning.specs.Meaning.{behind_first, exec, exec_all, exec_else, declared, take_parameters, macro_body, call, with_caller}
+use Rattle.std.specs.Prelude.{codes}
 use Rattle.tm_simulation.proofs.Advances.{kept_same, within, advances_within, kept_popped, advances_escaped, kept_unescaped}
 use Rattle.tm_simulation.proofs.Gives.{OutcomeKeeps, RunEnds, tick_gives, ends_here, ends_refused, ends_then, ends_use}
 use Rattle.tm_simulation.proofs.Gives.{ends_do, ends_leave, ends_next, choose_ends, ends_kept, ends_within, closing_ends, captured_ends}
@@ -22,6 +26,7 @@ use Rattle.tm_simulation.proofs.Gives.{loop_ends}
 use Rattle.tm_simulation.proofs.Asks.{emitted_gives, escape_gives, block_asks, innermost_asks}
 use Rattle.tm_simulation.proofs.Evaluates.{place_ends, loop_items_give, assign_gives, filtered_gives, set_each_gives, set_gives}
 use Rattle.tm_simulation.proofs.Evaluates.{eval_gives, truth_gives}
+use Rattle.tm_simulation.proofs.Declares.{declared_gives, caller_gives, call_gives, take_parameters_give}
 
 -- ---------------------------------------------------------------- statements
 module _ (u : Under) (nest_ends : (k : Callee) (heard : Bool) (out : List ℕ) (w : World) → RunEnds u.host w (u.nests k heard out w))
@@ -52,7 +57,7 @@ module _ (u : Under) (nest_ends : (k : Callee) (heard : Bool) (out : List ℕ) (
       (λ _ world1. ends_here u.host world1 world1 run out (kept_same world1))
 
   mutual
-    pub exec_ends : (at : ℕ) (s : Stmt) (run : Run) (out : List ℕ) (w : World) → OutcomeKeeps u.host w (exec u at s run out w)
+    pub exec_ends : (at : Numbers) (s : Stmt) (run : Run) (out : List ℕ) (w : World) → OutcomeKeeps u.host w (exec u at s run out w)
     exec_ends at (EmitRaw t) run out w = ends_use u.host w (tick w) run out _ (tick_gives u.host w)
         (λ _ world1. ends_here u.host world1 world1 run (say run t out) (kept_same world1))
     exec_ends at (EmitExpr e) run out w = ends_use u.host w (eval u run e w) run out _ (eval_gives u nest_ends again_ends run e w)
@@ -79,11 +84,12 @@ module _ (u : Under) (nest_ends : (k : Callee) (heard : Bool) (out : List ℕ) (
         closing_ends u.host w (within s w) pop (advances_within s w) (kept_popped s w) (exec_all u at body run out world2)
         (ends_then u.host (within s w) world2 (exec_all u at body run out world2) k (execs_end at body run out world2))))
     exec_ends at (For' t e c recursive _ body other) run out w =
-        ends_use u.host w (loop_items u at run t e c w) run out _ (loop_items_give u nest_ends again_ends at run t e c w) (λ vs world1.
-        ends_do u.host world1 run (loop_over u.host (at + passes c) recursive
+        ends_use u.host w (loop_items u at.loops run t e c w) run out _ (loop_items_give u nest_ends again_ends at.loops run t e c w)
+        (λ vs world1.
+        ends_do u.host world1 run (loop_over u.host (at.loops + passes c) recursive
         (λ item run1 out1 world2. use_it (assign u run1 t item world2) run1 out1
         (λ _ world3. exec_all u (within_loop c at) body run1 out1 world3)) vs run out world1) _
-        (loop_ends u.host (at + passes c) recursive world1 _
+        (loop_ends u.host (at.loops + passes c) recursive world1 _
         (λ item run1 out1 world2. ends_use u.host world2 (assign u run1 t item world2) run1 out1 _
         (assign_gives u nest_ends again_ends run1 t item world2) (λ _ world3. execs_end (within_loop c at) body run1 out1 world3)) vs run
         out)
@@ -105,24 +111,42 @@ module _ (u : Under) (nest_ends : (k : Callee) (heard : Bool) (out : List ℕ) (
         (exec_all u at body run out (with_escape x world2)) (execs_end at body run out (with_escape x world2))))
     exec_ends at (Do e) run out w = ends_use u.host w (eval u run e w) run out _ (eval_gives u nest_ends again_ends run e w)
         (λ _ world1. ends_here u.host world1 world1 run out (kept_same world1))
+    exec_ends at (Macro' x ps _ body) run out w =
+        ends_use u.host w (declared u.host at.macros (macro_head x ps body) w) run out _
+        (declared_gives u.host at.macros (macro_head x ps body) w) (λ v world1.
+        ends_use u.host world1 (assign u run (To x) v world1) run out _ (assign_gives u nest_ends again_ends run (To x) v world1)
+        (λ _ world2. ends_here u.host world2 world2 run out (kept_same world2)))
+    exec_ends at (CallBlock' e ps _ body) run out w =
+        let m = macro_head (codes "caller") ps body in
+        let last = caller_gives u.host at.macros m in
+        ends_use u.host w (call u run (with_caller u.host at.macros m) e w) run out _ (call_gives u nest_ends again_ends _ last run e w)
+        (λ v world1. emit_ends run out v world1)
 
-    pub execs_end : {n : _} → (at : ℕ) (ss : Row_of-Stmt n) (run : Run) (out : List ℕ) (w : World) →
+    pub execs_end : {n : _} → (at : Numbers) (ss : Row_of-Stmt n) (run : Run) (out : List ℕ) (w : World) →
         OutcomeKeeps u.host w (exec_all u at ss run out w)
     execs_end at no_statement run out w = ends_here u.host w w run out (kept_same w)
     execs_end at (statement s ss) run out w = ends_do u.host w run (exec u at s run out w) _ (exec_ends at s run out w)
         (λ run1 out1 world1. execs_end (past at s) ss run1 out1 world1)
 
-    else_ends : (at : ℕ) (other : Otherwise) (run : Run) (out : List ℕ) (w : World) → OutcomeKeeps u.host w (exec_else u at other run out w)
+    else_ends : (at : Numbers) (other : Otherwise) (run : Run) (out : List ℕ) (w : World) → OutcomeKeeps u.host w (exec_else u at other run out w)
     else_ends at no_else run out w = ends_here u.host w w run out (kept_same w)
     else_ends at (otherwise _ body) run out w = execs_end at body run out w
 
-    pub behind_loop_ends : (at : ℕ) (other : Otherwise) (none_taken : Bool) (run : Run) (out : List ℕ) (w : World) →
+    pub behind_loop_ends : (at : Numbers) (other : Otherwise) (none_taken : Bool) (run : Run) (out : List ℕ) (w : World) →
         OutcomeKeeps u.host w (exec_behind_loop u at other none_taken run out w)
     behind_loop_ends at no_else none_taken run out w = ends_here u.host w w run out (kept_same w)
     behind_loop_ends at (otherwise _ body) none_taken run out w =
         ends_use u.host w (tick w) run out _ (tick_gives u.host w)
         (λ _ world1. choose_ends u.host world1 none_taken _ _ (execs_end at body run out world1)
         (ends_here u.host world1 world1 run out (kept_same world1)))
+
+  -- a macro's body
+  pub body_ends : (m : FoundMacro) (given : List Val) (run : Run) (out : List ℕ) (w : World) →
+      OutcomeKeeps u.host w (macro_body u m given run out w)
+  body_ends m given run out w =
+      ends_use u.host w (take_parameters u run m.parameters given w) run out _
+      (take_parameters_give u nest_ends again_ends run m.parameters given w)
+      (λ _ world1. execs_end m.at m.body.row run out world1)
 
   -- a loop that is called
   pub called_end : (l : Option FoundLoop) (n : ℕ) (items : List Val) (run : Run) (out : List ℕ) (w : World) →

@@ -1,5 +1,5 @@
 -- The code of expressions pushes what they mean.
-use Rattle.std.proofs.Common.{◌≡◌, ℕ, ◌+◌, List, [], ◌∷◌, ◌++◌, length, Some}
+use Rattle.std.proofs.Common.{◌≡◌, Bool, ℕ, ◌+◌, List, [], ◌∷◌, ◌++◌, length, Some}
 use Rattle.std.proofs.Common.{false, refl, sym, subst, arith, length-append}
 use Rattle.std.specs.Prelude.{slice_get}
 use Rattle.tm_values.specs.Val.{Val, text}
@@ -16,7 +16,7 @@ use Rattle.tm_syntax.specs.declared.tree.Step.{end_of-Comparison as no_compariso
 use Rattle.tm_syntax.specs.declared.instruction.Instruction.TheVariants as i
 use Rattle.tm_syntax.specs.Forms.{unary, chained, conditional, with_condition, with_comparison, with_pair, plain, spread, keyword}
 use Rattle.tm_syntax.specs.Forms.{spread_keywords, item, slice, binary, compare, and_then, or_else}
-use Rattle.tm_syntax.specs.Code.{together, count, count_maps, count_exprs, count_pairs, passed_count}
+use Rattle.tm_syntax.specs.Code.{row_end, together, count, count_maps, count_exprs, count_pairs, passed_count}
 use Rattle.tm_syntax.specs.Code.{merging}
 use Rattle.tm_syntax.specs.Code.{has_spread, lists_code}
 use Rattle.tm_syntax.specs.Fragments.{Fragment, ◌⨾◌, Labels, outward, beyond}
@@ -39,7 +39,7 @@ use Rattle.tm_meaning.specs.Operators.{named_by}
 use Rattle.tm_meaning.specs.Meaning.{eval_conditions, eval_step, eval_links, eval_steps}
 use Rattle.tm_meaning.specs.Machine.{onto}
 use Rattle.tm_meaning.specs.Instructions.{paired}
-use Rattle.tm_syntax.proofs.Standing.{HasAt}
+use Rattle.tm_syntax.proofs.Standing.{HasAt, everywhere}
 use Rattle.tm_simulation.proofs.Gives.{Gives, tick_gives}
 use Rattle.tm_simulation.proofs.Asks.{named_asks, callee_asks}
 use Rattle.tm_simulation.proofs.Evaluates.{eval_gives, condition_gives, all_give, pairs_give, argument_gives, arguments_give}
@@ -50,11 +50,14 @@ use Rattle.tm_simulation.proofs.Follow.{Spot, told}
 use Rattle.tm_simulation.proofs.Follow.{Follows, follows_bind, bind_then}
 use Rattle.tm_simulation.proofs.Follow.{Go, silent, at, after_then, move, pushes, choose_then}
 use Rattle.tm_simulation.proofs.Operands.{all_long, arguments_long, bind_long, flat, flat_long, flat_more, keywords_long}
-use Rattle.tm_simulation.proofs.Operands.{lists_long, named_long}
+use Rattle.tm_simulation.proofs.Operands.{lists_long, mapped_long, named_long}
 use Rattle.tm_simulation.proofs.Operands.{onto_both, paired_flat, pairs_long}
 use Rattle.tm_simulation.proofs.Levels.{Setting, Here, here_kept, meaning, nest_ends}
 use Rattle.tm_simulation.proofs.Arguments.{unary_then, binary_then, passed_then, calls, built_then, listed_then, mapped_then}
-use Rattle.tm_simulation.proofs.Arguments.{dropped_then, In, Runs, Pushes, Long, named_runs, passing_runs, condition_runs}
+use Rattle.tm_simulation.proofs.Arguments.{dropped_then, In, InWhere, Runs, Pushes, Long, RowRuns, row_runs, named_runs, passing_runs}
+use Rattle.tm_simulation.proofs.Arguments.{condition_runs}
+use Rattle.tm_simulation.proofs.Counts.{unmarked}
+use Rattle.tm_simulation.proofs.TreeLoops.{expr_loopless}
 
 module _ (setting : Setting) where
   open setting use {context, trees, n, entered, id, level, again, again_kept, called_in_place, called_as_value}
@@ -101,29 +104,30 @@ module _ (setting : Setting) where
         built_then setting (λ vs. map_of_pairs (paired vs)) s pc1 (n + n) (flat xs) stack world2 (flat_long n xs m)
         (subst (λ ys. Go context s (pc1 + 1) (map_of_pairs ys ∷ stack) world2) (sym (paired_flat xs)) h2))))))
     expr_runs (Call' g _ given _ named) run s l pc stack w d is h =
-        let maps : World → Res (List Val) = λ world1. eval_keywords u run [] named world1 in
-        let maps_give : Given context.program.host maps = λ world1. keywords_give u (nest_ends setting) again_kept run [] named world1 in
-        let maps_long : Long setting (count_maps 0 named) maps = λ world1. keywords_long u run [] named world1 in
+        let maps : World → Res (List Val) = λ world1. eval_keywords u run mapped [] named world1 in
+        let maps_give : Given context.program.host maps = λ world1. keywords_give u (nest_ends setting) again_kept run mapped (mapped_gives context.program.host) [] named world1 in
+        let maps_long : Long setting (count_maps row_end 0 named) maps = λ world1. keywords_long u run row_end mapped mapped_long [] named world1 in
         let names : World → Res (List Val) = named_by context.program.host named maps in
         let names_give : Given context.program.host names = named_by_gives context.program.host named maps maps_give in
-        let names_long : Long setting (together named) names = named_long context.program.host named maps maps_long in
-        let names_push : Pushes setting run (merging named (keywords_code 0 named)) names =
-        named_runs setting named run (keywords_code 0 named) maps maps_give maps_long
-        (λ s1 l1 pc1 stack1 world1 d1 is1 h1. keywords_run 0 [] named run s1 l1 pc1 stack1 world1 refl d1 is1 h1) in
+        let names_long : Long setting (together row_end named) names =
+        named_long context.program.host row_end named maps maps_long in
+        let names_push : Pushes setting everywhere run (merging row_end named (keywords_code row_end 0 named)) names =
+        named_runs setting everywhere row_end named run (keywords_code row_end 0 named) maps maps_give maps_long
+        (λ s1 l1 pc1 stack1 world1 d1 is1 h1. keywords_run everywhere run (row_runs setting run) 0 [] named s1 l1 pc1 stack1 world1 refl d1 is1 h1) in
         let places : World → Res (List Val) = λ world1. eval_arguments u run given world1 in
-        passing_runs setting (has_spread given) [] given named run (arguments_code given) (merging named (keywords_code 0 named))
-        (λ by_name. lists_code 0 given (together named) by_name) places names
+        passing_runs setting everywhere row_end (has_spread given) [] given named run (arguments_code given) (merging row_end named (keywords_code row_end 0 named))
+        (λ by_name. lists_code 0 given (together row_end named) by_name) places names
         (λ by_name world1. eval_lists u run [] given by_name world1)
         (λ world1. arguments_give u (nest_ends setting) again_kept run given world1) (λ world1. arguments_long u run given world1)
         (λ s1 l1 pc1 stack1 world1 d1 is1 h1. arguments_run given run s1 l1 pc1 stack1 world1 d1 is1 h1)
         names_give names_long names_push
         (λ world1. lists_give u (nest_ends setting) again_kept run [] given names names_give world1)
-        (λ world1. lists_long u run [] given (together named) names names_long world1)
-        (λ s1 l1 pc1 stack1 world1 d1 is1 h1. lists_run 0 [] given run (together named) (merging named (keywords_code 0 named)) names
+        (λ world1. lists_long u run [] given (together row_end named) names names_long world1)
+        (λ s1 l1 pc1 stack1 world1 d1 is1 h1. lists_run everywhere 0 [] given run (together row_end named) (merging row_end named (keywords_code row_end 0 named)) names
         names_give names_long names_push s1 l1 pc1 stack1 world1 refl d1 is1 h1)
         s l pc stack w _ _ d is.0 h
         (λ vs world1 k long h1.
-        calls setting (i.CallFunction g (passed_count 0 given named)) (has_spread given) (count given + together named + 0)
+        calls setting (i.CallFunction g (passed_count row_end 0 given named)) (has_spread given) (count given + together row_end named + 0)
         (λ vs1 world2. call_named context.program.host g vs1 world2) (λ c. refl)
         (λ vs1 world2. named_asks context.program.host g vs1 world2)
         run s _ vs stack world1 long (here_kept setting run s k d) is.1.0 h1)
@@ -192,7 +196,7 @@ module _ (setting : Setting) where
     argument_runs (plain a) run s l pc stack w d is h = expr_runs a run s l pc stack w d is h
     argument_runs (spread a) run s l pc stack w d is h = expr_runs a run s l pc stack w d is h
 
-    arguments_run : {m : _} → (given : Row_of-Argument m) (run : Run) (s : Spot) (l : Labels) (pc : ℕ) (stack : List Val) (w : World) →
+    pub arguments_run : {m : _} → (given : Row_of-Argument m) (run : Run) (s : Spot) (l : Labels) (pc : ℕ) (stack : List Val) (w : World) →
         Here setting run s w → In setting s l pc (arguments_code given) →
         Follows context (told s) (eval_arguments u run given w) (λ vs world1. Go context s (beyond pc (arguments_code given))
         (onto vs stack) world1) → Go context s pc stack w
@@ -206,30 +210,32 @@ module _ (setting : Setting) where
         (arguments_give u (nest_ends setting) again_kept run more world1) h1 (λ vs world2 k2 g. g))))
 
     -- Rows of arguments become lists, and what is spread lies between them; what stands under a name is in the last row.
-    lists_run : {m : _} → (n : ℕ) (row : List Val) (given : Row_of-Argument m) (run : Run) (more : ℕ) (code : Fragment)
-        (by_name : World → Res (List Val)) → Given context.program.host by_name → Long setting more by_name → Pushes setting run code by_name →
+    pub lists_run : {m : _} → (marks : ℕ → Bool) (n : ℕ) (row : List Val) (given : Row_of-Argument m) (run : Run) (more : ℕ)
+        (code : Fragment) (by_name : World → Res (List Val)) → Given context.program.host by_name → Long setting more by_name →
+        Pushes setting marks run code by_name →
         (s : Spot) (l : Labels) (pc : ℕ) (stack : List Val) (w : World) → length row ≡ n → Here setting run s w →
-        In setting s l pc (lists_code n given more code) →
+        InWhere setting marks s l pc (lists_code n given more code) →
         Follows context (told s) (eval_lists u run row given by_name w)
         (λ ls world1. Go context s (beyond pc (lists_code n given more code)) (onto ls stack) world1) → Go context s pc (onto row stack) w
-    lists_run n row no_argument run more code by_name gives long push s l pc stack w e d is h =
+    lists_run marks n row no_argument run more code by_name gives long push s l pc stack w e d is h =
         push s l pc (onto row stack) w d is.0
         (bind_long context (told s) w more (by_name w) _ _ _ (gives w) (long w) h (λ ks world1 k m h1.
         subst (λ us. Go context s (beyond pc code) us world1) (onto_both row ks stack)
         (listed_then setting s (beyond pc code) (n + more) (row ++ ks) stack world1 (omega (arith, length-append row ks, e, m)) is.1 h1)))
-    lists_run n row (argument (plain a) rest) run more code by_name gives long push s l pc stack w e d is h =
-        expr_runs a run s l pc (onto row stack) w d is.0
+    lists_run marks n row (argument (plain a) rest) run more code by_name gives long push s l pc stack w e d is h =
+        expr_runs a run s l pc (onto row stack) w d (unmarked marks _ l pc (expr_code a) (expr_loopless a) is.0)
         (bind_then context (told s) w (eval u run a w) _ _ _ (eval_gives u (nest_ends setting) again_kept run a w) h (λ v world1 k h1.
         subst (λ us. Go context s (beyond pc (expr_code a)) us world1) (onto_both row (v ∷ []) stack)
-        (lists_run (n + 1) (row ++ v ∷ []) rest run more code by_name gives long push s l (beyond pc (expr_code a)) stack world1
+        (lists_run marks (n + 1) (row ++ v ∷ []) rest run more code by_name gives long push s l (beyond pc (expr_code a)) stack world1
         (omega (arith, length-append row (v ∷ []), e)) (here_kept setting run s k d) is.1 h1)))
-    lists_run n row (argument (spread a) rest) run more code by_name gives long push s l pc stack w e d is h =
+    lists_run marks n row (argument (spread a) rest) run more code by_name gives long push s l pc stack w e d is h =
         listed_then setting s pc n row stack w e is.0.0
         (bind_then context (told s) w (listed row w) _ _ _ (listed_gives context.program.host row w) h (λ ls world1 k1 h1.
-        expr_runs a run s l _ (onto ls stack) world1 (here_kept setting run s k1 d) is.0.1
+        expr_runs a run s l _ (onto ls stack) world1 (here_kept setting run s k1 d)
+        (unmarked marks _ l _ (expr_code a) (expr_loopless a) is.0.1)
         (bind_then context (told s) world1 (eval u run a world1) _ _ _ (eval_gives u (nest_ends setting) again_kept run a world1) h1
         (λ v world2 k2 h2.
-        lists_run 0 [] rest run more code by_name gives long push s l _ (v ∷ onto ls stack) world2 refl
+        lists_run marks 0 [] rest run more code by_name gives long push s l _ (v ∷ onto ls stack) world2 refl
         (here_kept setting run s k2 (here_kept setting run s k1 d)) is.1
         (bind_then context (told s) world2 (eval_lists u run [] rest by_name world2) _ _ _
         (lists_give u (nest_ends setting) again_kept run [] rest by_name gives world2) h2 (λ vs world3 k3 g.
@@ -237,32 +243,38 @@ module _ (setting : Setting) where
         (onto_both ls (v ∷ vs) stack) g))))))
 
     -- A keyword's code pushes its name and then its value; rows of them become maps, and what is spread lies between these.
-    keywords_run : {m : _} → (n : ℕ) (row : List (Val × Val)) (ks : Row_of-Keyword m) (run : Run) (s : Spot) (l : Labels) (pc : ℕ)
-        (stack : List Val) (w : World) → length row ≡ n → Here setting run s w → In setting s l pc (keywords_code n ks) →
-        Follows context (told s) (eval_keywords u run row ks w)
-        (λ ms world1. Go context s (beyond pc (keywords_code n ks)) (onto ms stack) world1) → Go context s pc (onto (flat row) stack) w
-    keywords_run n row no_keyword run s l pc stack w e d is h = mapped_then setting s pc n row stack w e is h
-    keywords_run n row (keyword_and (keyword x a) more) run s l pc stack w e d is h =
+    pub keywords_run : {m : _} → (marks : ℕ → Bool) (run : Run) (last : RowRuns setting marks run) (n : ℕ) (row : List (Val × Val))
+        (ks : Row_of-Keyword m) (s : Spot) (l : Labels) (pc : ℕ)
+        (stack : List Val) (w : World) → length row ≡ n → Here setting run s w →
+        InWhere setting marks s l pc (keywords_code last.end n ks) →
+        Follows context (told s) (eval_keywords u run last.values row ks w)
+        (λ ms world1. Go context s (beyond pc (keywords_code last.end n ks)) (onto ms stack) world1) →
+        Go context s pc (onto (flat row) stack) w
+    keywords_run marks run last n row no_keyword s l pc stack w e d is h = last.runs n row s l pc stack w e d is h
+    keywords_run marks run last n row (keyword_and (keyword x a) more) s l pc stack w e d is h =
         at context (i.LoadConst (text x false)) s pc (onto (flat row) stack) w is.0.0.0 (after_then context (told s) (tick w) _
         (bind_then context (told s) w (tick w) _ _ _ (tick_gives _ w) h (λ _ world1 k1 h1.
         silent context (told s) _
-        (expr_runs a run s l (pc + 1) (text x false ∷ onto (flat row) stack) world1 (here_kept setting run s k1 d) is.0.1
+        (expr_runs a run s l (pc + 1) (text x false ∷ onto (flat row) stack) world1 (here_kept setting run s k1 d)
+        (unmarked marks _ l (pc + 1) (expr_code a) (expr_loopless a) is.0.1)
         (bind_then context (told s) world1 (eval u run a world1) _ _ _ (eval_gives u (nest_ends setting) again_kept run a world1) h1
         (λ v world2 k2 h2.
         subst (λ us. Go context s (beyond (pc + 1) (expr_code a)) us world2) (flat_more row (text x false) v stack)
-        (keywords_run (n + 1) (row ++ (text x false, v) ∷ []) more run s l (beyond (pc + 1) (expr_code a)) stack world2
+        (keywords_run marks run last (n + 1) (row ++ (text x false, v) ∷ []) more s l (beyond (pc + 1) (expr_code a)) stack world2
         (omega (arith, length-append row ((text x false, v) ∷ []), e)) (here_kept setting run s k2 (here_kept setting run s k1 d)) is.1
         h2)))))))
-    keywords_run n row (keyword_and (spread_keywords a) more) run s l pc stack w e d is h =
+    keywords_run marks run last n row (keyword_and (spread_keywords a) more) s l pc stack w e d is h =
         mapped_then setting s pc n row stack w e is.0.0
         (bind_then context (told s) w (mapped row w) _ _ _ (mapped_gives context.program.host row w) h (λ ms world1 k1 h1.
-        expr_runs a run s l _ (onto ms stack) world1 (here_kept setting run s k1 d) is.0.1
+        expr_runs a run s l _ (onto ms stack) world1 (here_kept setting run s k1 d)
+        (unmarked marks _ l _ (expr_code a) (expr_loopless a) is.0.1)
         (bind_then context (told s) world1 (eval u run a world1) _ _ _ (eval_gives u (nest_ends setting) again_kept run a world1) h1
         (λ v world2 k2 h2.
-        keywords_run 0 [] more run s l _ (v ∷ onto ms stack) world2 refl (here_kept setting run s k2 (here_kept setting run s k1 d)) is.1
-        (bind_then context (told s) world2 (eval_keywords u run [] more world2) _ _ _
-        (keywords_give u (nest_ends setting) again_kept run [] more world2) h2 (λ ns world3 k3 g.
-        subst (λ us. Go context s (beyond pc (keywords_code n (keyword_and (spread_keywords a) more))) us world3)
+        keywords_run marks run last 0 [] more s l _ (v ∷ onto ms stack) world2 refl
+        (here_kept setting run s k2 (here_kept setting run s k1 d)) is.1
+        (bind_then context (told s) world2 (eval_keywords u run last.values [] more world2) _ _ _
+        (keywords_give u (nest_ends setting) again_kept run last.values last.gives [] more world2) h2 (λ ns world3 k3 g.
+        subst (λ us. Go context s (beyond pc (keywords_code last.end n (keyword_and (spread_keywords a) more))) us world3)
         (onto_both ms (v ∷ ns) stack) g))))))
 
     -- A step's code replaces the value on top.
@@ -275,54 +287,56 @@ module _ (setting : Setting) where
         (bind_then context (told s) w (tick w) _ _ _ (tick_gives _ w) h (λ _ world1 k h1.
         pushes context s pc stack (v ∷ stack) world1 (attribute context.program.host v x world1) h1)))
     step_runs (Apply' k x _ given _ named) run s l pc v stack w d is h =
-        let maps : World → Res (List Val) = λ world1. eval_keywords u run [] named world1 in
-        let maps_give : Given context.program.host maps = λ world1. keywords_give u (nest_ends setting) again_kept run [] named world1 in
-        let maps_long : Long setting (count_maps 0 named) maps = λ world1. keywords_long u run [] named world1 in
+        let maps : World → Res (List Val) = λ world1. eval_keywords u run mapped [] named world1 in
+        let maps_give : Given context.program.host maps = λ world1. keywords_give u (nest_ends setting) again_kept run mapped (mapped_gives context.program.host) [] named world1 in
+        let maps_long : Long setting (count_maps row_end 0 named) maps = λ world1. keywords_long u run row_end mapped mapped_long [] named world1 in
         let names : World → Res (List Val) = named_by context.program.host named maps in
         let names_give : Given context.program.host names = named_by_gives context.program.host named maps maps_give in
-        let names_long : Long setting (together named) names = named_long context.program.host named maps maps_long in
-        let names_push : Pushes setting run (merging named (keywords_code 0 named)) names =
-        named_runs setting named run (keywords_code 0 named) maps maps_give maps_long
-        (λ s1 l1 pc1 stack1 world1 d1 is1 h1. keywords_run 0 [] named run s1 l1 pc1 stack1 world1 refl d1 is1 h1) in
+        let names_long : Long setting (together row_end named) names =
+        named_long context.program.host row_end named maps maps_long in
+        let names_push : Pushes setting everywhere run (merging row_end named (keywords_code row_end 0 named)) names =
+        named_runs setting everywhere row_end named run (keywords_code row_end 0 named) maps maps_give maps_long
+        (λ s1 l1 pc1 stack1 world1 d1 is1 h1. keywords_run everywhere run (row_runs setting run) 0 [] named s1 l1 pc1 stack1 world1 refl d1 is1 h1) in
         let places : World → Res (List Val) = λ world1. eval_arguments u run given world1 in
-        passing_runs setting (has_spread given) (v ∷ []) given named run (arguments_code given) (merging named (keywords_code 0 named))
-        (λ by_name. lists_code 1 given (together named) by_name) places names
+        passing_runs setting everywhere row_end (has_spread given) (v ∷ []) given named run (arguments_code given) (merging row_end named (keywords_code row_end 0 named))
+        (λ by_name. lists_code 1 given (together row_end named) by_name) places names
         (λ by_name world1. eval_lists u run (v ∷ []) given by_name world1)
         (λ world1. arguments_give u (nest_ends setting) again_kept run given world1) (λ world1. arguments_long u run given world1)
         (λ s1 l1 pc1 stack1 world1 d1 is1 h1. arguments_run given run s1 l1 pc1 stack1 world1 d1 is1 h1)
         names_give names_long names_push
         (λ world1. lists_give u (nest_ends setting) again_kept run (v ∷ []) given names names_give world1)
-        (λ world1. lists_long u run (v ∷ []) given (together named) names names_long world1)
-        (λ s1 l1 pc1 stack1 world1 d1 is1 h1. lists_run 1 (v ∷ []) given run (together named) (merging named (keywords_code 0 named)) names
+        (λ world1. lists_long u run (v ∷ []) given (together row_end named) names names_long world1)
+        (λ s1 l1 pc1 stack1 world1 d1 is1 h1. lists_run everywhere 1 (v ∷ []) given run (together row_end named) (merging row_end named (keywords_code row_end 0 named)) names
         names_give names_long names_push s1 l1 pc1 stack1 world1 refl d1 is1 h1)
         s l pc stack w _ _ d is.0 h
         (λ vs world1 k1 long h1.
-        passed_then setting k x (has_spread given) (count given + together named + 1) run s _ vs stack world1 long (here_kept setting run s k1 d)
+        passed_then setting k x (has_spread given) (count given + together row_end named + 1) run s _ vs stack world1 long (here_kept setting run s k1 d)
         is.1 h1)
     step_runs (Called _ given _ named) run s l pc v stack w d is h =
-        let maps : World → Res (List Val) = λ world1. eval_keywords u run [] named world1 in
-        let maps_give : Given context.program.host maps = λ world1. keywords_give u (nest_ends setting) again_kept run [] named world1 in
-        let maps_long : Long setting (count_maps 0 named) maps = λ world1. keywords_long u run [] named world1 in
+        let maps : World → Res (List Val) = λ world1. eval_keywords u run mapped [] named world1 in
+        let maps_give : Given context.program.host maps = λ world1. keywords_give u (nest_ends setting) again_kept run mapped (mapped_gives context.program.host) [] named world1 in
+        let maps_long : Long setting (count_maps row_end 0 named) maps = λ world1. keywords_long u run row_end mapped mapped_long [] named world1 in
         let names : World → Res (List Val) = named_by context.program.host named maps in
         let names_give : Given context.program.host names = named_by_gives context.program.host named maps maps_give in
-        let names_long : Long setting (together named) names = named_long context.program.host named maps maps_long in
-        let names_push : Pushes setting run (merging named (keywords_code 0 named)) names =
-        named_runs setting named run (keywords_code 0 named) maps maps_give maps_long
-        (λ s1 l1 pc1 stack1 world1 d1 is1 h1. keywords_run 0 [] named run s1 l1 pc1 stack1 world1 refl d1 is1 h1) in
+        let names_long : Long setting (together row_end named) names =
+        named_long context.program.host row_end named maps maps_long in
+        let names_push : Pushes setting everywhere run (merging row_end named (keywords_code row_end 0 named)) names =
+        named_runs setting everywhere row_end named run (keywords_code row_end 0 named) maps maps_give maps_long
+        (λ s1 l1 pc1 stack1 world1 d1 is1 h1. keywords_run everywhere run (row_runs setting run) 0 [] named s1 l1 pc1 stack1 world1 refl d1 is1 h1) in
         let places : World → Res (List Val) = λ world1. eval_arguments u run given world1 in
-        passing_runs setting (has_spread given) (v ∷ []) given named run (arguments_code given) (merging named (keywords_code 0 named))
-        (λ by_name. lists_code 1 given (together named) by_name) places names
+        passing_runs setting everywhere row_end (has_spread given) (v ∷ []) given named run (arguments_code given) (merging row_end named (keywords_code row_end 0 named))
+        (λ by_name. lists_code 1 given (together row_end named) by_name) places names
         (λ by_name world1. eval_lists u run (v ∷ []) given by_name world1)
         (λ world1. arguments_give u (nest_ends setting) again_kept run given world1) (λ world1. arguments_long u run given world1)
         (λ s1 l1 pc1 stack1 world1 d1 is1 h1. arguments_run given run s1 l1 pc1 stack1 world1 d1 is1 h1)
         names_give names_long names_push
         (λ world1. lists_give u (nest_ends setting) again_kept run (v ∷ []) given names names_give world1)
-        (λ world1. lists_long u run (v ∷ []) given (together named) names names_long world1)
-        (λ s1 l1 pc1 stack1 world1 d1 is1 h1. lists_run 1 (v ∷ []) given run (together named) (merging named (keywords_code 0 named)) names
+        (λ world1. lists_long u run (v ∷ []) given (together row_end named) names names_long world1)
+        (λ s1 l1 pc1 stack1 world1 d1 is1 h1. lists_run everywhere 1 (v ∷ []) given run (together row_end named) (merging row_end named (keywords_code row_end 0 named)) names
         names_give names_long names_push s1 l1 pc1 stack1 world1 refl d1 is1 h1)
         s l pc stack w _ _ d is.0 h
         (λ vs world1 k1 long h1.
-        calls setting (i.CallObject (passed_count 1 given named)) (has_spread given) (count given + together named + 1)
+        calls setting (i.CallObject (passed_count row_end 1 given named)) (has_spread given) (count given + together row_end named + 1)
         (λ vs1 world2. call_callee context.program.host vs1 world2) (λ c. refl)
         (λ vs1 world2. callee_asks context.program.host vs1 world2)
         run s _ vs stack world1 long (here_kept setting run s k1 d) is.1.0 h1)

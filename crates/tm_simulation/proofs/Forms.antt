@@ -84,7 +84,6 @@ abbrev pub Entered : Program → Callee → Bool → Bed → List ℕ → World 
 Entered p k heard b out w o =
     let f = base_of heard (captures_of b out) w in Leads p f (told_by b out) (begins p f k (captures_of b out) w) (end_of b o)
 
-
 module _ (context : RunContext) where
   -- a callee's run, and then what its end leads to; one that has none is refused
   nested_then : (a : Option Activation) (heard : Bool) (ks : List Capture) (w : World) (back : Back) (t : List ℕ) (e : Final) →

@@ -1,25 +1,25 @@
 -- What runs keep, and of which kinds their faults are.
-use Rattle.std.proofs.Common.{ℕ, zero, suc, ◌+◌, List, [], ◌∷◌, Option, Some, Bool, true, false, ◌≡◌, refl, sym, subst}
-use Rattle.std.specs.Prelude.{slice_get, ◌&&◌}
+use Rattle.std.proofs.Common.{ℕ, zero, suc, ◌+◌, List, [], ◌∷◌, Option, Some, None, Bool, true, false, ◌≡◌, refl, sym, subst, length}
+use Rattle.std.specs.Prelude.{slice_get, ◌&&◌, nat_eq}
 use Rattle.tm_values.specs.Val.{Val, undefined}
 use Rattle.tm_values.specs.declared.error.ErrorKind.{ErrorKind}
 use Rattle.tm_values.specs.declared.error.ErrorKind.TheVariants.{InvalidOperation}
-use Rattle.tm_syntax.specs.Loops.{loops_in}
+use Rattle.tm_syntax.specs.Loops.{first_numbers, loops_in, FoundMacro, macros_in}
 use Rattle.tm_meaning.specs.Tree.{Body, Trees}
 use Rattle.tm_meaning.specs.World.{choose, World, HostValue, Res, Good, Bad, tick, plain_scope}
 use Rattle.tm_meaning.specs.Calls.{Callee, whole, macro_of, NestedCall, block_call, undone, runs}
 use Rattle.tm_meaning.specs.Meaning.{over, under, again_of, Run, Outcome, Ending, done, leave, next, fault, Nests, Under, done_by, exec_all}
 use Rattle.tm_meaning.specs.Meaning.{behind, in_place_of, block_tag, audible, none_waits, at_end, new_run, nests_of, rendered, chain_in}
-use Rattle.tm_meaning.specs.Meaning.{chain_of}
+use Rattle.tm_meaning.specs.Meaning.{chain_of, macro_body, macro_run}
 use Rattle.tm_simulation.specs.Kept.{UnlessFault, Stays, Grows, PutsBack}
 use Rattle.tm_meaning.specs.declared.stream.TemplateId.{TemplateId}
 use Rattle.tm_meaning.specs.declared.stream.StreamId.{StreamId}
 use Rattle.tm_simulation.specs.Chains.{Arises, IfAny}
 use Rattle.tm_simulation.proofs.Advances.{Kept, advances_then, kept_then, in_stream, undone_scopes}
 use Rattle.tm_simulation.proofs.Gives.{Gives, RunEnds, run_ends, run_ends_as, ends_advance, EndingKeeps, OutcomeKeeps, ends_as, tick_gives}
-use Rattle.tm_simulation.proofs.Gives.{ends_refused}
+use Rattle.tm_simulation.proofs.Gives.{ends_refused, choose_ends}
 use Rattle.tm_simulation.proofs.Asks.{in_block, block_asks_by}
-use Rattle.tm_simulation.proofs.Executes.{execs_end, called_end}
+use Rattle.tm_simulation.proofs.Executes.{execs_end, called_end, body_ends}
 
 done_by_ends : (host : HostValue) (w world1 : World) (m : Res (Unit {0})) (o : Outcome) → Kept w world1 → Gives host world1 m →
     OutcomeKeeps host w (done_by m o)
@@ -47,23 +47,38 @@ pub again_end : (host : HostValue) (nests : Nests)
 again_end host nests nest_ends body zero n items run out w = ends_refused host w run out InvalidOperation refl
 again_end host nests nest_ends body (suc k) n items run out w =
     called_end (over host nests (again_of host nests body k)) nest_ends (again_end host nests nest_ends body k)
-    (slice_get (loops_in 0 body.row) n) n items run out w
+    (slice_get (loops_in first_numbers body.row) n) n items run out w
+
+-- So do the runs of macros.
+macro_ends : (u : Under) (nest_ends : (k : Callee) (heard : Bool) (out : List ℕ) (w : World) → RunEnds u.host w (u.nests k heard out w))
+    (again_ends : (n : ℕ) (items : List Val) (run : Run) (out : List ℕ) (w : World) → OutcomeKeeps u.host w (u.again n items run out w))
+    (m : Option FoundMacro) (given : List Val) (run : Run) (out : List ℕ) (w : World) → OutcomeKeeps u.host w (macro_run u m given run out w)
+macro_ends u nest_ends again_ends None given run out w = ends_refused u.host w run out InvalidOperation refl
+macro_ends u nest_ends again_ends (Some m) given run out w =
+    let o = macro_body u m given run out w in
+    choose_ends u.host w (nat_eq (length m.parameters) (length given)) _ _
+    (at_end_ends u.host w o.ending o.parent o.text o.world (ends_as u.host w o (body_ends u nest_ends again_ends m given run out w)))
+    (ends_refused u.host w run out InvalidOperation refl)
 
 -- So does what nests, today also in the stream in which it began.
 nest_ends_there : (host : HostValue) (trees : Trees) (n : ℕ) (k : Callee) (heard : Bool) (out : List ℕ) (w : World) →
     OutcomeKeeps host w (nests_of host trees n k heard out w)
 nest_ends_there host trees zero k heard out w = ends_refused host w (new_run heard w) out InvalidOperation refl
 nest_ends_there host trees (suc n) (macro_of s m given) heard out w =
-    ends_refused host w (new_run heard w) out InvalidOperation refl
+    let nests = nests_of host trees n in
+    let nest_ends : (k : Callee) (heard : Bool) (out : List ℕ) (w : World) → RunEnds host w (nests k heard out w) =
+    λ k1 heard1 out1 w1. run_ends host w1 (nests k1 heard1 out1 w1) (nest_ends_there host trees n k1 heard1 out1 w1) in
+    macro_ends (under host nests (trees s)) nest_ends (again_end host nests nest_ends (trees s) (host.limit + 1))
+    (slice_get (macros_in first_numbers (trees s).row) m) given (new_run heard w) out w
 nest_ends_there host trees (suc n) (whole s) heard out w =
     let nests = nests_of host trees n in
     let nest_ends : (k : Callee) (heard : Bool) (out : List ℕ) (w : World) → RunEnds host w (nests k heard out w) =
     λ k1 heard1 out1 w1. run_ends host w1 (nests k1 heard1 out1 w1) (nest_ends_there host trees n k1 heard1 out1 w1) in
     let u : Under = under host nests (trees s) in
-    let o = exec_all u 0 (trees s).row (new_run heard w) out w in
+    let o = exec_all u first_numbers (trees s).row (new_run heard w) out w in
     let again_ends = again_end host nests nest_ends (trees s) (host.limit + 1) in
     at_end_ends host w o.ending o.parent o.text o.world
-    (ends_as host w o (execs_end u nest_ends again_ends 0 (trees s).row (new_run heard w) out w))
+    (ends_as host w o (execs_end u nest_ends again_ends first_numbers (trees s).row (new_run heard w) out w))
 
 pub nests_end : (host : HostValue) (trees : Trees) (n : ℕ) (k : Callee) (heard : Bool) (out : List ℕ) (w : World) →
     RunEnds host w (nests_of host trees n k heard out w)

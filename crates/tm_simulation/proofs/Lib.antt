@@ -3,6 +3,7 @@ pub mod Raised
 pub mod Gives
 pub mod Asks
 pub mod Evaluates
+pub mod Declares
 pub mod Executes
 pub mod Keeps
 pub mod Chains
@@ -14,11 +15,14 @@ mod Levels
 mod Arguments
 mod Expressions
 mod Targets
+mod Macros
+mod CallTags
 mod Rounds
 mod Statements
 mod Recursion
 pub mod Simulation
 mod Numbered
 mod Cached
+mod Counts
 mod Begins
 mod TreeLoops

@@ -13,12 +13,12 @@ use Rattle.tm_syntax.specs.declared.tree.Expr.{more_of-Expr as expr, Row_of-Pair
 use Rattle.tm_syntax.specs.declared.tree.Expr.{Row_of-Argument, end_of-Argument as no_argument, more_of-Argument as argument}
 use Rattle.tm_syntax.specs.declared.tree.Expr.{Row_of-Keyword, end_of-Keyword as no_keyword, more_of-Keyword as keyword_and}
 use Rattle.tm_syntax.specs.Forms.{with_pair, plain, spread, keyword, spread_keywords}
-use Rattle.tm_syntax.specs.Code.{count_maps, has_spread_keyword, merged_count, rows_of, together, count, count_lists, count_exprs}
+use Rattle.tm_syntax.specs.Code.{RowEnd, count_maps, has_spread_keyword, merged_count, rows_of, together, count, count_lists, count_exprs}
 use Rattle.tm_syntax.specs.Code.{count_pairs}
 use Rattle.tm_meaning.specs.World.{World, HostValue}
 use Rattle.tm_meaning.specs.World.{Res, Good, Bad, bind, tick}
 use Rattle.tm_meaning.specs.World.{unpacked_items, answered}
-use Rattle.tm_meaning.specs.Meaning.{Run}
+use Rattle.tm_meaning.specs.Meaning.{RowValues, Run}
 use Rattle.tm_meaning.specs.Meaning.{Under}
 use Rattle.tm_meaning.specs.Meaning.{eval, eval_all, eval_pairs, eval_argument, eval_arguments}
 use Rattle.tm_meaning.specs.Meaning.{eval_keywords, eval_lists, incremented}
@@ -50,7 +50,7 @@ abbrev pub IsLong : {A : Type 0} → ℕ → Res (List A) → Type 0
 IsLong n (Good xs w) = length xs ≡ n
 IsLong n (Bad chain w) = Unit {0}
 
-long_bind : {A B : Type 0} (n : ℕ) (m : Res A) (g : A → World → Res (List B)) → ((a : A) (w : World) → IsLong n (g a w)) →
+pub long_bind : {A B : Type 0} (n : ℕ) (m : Res A) (g : A → World → Res (List B)) → ((a : A) (w : World) → IsLong n (g a w)) →
     IsLong n (bind m g)
 long_bind n (Good a w) g k = k a w
 long_bind n (Bad chain w) g k = tt
@@ -67,7 +67,7 @@ arguments_long u run (argument a more) w =
     (arguments_long u run more world1))
 
 -- as many in other words
-at_length : {A : Type 0} (n m : ℕ) (q : Res (List A)) → n ≡ m → IsLong n q → IsLong m q
+pub at_length : {A : Type 0} (n m : ℕ) (q : Res (List A)) → n ≡ m → IsLong n q → IsLong m q
 at_length n m q e h = subst (λ k. IsLong k q) e h
 
 -- the same, given how many the first part has
@@ -80,7 +80,7 @@ listed_long : (vs : List Val) (w : World) → IsLong (rows_of (length vs)) (list
 listed_long [] w = refl
 listed_long (v ∷ vs) w = long_bind 1 (tick w) _ (λ _ world1. refl)
 
-mapped_long : (ps : List (Val × Val)) (w : World) → IsLong (rows_of (length ps)) (mapped ps w)
+pub mapped_long : (ps : List (Val × Val)) (w : World) → IsLong (rows_of (length ps)) (mapped ps w)
 mapped_long [] w = refl
 mapped_long (p ∷ ps) w = long_bind 1 (tick w) _ (λ _ world1. refl)
 
@@ -88,19 +88,22 @@ mapped_long (p ∷ ps) w = long_bind 1 (tick w) _ (λ _ world1. refl)
 ended_long : (n m k : ℕ) (ls vs : List Val) (v : Val) → length ls ≡ n → length vs ≡ m → k ≡ n + 1 + m → length (ls ++ v ∷ vs) ≡ k
 ended_long n m k ls vs v e f g = omega (arith, length-append ls (v ∷ vs), e, f, g)
 
-pub keywords_long : {n : _} → (u : Under) (run : Run) (row : List (Val × Val)) (ks : Row_of-Keyword n) (w : World) →
-    IsLong (count_maps (length row) ks) (eval_keywords u run row ks w)
-keywords_long u run row no_keyword w = mapped_long row w
-keywords_long u run row (keyword_and (keyword x a) more) w =
+pub keywords_long : {n : _} → (u : Under) (run : Run) (end : RowEnd) (values : RowValues) →
+    ((row : List (Val × Val)) (w : World) → IsLong (end.maps (length row)) (values row w)) →
+    (row : List (Val × Val)) (ks : Row_of-Keyword n) (w : World) →
+    IsLong (count_maps end (length row) ks) (eval_keywords u run values row ks w)
+keywords_long u run end values last row no_keyword w = last row w
+keywords_long u run end values last row (keyword_and (keyword x a) more) w =
     long_bind _ (tick w) _ (λ _ world1. long_bind _ (eval u run a world1) _ (λ v world2.
     let row1 = row ++ (text x false, v) ∷ [] in
     let one : length row1 ≡ length row + 1 = omega (arith, length-append row ((text x false, v) ∷ [])) in
-    let same : count_maps (length row1) more ≡ count_maps (length row + 1) more = ap (λ n. count_maps n more) one in
-    at_length _ _ _ (omega (arith, same)) (keywords_long u run row1 more world2)))
-keywords_long u run row (keyword_and (spread_keywords a) more) w =
+    let same : count_maps end (length row1) more ≡ count_maps end (length row + 1) more = ap (λ n. count_maps end n more) one in
+    at_length _ _ _ (omega (arith, same)) (keywords_long u run end values last row1 more world2)))
+keywords_long u run end values last row (keyword_and (spread_keywords a) more) w =
     long_kept (rows_of (length row)) _ (mapped row w) _ (mapped_long row w) (λ ms world1 e.
     long_bind _ (eval u run a world1) _ (λ v world2.
-    long_kept (count_maps 0 more) _ (eval_keywords u run [] more world2) _ (keywords_long u run [] more world2) (λ ns world3 f.
+    long_kept (count_maps end 0 more) _ (eval_keywords u run values [] more world2) _
+    (keywords_long u run end values last [] more world2) (λ ns world3 f.
     ended_long _ _ _ ms ns v e f refl)))
 
 merged_long : (b : Bool) (n : ℕ) (host : HostValue) (ms : List Val) (w : World) → length ms ≡ n →
@@ -108,10 +111,10 @@ merged_long : (b : Bool) (n : ℕ) (host : HostValue) (ms : List Val) (w : World
 merged_long false n host ms w e = e
 merged_long true n host ms w e = long_bind 1 (tick w) _ (λ _ world1. long_bind 1 (merged_values host ms world1) _ (λ v world2. refl))
 
-pub named_long : {n : _} → (host : HostValue) (ks : Row_of-Keyword n) (maps : World → Res (List Val)) →
-    ((w : World) → IsLong (count_maps 0 ks) (maps w)) → (w : World) → IsLong (together ks) (named_by host ks maps w)
-named_long host ks maps long w =
-    long_kept (count_maps 0 ks) _ (maps w) _ (long w) (λ ms world1 e. merged_long (has_spread_keyword ks) _ host ms world1 e)
+pub named_long : {n : _} → (host : HostValue) (end : RowEnd) (ks : Row_of-Keyword n) (maps : World → Res (List Val)) →
+    ((w : World) → IsLong (count_maps end 0 ks) (maps w)) → (w : World) → IsLong (together end ks) (named_by host ks maps w)
+named_long host end ks maps long w =
+    long_kept (count_maps end 0 ks) _ (maps w) _ (long w) (λ ms world1 e. merged_long (has_spread_keyword ks) _ host ms world1 e)
 
 pub lists_long : {n : _} → (u : Under) (run : Run) (row : List Val) (given : Row_of-Argument n) (m : ℕ)
     (by_name : World → Res (List Val)) → ((w : World) → IsLong m (by_name w)) → (w : World) →

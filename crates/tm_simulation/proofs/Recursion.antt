@@ -8,7 +8,7 @@ use Rattle.tm_syntax.specs.declared.instruction.Instruction.TheVariants as i
 use Rattle.tm_syntax.specs.Code.{for_flags}
 use Rattle.tm_syntax.specs.Fragments.{beyond}
 use Rattle.tm_syntax.specs.Fragments.{looped as a_loop}
-use Rattle.tm_syntax.specs.Code.{target_code}
+use Rattle.tm_syntax.specs.Code.{target_code, statements_code}
 use Rattle.tm_meaning.specs.World.{choose, World, Loop, loop_scope, new_loop, open_loop}
 use Rattle.tm_meaning.specs.World.{top_loop, depth, pop}
 use Rattle.tm_meaning.specs.World.{captured_text}
@@ -25,8 +25,9 @@ use Rattle.tm_meaning.specs.Steps.{over as is_over}
 use Rattle.tm_simulation.specs.Kept.{shapes}
 use Rattle.tm_syntax.proofs.Standing.{HasAt, At}
 use Rattle.tm_syntax.specs.declared.instruction.LoopPlace.{LoopPlace}
-use Rattle.tm_syntax.specs.Loops.{loops_before, FoundLoop}
-use Rattle.tm_simulation.proofs.Begins.{Both, Looped}
+use Rattle.tm_syntax.specs.Loops.{FoundLoop}
+use Rattle.tm_simulation.proofs.Begins.{Both, IsAt, Looped}
+use Rattle.tm_simulation.proofs.Counts.{Counts}
 use Rattle.tm_simulation.proofs.TreeLoops.{found}
 use Rattle.tm_simulation.proofs.Loops.{on_top_loop, new_record}
 use Rattle.tm_simulation.proofs.Advances.{Kept, kept_frames}
@@ -124,7 +125,7 @@ module _ (setting : Setting) where
       (opened_kept (for_flags true) m w items) (new_record (for_flags true) m w items)
       (record { before = []; same = refl; all = refl; turns = refl })
       (subst (λ c. At c lo.labels place (a_loop (for_flags true) round lo.after)) all_is lo.code)
-      (subst (λ c. loops_before (beyond (place + 1 + 1) (target_code l.target)) c ≡ l.at) all_is lo.numbered)
+      (subst (λ c. Counts c l.at (beyond (place + 1 + 1) (target_code l.target)) (statements_code [] l.body.row)) all_is lo.numbered)
       (λ q out x left_first k e same g. called_over o s1 q out end w x left_first items d.0.scopes k e same
       (subst (λ c. HasAt c end (i.PopLoopFrame ∷ []) ⊎ HasAt c end (i.PushDidNotIterate ∷ i.PopLoopFrame ∷ [])) all_is lo.exit)
       (goes_on q out x g)) h
@@ -158,7 +159,7 @@ module _ (setting : Setting) where
       silent context (told s1) _ (called_rounds l lp.place there.1 o m items run s1 w D L N d room goes_on h1))))
 
   -- in place: it is heard where it is called
-  pub recursed_in_place : (ol : Option FoundLoop) (op : Option LoopPlace) → Both (context.program.code id) ol op →
+  pub recursed_in_place : (ol : Option FoundLoop) (op : Option LoopPlace) → Both (IsAt (context.program.code id)) ol op →
       (m : ℕ) (items : List Val) (run : Run) (s : Spot) (pc : ℕ) (stack old : List Val) (w0 w : World) (D L N : Then) →
       DeepIn context n id (suc level) run s w →
       Ends context s.bed (again_in u ol m items (as_at run s) s.out w) D L N →
@@ -187,7 +188,7 @@ module _ (setting : Setting) where
   text_ends s next parent out w K h = h
   text_ends s (fault chain) parent out w K h = h
 
-  pub recursed_as_value : (ol : Option FoundLoop) (op : Option LoopPlace) → Both (context.program.code id) ol op →
+  pub recursed_as_value : (ol : Option FoundLoop) (op : Option LoopPlace) → Both (IsAt (context.program.code id)) ol op →
       (m : ℕ) (items : List Val) (run : Run) (s : Spot) (pc : ℕ) (stack old : List Val) (w0 w : World) (D : Then) →
       HereIn context n id (suc level) run s w →
       Ends context (captured_in s.bed s.out) (again_in u ol m items (capturing true run) [] w) D D D →

@@ -33,8 +33,8 @@ use Rattle.tm_meaning.specs.Machine.{stuck}
 use Rattle.tm_meaning.specs.Instructions.{on_loop}
 use Rattle.tm_meaning.specs.Instructions.{iterate_of, iterate_with, push_did_not_iterate_of, pop_loop_with, looping}
 use Rattle.tm_simulation.specs.Kept.{shapes}
-use Rattle.tm_syntax.specs.Loops.{loops_before}
-use Rattle.tm_simulation.proofs.Begins.{none_begin}
+use Rattle.tm_syntax.specs.Loops.{Numbers, loops_before}
+use Rattle.tm_simulation.proofs.Counts.{Counts, counted_none}
 use Rattle.tm_simulation.proofs.TreeLoops.{expr_loopless}
 use Rattle.tm_simulation.proofs.Loops.{LeftOf, next_item, no_item, left_then, turned_items, on_top_loop, next_record, new_record, none_is}
 use Rattle.tm_simulation.proofs.Advances.{Kept, kept_frames, kept_then, kept_record}
@@ -117,13 +117,13 @@ module _ (setting : Setting) where
       on_top_loop g w x l k e o s.run.loops (λ items turns. iterate_with (slice_get items turns) end c) ∙ ap (λ v. iterate_with v end c) is
 
   -- what a round does with its item
-  abbrev pub turn_of : {m : _} → AssignmentTarget → ℕ → Row_of-Stmt m → Val → Run → List ℕ → World → Outcome
-  turn_of t loops body v run out w = use_it (assign u run t v w) run out (λ _ world1. exec_all u loops body run out world1)
+  abbrev pub turn_of : {m : _} → AssignmentTarget → Numbers → Row_of-Stmt m → Val → Run → List ℕ → World → Outcome
+  turn_of t numbers body v run out w = use_it (assign u run t v w) run out (λ _ world1. exec_all u numbers body run out world1)
 
-  pub turn_ends : {m : _} → (t : AssignmentTarget) (loops : ℕ) (body : Row_of-Stmt m) (v : Val) (run : Run) (out : List ℕ) (w : World) →
-      OutcomeKeeps context.program.host w (turn_of t loops body v run out w)
-  turn_ends t loops body v run out w = ends_use _ w (assign u run t v w) run out _
-      (assign_gives u (nest_ends setting) again_kept run t v w) (λ _ world1. execs_end u (nest_ends setting) again_kept loops body run out
+  pub turn_ends : {m : _} → (t : AssignmentTarget) (numbers : Numbers) (body : Row_of-Stmt m) (v : Val) (run : Run) (out : List ℕ) (w : World) →
+      OutcomeKeeps context.program.host w (turn_of t numbers body v run out w)
+  turn_ends t numbers body v run out w = ends_use _ w (assign u run t v w) run out _
+      (assign_gives u (nest_ends setting) again_kept run t v w) (λ _ world1. execs_end u (nest_ends setting) again_kept numbers body run out
       world1)
 
   -- what follows once all rounds are over, at the place behind the jump back
@@ -134,16 +134,16 @@ module _ (setting : Setting) where
       Go context (later (looped o s) q out) end stack x
 
   -- A loop's rounds, from where the next item is asked for.
-  pub rounds_run : {m : _} → (o : Option Return) (g : LoopFlags) (t : AssignmentTarget) (loops : ℕ) (body : Row_of-Stmt m) (l : Labels)
+  pub rounds_run : {m : _} → (o : Option Return) (g : LoopFlags) (t : AssignmentTarget) (numbers : Numbers) (body : Row_of-Stmt m) (l : Labels)
       (pc : ℕ)
-      (rest : Fragment) → StmtsRun setting loops (round_labels l pc (round_code t body)) [] body →
+      (rest : Fragment) → StmtsRun setting numbers (round_labels l pc (round_code t body)) [] body →
       (items vs : List Val) (run : Run) (s : Spot) (stack : List Val) (w x : World) (r : Loop) (D L N : Then) →
       Stands context.base run s → Deep setting run s (in_loop_of (for_flags false) w) → Kept (in_loop_of (for_flags false) w) x →
       slice_get (shapes x.loops) (length w.loops) ≡ Some r → LeftOf r items vs → In setting s l pc (a_loop g (round_code t body) rest) →
-      loops_before (beyond (pc + 1 + 1) (target_code t)) (context.program.code s.run.stream) ≡ loops →
+      Counts (context.program.code s.run.stream) numbers (beyond (pc + 1 + 1) (target_code t)) (statements_code [] body) →
       Rounded o s stack items w D (end_at pc (round_code t body)) → Ends context s.bed
-      (rounds (turn_of t loops body) vs (as_at run s) s.out x) D L N → Go context (looped o s) (pc + 1) stack x
-  rounds_run o g t loops body l pc rest part items [] run s stack w x r D L N fits d k e left is nth over_it h =
+      (rounds (turn_of t numbers body) vs (as_at run s) s.out x) D L N → Go context (looped o s) (pc + 1) stack x
+  rounds_run o g t numbers body l pc rest part items [] run s stack w x r D L N fits d k e left is nth over_it h =
       let end = end_at pc (round_code t body) in
       at context (i.Iterate end) (looped o s) (pc + 1) stack x is.1 (after_then context (told s) (tick x) _
       (use_then context s.bed x (tick x) (as_at run s) s.out _ D L N _ (tick_gives _ x) h (λ _ world1 k1 h1.
@@ -155,7 +155,7 @@ module _ (setting : Setting) where
       (silent context (told s) _ (over_it s.parent s.out (next_turn world1) (turned r) (kept_turned (for_flags false) w world1 kept)
       (next_record (for_flags false) w world1 r kept record1) (turned_items r items left)
       (so_far_then context s.bed (as_at run s) s.out (pop (next_turn world1)) D L N h1))))))
-  rounds_run o g t loops body l pc rest part items (v ∷ vs) run s stack w x r D L N fits d k e left is nth over_it h =
+  rounds_run o g t numbers body l pc rest part items (v ∷ vs) run s stack w x r D L N fits d k e left is nth over_it h =
       let all = context.program.code s.run.stream in
       let again = pc + 1 in
       let end = end_at pc (round_code t body) in
@@ -169,8 +169,8 @@ module _ (setting : Setting) where
       let kept_y : Kept (in_loop_of (for_flags false) w) y = kept_cleared (kept_turned (for_flags false) w world1 kept) in
       let record_y = next_record (for_flags false) w world1 r kept record1 in
       let left_y = left_then r items v vs left in
-      let turned_by = turn_of t loops body v (as_at run s) s.out y in
-      let next_round : Run → List ℕ → World → Outcome = λ run1 out1 z. rounds (turn_of t loops body) vs run1 out1 z in
+      let turned_by = turn_of t numbers body v (as_at run s) s.out y in
+      let next_round : Run → List ℕ → World → Outcome = λ run1 out1 z. rounds (turn_of t numbers body) vs run1 out1 z in
       let DoneThen = Goes context s.bed (as_at run s) next_round D L N in
       let LeaveThen = Goes context s.bed (as_at run s) (λ run1 out1 z. so_far run1 out1 (pop z)) D L N in
       let nexts : Jumps setting again [] (looped o s) stack y DoneThen =
@@ -178,7 +178,7 @@ module _ (setting : Setting) where
       at context (i.Jump again) (later (looped o s) q out1) place stack z is1 (after_then context (told_by s.bed out1) (tick z) _
       (use_then context s.bed z (tick z) (record run { parent = q }) out1 _ D L N _ (tick_gives _ z) g1 (λ _ z1 kz1 g2.
       silent context (told_by s.bed out1) _
-      (rounds_run o g t loops body l pc rest part items vs run (later s q out1) stack w z1 (turned r) D L N
+      (rounds_run o g t numbers body l pc rest part items vs run (later s q out1) stack w z1 (turned r) D L N
       (stands_later context.base run s fits q out1) (deep_later setting run s (in_loop_of (for_flags false) w) q out1 d)
       (kept_then kept_y (kept_then kz kz1)) (kept_record (kept_then kz kz1) (length w.loops) (turned r) record_y) left_y is nth over_it
       g2)))) in
@@ -195,13 +195,13 @@ module _ (setting : Setting) where
       (silent context (told s) _
       (target_runs setting t (as_at run s) (looped o s) inner (again + 1) v stack y
       (here setting run s y (deep_kept setting run s kept_y d)) is.2.0
-      (use_then context s.bed y (assign u (as_at run s) t v y) (as_at run s) s.out (λ _ z. exec_all u loops body (as_at run s) s.out z)
+      (use_then context s.bed y (assign u (as_at run s) t v y) (as_at run s) s.out (λ _ z. exec_all u numbers body (as_at run s) s.out z)
       DoneThen LeaveThen DoneThen _ (assign_gives u (nest_ends setting) again_kept (as_at run s) t v y)
       (round_then context s.bed (as_at run s) turned_by next_round D L N h1) (λ _ z k2 h2.
       part run (looped o s) start stack z LeaveThen DoneThen fits (deep_kept setting run s (kept_then kept_y k2) d)
       (around_kept setting inner [] (looped o s) stack LeaveThen DoneThen k2 (leaves, nexts)) is.2.1 nth
-      (ends_map_kept context s.bed z (exec_all u loops body (as_at run s) s.out z) DoneThen _ LeaveThen DoneThen
-      (execs_end u (nest_ends setting) again_kept loops body (as_at run s) s.out z) h2 (λ q out1 z1 k3 g1.
+      (ends_map_kept context s.bed z (exec_all u numbers body (as_at run s) s.out z) DoneThen _ LeaveThen DoneThen
+      (execs_end u (nest_ends setting) again_kept numbers body (as_at run s) s.out z) h2 (λ q out1 z1 k3 g1.
       nexts q out1 z1 _ (kept_then k2 k3) tt is.3 g1)))))))))
 
   -- ---------------------------------------------------------------- items under a condition
@@ -307,28 +307,28 @@ module _ (setting : Setting) where
       h7))))))))))))))))))))))))
 
   -- What is iterated, up to where its loop's scope is opened.
-  pub iterable_runs : (recursive : Bool) (loops : ℕ) (t : AssignmentTarget) (e : Expr) (c : Option Expr) (run : Run) (s : Spot) (l : Labels)
+  pub iterable_runs : (recursive : Bool) (numbers : Numbers) (t : AssignmentTarget) (e : Expr) (c : Option Expr) (run : Run) (s : Spot) (l : Labels)
       (pc : ℕ) (stack : List Val) (w : World) → Here setting run s w → In setting s l pc (iterable_code t e c) →
       slice_get (context.program.code s.run.stream) (beyond pc (iterable_code t e c)) ≡ Some (i.PushLoop (for_flags recursive)) →
-      loops_before pc (context.program.code s.run.stream) ≡ loops →
-      Follows context (told s) (loop_items u loops run t e c w) (λ vs world1. (old : List Val) →
+      Counts (context.program.code s.run.stream) numbers pc (iterable_code t e c) →
+      Follows context (told s) (loop_items u numbers.loops run t e c w) (λ vs world1. (old : List Val) →
       LeadsToEnd context (told s) (after (open_loop context.program.host vs (for_flags recursive)
       (loops_before (beyond pc (iterable_code t e c)) (context.program.code s.run.stream)) world1)
       (λ _ y. goes stack y (looping (None ∷ s.run.loops) (cfg s (beyond pc (iterable_code t e c)) old world1))))) →
       Go context s pc stack w
-  iterable_runs recursive loops t e None run s l pc stack w d is there nth h =
+  iterable_runs recursive numbers t e None run s l pc stack w d is there nth h =
       expr_runs setting e run s l pc stack w d is
       (bind_then context (told s) w (eval u run e w) _ _ _ (eval_gives u (nest_ends setting) again_kept run e w) h (λ v world1 k1 h1.
       at context (i.PushLoop (for_flags recursive)) s _ (v ∷ stack) world1 there
       (after_then context (told s) (items_over context.program.host v world1) _
       (follows_map_kept context (told s) world1 (items_over context.program.host v world1) _ _ (items_give context.program.host v world1)
       h1 (λ vs world2 k2 g. g (v ∷ stack))))))
-  iterable_runs recursive loops t e (Some c) run s l pc stack w d is there nth h =
+  iterable_runs recursive numbers t e (Some c) run s l pc stack w d is there nth h =
       let all = context.program.code s.run.stream in
       let pc1 = beyond (pc + 1) (expr_code e) in
       let build = end_at pc1 (pass_round t c) + 1 in
-      let pass_number : loops_before pc1 all ≡ loops = (none_begin loops (straight (i.LoadConst (number (pos 0)) ∷ []) ⨾ expr_code e)
-      ((refl, tt), expr_loopless e) all l pc (is.0, is.1.0) nth).number in
+      let pass_number : loops_before pc1 all ≡ numbers.loops =
+      nth.1.1.0 ∙ ap (λ (m : Numbers). m.loops) (counted_none numbers (expr_code e) (expr_loopless e)) in
       at context (i.LoadConst (number (pos 0))) s pc stack w is.0.0 (after_then context (told s) (tick w) _
       (bind_then context (told s) w (tick w) _ _ _ (tick_gives _ w) h (λ _ world1 k1 h1.
       silent context (told s) _
@@ -343,17 +343,17 @@ module _ (setting : Setting) where
       subst (λ m. LeadsToEnd context (told s) (after (open_loop context.program.host vs pass_flags m world3)
       (λ _ y. goes (number (pos 0) ∷ stack) y (looping (None ∷ s.run.loops) (cfg s pc1 (v ∷ number (pos 0) ∷ stack) world3)))))
       (sym pass_number)
-      (after_then context (told s) (open_loop context.program.host vs pass_flags loops world3) _
-      (opened_follows context (told s) pass_flags loops world3 vs (nat_lt (depth world3.scopes) context.program.host.limit) _ _
+      (after_then context (told s) (open_loop context.program.host vs pass_flags numbers.loops world3) _
+      (opened_follows context (told s) pass_flags numbers.loops world3 vs (nat_lt (depth world3.scopes) context.program.host.limit) _ _
       (λ y. LeadsToEnd context (told s) (goes (number (pos 0) ∷ stack) y (looping (None ∷ s.run.loops)
       (cfg s pc1 (v ∷ number (pos 0) ∷ stack) world3)))) h3 (λ room h4.
       silent context (told s) _
-      (pass_runs t c l pc1 vs vs 0 run s stack world3 (opened pass_flags loops world3 vs) (new_loop vs pass_flags loops world3) deep_last
+      (pass_runs t c l pc1 vs vs 0 run s stack world3 (opened pass_flags numbers.loops world3 vs) (new_loop vs pass_flags numbers.loops world3) deep_last
       room
-      (opened_kept pass_flags loops world3 vs) (new_record pass_flags loops world3 vs)
+      (opened_kept pass_flags numbers.loops world3 vs) (new_record pass_flags numbers.loops world3 vs)
       (record { before = []; same = refl; all = refl; turns = refl }) is.1.1
-      (follows_map context (told s) (selected context.program.host (condition_of run t c) 0 vs (opened pass_flags loops world3 vs)) _ _
-      (bound_follows context (told s) (selected context.program.host (condition_of run t c) 0 vs (opened pass_flags loops world3 vs)) _
+      (follows_map context (told s) (selected context.program.host (condition_of run t c) 0 vs (opened pass_flags numbers.loops world3 vs)) _ _
+      (bound_follows context (told s) (selected context.program.host (condition_of run t c) 0 vs (opened pass_flags numbers.loops world3 vs)) _
       _ h4) (λ us y h5 m em.
       at context (i.BuildList None) s build (number (pos m) ∷ onto us stack) y is.1.1.4.1.0
       (after_then context (told s) (tick y) _ (bind_then context (told s) y (tick y) _ _ _ (tick_gives _ y) h5 (λ _ y1 k6 h6.

@@ -1,12 +1,12 @@
 -- The code of streams and templates comes to what their trees mean.
 use Rattle.std.proofs.Common.{◌≡◌, ℕ, zero, suc, ◌+◌, inl, List, [], ◌∷◌, length, Option, Some, None, Bool}
-use Rattle.std.proofs.Common.{true, false, refl, sym, ap, ◌∙◌, subst, arith, eq-eqb}
+use Rattle.std.proofs.Common.{true, false, refl, sym, ap, ◌∙◌, subst, arith, eq-eqb, eqb-true}
 use Rattle.std.specs.Prelude.{slice_get, nat_eq, option_and_then}
 use Rattle.std.proofs.lemmas.Option.{slice_get_past}
 use Rattle.tm_syntax.specs.declared.instruction.Instruction.TheVariants as i
-use Rattle.tm_syntax.specs.Fragments.{Fragment, beyond, whole_labels, assembled}
-use Rattle.tm_syntax.specs.Code.{statements_code, unnumbered_code}
-use Rattle.tm_meaning.specs.World.{HostValue, World}
+use Rattle.tm_syntax.specs.Fragments.{Fragment, beyond, ending_at, whole_labels, assembled}
+use Rattle.tm_syntax.specs.Code.{statements_code, parameters_code, unnumbered_code}
+use Rattle.tm_meaning.specs.World.{choose, HostValue, World}
 use Rattle.tm_meaning.specs.World.{Res, Good, Bad, tick}
 use Rattle.tm_meaning.specs.World.{captured_text}
 use Rattle.tm_meaning.specs.Calls.{Callee, whole, macro_of}
@@ -14,16 +14,16 @@ use Rattle.tm_meaning.specs.Tree.{Trees}
 use Rattle.tm_meaning.specs.Meaning.{under, again_of, Ending, done, leave, next}
 use Rattle.tm_meaning.specs.Meaning.{fault, Under}
 use Rattle.tm_meaning.specs.Meaning.{capturing}
-use Rattle.tm_meaning.specs.Meaning.{done_by, exec_all}
+use Rattle.tm_meaning.specs.Meaning.{done_by, exec_all, macro_body, macro_run, take_parameters}
 use Rattle.tm_meaning.specs.Meaning.{new_run, at_end, failed, nests_of, rendered}
 use Rattle.tm_meaning.specs.Machine.{new_capture, recursion, Capture as OpenCapture, Finished}
-use Rattle.tm_meaning.specs.Machine.{Stuck, Failed, Over, Program, base_of, run_from, run_of_macro}
-use Rattle.tm_meaning.specs.Steps.{act, begun, finish, Final, final, Leads, over as is_over}
+use Rattle.tm_meaning.specs.Machine.{Stuck, Failed, Over, Program, base_of, run_from, run_of_macro, onto}
+use Rattle.tm_meaning.specs.Steps.{act, begun, finish, return_of, step, Final, final, Leads, over as is_over}
 use Rattle.tm_meaning.specs.Compiled.{IsCompiled, code_of}
 use Rattle.tm_meaning.proofs.Ends.{one_end}
 use Rattle.tm_simulation.specs.Reached.{RunsTo, Renders, text_in, end_by, final_in, final_of, HasLevels}
 use Rattle.tm_syntax.proofs.Standing.{At, beyond_is, stands_whole}
-use Rattle.tm_syntax.specs.Loops.{loops_in, loop_places}
+use Rattle.tm_syntax.specs.Loops.{first_numbers, loops_in, loop_places, pasts, FoundMacro, macros_in}
 use Rattle.tm_values.specs.Val.{Val}
 use Rattle.tm_syntax.specs.Entries.{entries}
 use Rattle.tm_values.specs.declared.error.ErrorKind.TheVariants.{InvalidOperation}
@@ -31,22 +31,27 @@ use Rattle.tm_syntax.specs.CacheNumbers.{numbered}
 use Rattle.tm_simulation.specs.Uncached.{AllUncached, HasNoCaches, with_numbers}
 use Rattle.tm_simulation.proofs.Cached.{begins_too}
 use Rattle.tm_simulation.proofs.Numbered.{IsNumbered, numbered_is}
-use Rattle.tm_simulation.proofs.Begins.{Both, Match, match_at, NoMacros, no_entries}
+use Rattle.tm_simulation.proofs.Counts.{Counts, counts_whole, entries_are, plain_uncached}
+use Rattle.tm_simulation.proofs.Begins.{Both, Paired, paired_at, IsAt, IsEntered, Begins, body_code}
+use Rattle.tm_simulation.proofs.Begins.{Stands as BodyStands}
+use Rattle.tm_simulation.proofs.Declares.{take_parameters_give}
+use Rattle.tm_simulation.proofs.Macros.{parameters_run}
 use Rattle.tm_simulation.proofs.TreeLoops.{statements_begin}
 use Rattle.tm_simulation.proofs.Advances.{Kept, kept_frames, kept_then}
 use Rattle.tm_simulation.proofs.Advances.{within}
 use Rattle.tm_simulation.proofs.Gives.{EndingKeeps, ends_as, tick_gives}
-use Rattle.tm_simulation.proofs.Executes.{execs_end}
+use Rattle.tm_simulation.proofs.Executes.{execs_end, body_ends}
 use Rattle.tm_simulation.proofs.Keeps.{again_end, nests_end}
 use Rattle.tm_simulation.proofs.Follow.{RunContext, LeadsToEnd, follows_map_kept}
 use Rattle.tm_simulation.proofs.Follow.{Bed, air, inside, captures_of, told_by, Spot, told, cfg}
 use Rattle.tm_simulation.proofs.Follow.{later, Follows, Then, Ends, whole_of}
-use Rattle.tm_simulation.proofs.Follow.{ends_map, Go, silent, at, after_then, move}
+use Rattle.tm_simulation.proofs.Follow.{use_then, Go, silent, at, after_then, move}
 use Rattle.tm_simulation.proofs.Forms.{Fits, Stands, end_by as bed_end, end_of, Entered}
 use Rattle.tm_meaning.specs.declared.stream.TemplateId.{TemplateId}
 use Rattle.tm_meaning.specs.declared.stream.StreamId.{StreamId}
 use Rattle.tm_meaning.specs.declared.base.Base.{Base}
-use Rattle.tm_simulation.proofs.Levels.{AllNested, CalledAsValue, CalledInPlace, Setting, none_left, same_captures}
+use Rattle.tm_simulation.proofs.Levels.{AllNested, CalledAsValue, CalledInPlace, DeepIn, Setting, deep_kept, here, none_left}
+use Rattle.tm_simulation.proofs.Levels.{same_captures}
 use Rattle.tm_simulation.proofs.Statements.{stmts_run}
 use Rattle.tm_simulation.proofs.Recursion.{recursed_as_value, recursed_in_place, text_ends}
 
@@ -75,12 +80,21 @@ module _ (p : Program) (trees : Trees) (compiled : IsUnnumbered trees p) where
   abbrev running : Bool → Bed → List ℕ → World → Final → RunContext
   running heard b out w end = in_program (base_of heard (captures_of b out) w) end
 
-  -- behind the last instruction all is closed, and the run is over
-  finishes : (id : StreamId) (heard : Bool) (b : Bed) (out : List ℕ) (w : World) (q : Option TemplateId) (x : List ℕ) (v : World)
-      (end : Final) → Kept w v →
-      end ≡ final (told_by b x) (Finished (captures_of b x) v) →
-      Go (running heard b out w end) (later (spot_of id b out) q x) (length (p.code id)) [] v
-  finishes id heard b out w q x v end k e =
+  -- where a loop that isn't there is left, or goes on
+  abbrev Stops : RunContext → Bed → Then
+  Stops context b q x v = Follows context (told_by b x) (tick v) (λ _ world1. context.final ≡ final (told_by b x)
+      (Finished (captures_of b x) world1))
+
+  -- At this place the run is over, with all closed that it opened.
+  abbrev IsOver : RunContext → Spot → World → ℕ → Type 0
+  IsOver context s w stop =
+      (q : Option TemplateId) (x : List ℕ) (v : World) → Kept w v →
+      context.final ≡ final (told_by s.bed x) (Finished (captures_of s.bed x) v) → Go context (later s q x) stop [] v
+
+  -- behind the last instruction
+  finishes : (id : StreamId) (heard : Bool) (b : Bed) (out : List ℕ) (w : World) (end : Final) →
+      IsOver (running heard b out w end) (spot_of id b out) w (length (p.code id))
+  finishes id heard b out w end q x v k e =
       let f = base_of heard (captures_of b out) w in
       let s = later (spot_of id b out) q x in
       let c = cfg s (length (p.code id)) [] v in
@@ -92,10 +106,17 @@ module _ (p : Program) (trees : Trees) (compiled : IsUnnumbered trees p) where
       let ends : finish (length (p.code id)) f c ≡ Over (Finished (captures_of b x) v) = rw (place, captures, scopes) refl in
       is_over (ap (λ o. act p f o c) past ∙ ends) e
 
-  -- where a loop that isn't there is left, or goes on
-  abbrev Stops : RunContext → Bed → Then
-  Stops context b q x v = Follows context (told_by b x) (tick v) (λ _ world1. context.final ≡ final (told_by b x)
-      (Finished (captures_of b x) world1))
+  -- and at a return
+  returns : (id : StreamId) (heard : Bool) (b : Bed) (out : List ℕ) (w : World) (end : Final) (stop : ℕ) →
+      slice_get (p.code id) stop ≡ Some i.Return → IsOver (running heard b out w end) (spot_of id b out) w stop
+  returns id heard b out w end stop there q x v k e =
+      let f = base_of heard (captures_of b out) w in
+      let s = later (spot_of id b out) q x in
+      let captures : nat_eq (length (captures_of b out)) (length (captures_of b x)) ≡ true = eq-eqb _ _ (same_captures b out x) in
+      let scopes : nat_eq (length w.scopes.frames) (length v.scopes.frames) ≡ true = eq-eqb (length w.scopes.frames)
+      (length v.scopes.frames) (sym (kept_frames k)) in
+      let ends : return_of f (cfg s stop [] v) ≡ Over (Finished (captures_of b x) v) = rw (captures, scopes) refl in
+      at (running heard b out w end) i.Return s stop [] v there (is_over ends e)
 
   stopped_by : (context : RunContext) (b : Bed) (q : Option TemplateId) (x : List ℕ) (v : World) (e : Ending) (m : Res (Unit {0})) →
       context.final ≡ end_of b (done_by m (whole_of e q x v)) →
@@ -103,18 +124,29 @@ module _ (p : Program) (trees : Trees) (compiled : IsUnnumbered trees p) where
   stopped_by context b q x v e (Good _ world1) is = is
   stopped_by context b q x v e (Bad chain world1) is = is
 
-  end_then : (id : StreamId) (heard : Bool) (b : Bed) (out : List ℕ) (w : World) (e : Ending) (q : Option TemplateId) (x : List ℕ)
-      (v : World) → EndingKeeps p.host w e v →
+  -- What a run's statements come to is its end, where that is at this place.
+  end_then : (id : StreamId) (heard : Bool) (b : Bed) (out : List ℕ) (w : World) (stop : ℕ) (e : Ending) (q : Option TemplateId)
+      (x : List ℕ) (v : World) → EndingKeeps p.host w e v →
       let context = running heard b out w (end_of b (at_end e (whole_of e q x v))) in
-      Ends context b (whole_of e q x v) (λ q1 x1 v1. Go context (later (spot_of id b out) q1 x1) (length (p.code id)) [] v1)
+      IsOver context (spot_of id b out) w stop →
+      Ends context b (whole_of e q x v) (λ q1 x1 v1. Go context (later (spot_of id b out) q1 x1) stop [] v1)
       (Stops context b) (Stops context b)
   unfolding Ends
-  end_then id heard b out w done q x v k = finishes id heard b out w q x v _ k refl
-  end_then id heard b out w leave q x v k = stopped_by (running heard b out w (end_of b (at_end leave (whole_of leave q x v)))) b q x v
-      leave (tick v) refl
-  end_then id heard b out w next q x v k = stopped_by (running heard b out w (end_of b (at_end next (whole_of next q x v)))) b q x v next
-      (tick v) refl
-  end_then id heard b out w (fault chain) q x v k = refl
+  end_then id heard b out w stop done q x v k z = z q x v k refl
+  end_then id heard b out w stop leave q x v k z = stopped_by (running heard b out w (end_of b (at_end leave (whole_of leave q x v)))) b q
+      x v leave (tick v) refl
+  end_then id heard b out w stop next q x v k z = stopped_by (running heard b out w (end_of b (at_end next (whole_of next q x v)))) b q x
+      v next (tick v) refl
+  end_then id heard b out w stop (fault chain) q x v k z = refl
+
+  -- a loop that isn't there is left, or goes on, by a jump to where the run is over
+  stops_then : (context : RunContext) (s : Spot) (w : World) (stop : ℕ) → IsOver context s w stop →
+      (q : Option TemplateId) (x : List ℕ) (v : World) (pc : ℕ) → Kept w v →
+      slice_get (context.program.code s.run.stream) pc ≡ Some (i.Jump stop) → Stops context s.bed q x v → Go context (later s q x) pc [] v
+  stops_then context s w stop z q x v pc kept is l =
+      at context (i.Jump stop) (later s q x) pc [] v is (after_then context (told_by s.bed x) (tick v) _
+      (follows_map_kept context (told_by s.bed x) v (tick v) _ _ (tick_gives _ v) l (λ _ v1 k1 e.
+      silent context (told_by s.bed x) _ (z q x v1 (kept_then kept k1) e))))
 
   -- the code of a stream, and that it stands there
   abbrev code_at : StreamId → Fragment
@@ -126,12 +158,31 @@ module _ (p : Program) (trees : Trees) (compiled : IsUnnumbered trees p) where
   stands_at : (id : StreamId) → At (p.code id) (whole_labels (code_at id)) 0 (code_at id)
   stands_at id = subst (λ c. At c (whole_labels (code_at id)) 0 (code_at id)) (sym (coded id)) (stands_whole (code_at id))
 
+  abbrev begins_at : (id : StreamId) →
+      Begins first_numbers (code_at id) (loops_in first_numbers (trees id).row) (macros_in first_numbers (trees id).row)
+      (pasts first_numbers (trees id).row)
+  begins_at id = statements_begin [] first_numbers (trees id).row
+
+  counts_at : (id : StreamId) → Counts (p.code id) first_numbers 0 (code_at id)
+  counts_at id =
+      subst (λ c. Counts c first_numbers 0 (code_at id)) (sym (coded id)) (counts_whole (code_at id) (begins_at id).plain_code)
+
   -- the loops of a stream stand in its code
-  all_match : (id : StreamId) (m : ℕ) → Both (p.code id) (slice_get (loops_in 0 (trees id).row) m) (slice_get (loop_places 0 (p.code id)) m)
+  all_match : (id : StreamId) (m : ℕ) →
+      Both (IsAt (p.code id)) (slice_get (loops_in first_numbers (trees id).row) m) (slice_get (loop_places 0 (p.code id)) m)
   all_match id m =
-      let row = (trees id).row in
-      match_at (p.code id) _ _ m (subst (λ c. Match (p.code id) (loops_in 0 row) (loop_places 0 c)) (sym (coded id))
-      (statements_begin [] 0 row (p.code id) (whole_labels (code_at id)) 0 (stands_at id) refl).found)
+      paired_at (IsAt (p.code id)) _ _ m
+      (subst (λ c. Paired (IsAt (p.code id)) (loops_in first_numbers (trees id).row) (loop_places 0 c)) (sym (coded id))
+      ((begins_at id).found (p.code id) (whole_labels (code_at id)) 0 (stands_at id) (counts_at id)))
+
+  -- and so do its macros
+  all_entered : (id : StreamId) (m : ℕ) →
+      Both (IsEntered (p.code id)) (slice_get (macros_in first_numbers (trees id).row) m) (slice_get (entries (p.code id)) m)
+  all_entered id m =
+      paired_at (IsEntered (p.code id)) _ _ m
+      (subst (λ es. Paired (IsEntered (p.code id)) (macros_in first_numbers (trees id).row) es)
+      (sym (ap entries (coded id) ∙ entries_are (code_at id) (begins_at id).plain_code))
+      ((begins_at id).declared (p.code id) (whole_labels (code_at id)) 0 (stands_at id) (counts_at id)))
 
   -- Loops that are called come behind their calls. Level zero isn't reached: each call opens a scope within the limit, and there is one
   -- level more than the limit.
@@ -165,17 +216,42 @@ module _ (p : Program) (trees : Trees) (compiled : IsUnnumbered trees p) where
         λ m items run s pc stack old w0 w D L N d h g.
             subst (λ q. LeadsToEnd context (told s) (recursion p (cfg s pc old w0) false stack (captures_of s.bed s.out) m
             (slice_get (loop_places 0 (p.code q)) m) items w)) (sym d.2)
-            (recursed_in_place setting (slice_get (loops_in 0 (trees id).row) m) (slice_get (loop_places 0 (p.code id)) m)
+            (recursed_in_place setting (slice_get (loops_in first_numbers (trees id).row) m) (slice_get (loop_places 0 (p.code id)) m)
             (all_match id m) m items run s pc stack old w0 w D L N d h g),
         λ m items run s pc stack old w0 w K d h g.
             let o = again_of p.host nests (trees id) (suc level) m items (capturing true run) [] w in
             subst (λ q. LeadsToEnd context (told s) (recursion p (cfg s pc old w0) true stack (new_capture true ∷ captures_of s.bed s.out) m
             (slice_get (loop_places 0 (p.code q)) m) items w)) (sym d.2)
-            (recursed_as_value setting (slice_get (loops_in 0 (trees id).row) m) (slice_get (loop_places 0 (p.code id)) m)
+            (recursed_as_value setting (slice_get (loops_in first_numbers (trees id).row) m) (slice_get (loop_places 0 (p.code id)) m)
             (all_match id m) m items run s pc stack old w0 w
             (λ q out1 x. K (captured_text out1 x) x) d (text_ends setting s o.ending o.parent o.text o.world K h)
             (λ q out1 x e. g (captured_text out1 x) x e)),
       )
+
+  -- What the code of a stream stands under, up to an end of the run.
+  abbrev setting_of : (n : ℕ) (id : StreamId) (f : Base) (end : Final) → AllNested p trees n → Setting
+  setting_of n id f end below =
+      let calls = again_runs f end n below id (p.host.limit + 1) in
+      record {
+        context = in_program f end;
+        trees = trees;
+        n = n;
+        entered = below;
+        id = id;
+        level = p.host.limit + 1;
+        again = again_of p.host (nests_of p.host trees n) (trees id) (p.host.limit + 1);
+        again_kept = again_end p.host (nests_of p.host trees n) (nests_end p.host trees n) (trees id) (p.host.limit + 1);
+        called_in_place = calls.0;
+        called_as_value = calls.1;
+      }
+
+  deep_at : (n : ℕ) (id : StreamId) (heard : Bool) (b : Bed) (out : List ℕ) (w : World) (end : Final) → HasLevels p.host (suc n) w →
+      DeepIn (running heard b out w end) n id (p.host.limit + 1) (new_run heard w) (spot_of id b out) w
+  deep_at n id heard b out w end deep = (
+    record { nests = deep; scopes = omega arith; calls = omega arith; within_call = λ called. absurd (omega (arith, called)) },
+    stands_start id b out heard w,
+    refl,
+  )
 
   -- A stream's run comes to what its tree means, where what nests does so a level below.
   stream_runs : (n : ℕ) (id : StreamId) (heard : Bool) (b : Bed) (out : List ℕ) (w : World) → HasLevels p.host (suc n) w →
@@ -183,72 +259,110 @@ module _ (p : Program) (trees : Trees) (compiled : IsUnnumbered trees p) where
       Entered p (whole id) heard b out w (nests_of p.host trees (suc n) (whole id) heard out w)
   stream_runs n id heard b out w deep below =
       let nests = nests_of p.host trees n in
-      let again = again_of p.host nests (trees id) (p.host.limit + 1) in
       let kept_again = again_end p.host nests (nests_end p.host trees n) (trees id) (p.host.limit + 1) in
       let u : Under = under p.host nests (trees id) in
-      let o = exec_all u 0 (trees id).row (new_run heard w) out w in
-      let context = running heard b out w (end_of b (at_end o.ending o)) in
-      let s = spot_of id b out in
       let row = (trees id).row in
+      let o = exec_all u first_numbers row (new_run heard w) out w in
+      let end = end_of b (at_end o.ending o) in
+      let context = running heard b out w end in
+      let s = spot_of id b out in
       let c = code_at id in
       let stop = beyond 0 c in
       let size : stop ≡ length (p.code id) = beyond_is (whole_labels c) 0 c ∙ ap (λ is. 0 + length is) (sym (coded id)) ∙ omega arith in
-      let ends = end_then id heard b out w o.ending o.parent o.text o.world
-      (ends_as _ w o (execs_end u (nests_end p.host trees n) kept_again 0 (trees id).row (new_run heard w) out w)) in
-      let placed = ends_map context b o _ (λ q x v. Go context (later s q x) stop [] v) (Stops context b) (Stops context b) ends
-      (λ q x v g. move context (later s q x) _ _ [] v size g) in
-      let stops : (q : Option TemplateId) (x : List ℕ) (v : World) (pc : ℕ) → Kept w v → Unit {0} →
-      slice_get (p.code id) pc ≡ Some (i.Jump stop) → Stops context b q x v → Go context (later s q x) pc [] v =
-      λ q x v pc kept none is l.
-      at context (i.Jump stop) (later s q x) pc [] v is (after_then context (told_by b x) (tick v) _
-      (follows_map_kept context (told_by b x) v (tick v) _ _ (tick_gives _ v) l (λ _ v1 k1 e.
-      silent context (told_by b x) _ (move context (later s q x) _ _ [] v1 size
-      (finishes id heard b out w q x v1 context.final (kept_then kept k1) e))))) in
-      let calls = again_runs context.base context.final n below id (p.host.limit + 1) in
-      let setting : Setting = record {
-        context = context;
-        trees = trees;
-        n = n;
-        entered = below;
-        id = id;
-        level = p.host.limit + 1;
-        again = again;
-        again_kept = kept_again;
-        called_in_place = calls.0;
-        called_as_value = calls.1;
-      } in
-      stmts_run setting [] 0 (whole_labels c) row (new_run heard w) s 0 [] w (Stops context b) (Stops context b)
-      (stands_start id b out heard w) (
-        record { nests = deep; scopes = omega arith; calls = omega arith; within_call = λ called. absurd (omega (arith, called)) },
-        stands_start id b out heard w,
-        refl,
+      let is_over_there : IsOver context s w stop =
+      λ q x v k e. move context (later s q x) stop (length (p.code id)) [] v size (finishes id heard b out w end q x v k e) in
+      let ends = end_then id heard b out w stop o.ending o.parent o.text o.world
+      (ends_as _ w o (execs_end u (nests_end p.host trees n) kept_again first_numbers row (new_run heard w) out w)) is_over_there in
+      stmts_run (setting_of n id (base_of heard (captures_of b out) w) end below) [] first_numbers (whole_labels c) row (new_run heard w) s
+      0 [] w (Stops context b) (Stops context b) (stands_start id b out heard w) (deep_at n id heard b out w end deep) (
+        λ q x v pc k none is e. stops_then context s w stop is_over_there q x v pc k is e,
+        λ q x v pc k none is e. stops_then context s w stop is_over_there q x v pc k is e,
       )
-      (stops, stops) (stands_at id) refl placed
+      (stands_at id) (counts_at id) ends
 
-  -- No tree declares a macro yet, so no stream has a run of one.
-  no_macro_runs : (id : StreamId) (m : ℕ) (given : List Val) (heard : Bool) (b : Bed) (out : List ℕ) (w : World) →
-      Entered p (macro_of id m given) heard b out w (failed InvalidOperation (new_run heard w) out w)
-  no_macro_runs id m given heard b out w =
-      let row = (trees id).row in
-      let c = code_at id in
-      let none : NoMacros (assembled c) = (statements_begin [] 0 row (assembled c) (whole_labels c) 0 (stands_whole c) refl).macroless in
-      let empty : entries (p.code id) ≡ [] = ap entries (coded id) ∙ no_entries None (assembled c) none in
+  -- So does the run of a macro that is there, over as many arguments as it takes.
+  body_runs : (n : ℕ) (id : StreamId) (m : FoundMacro) (place : ℕ) → BodyStands (p.code id) m place → (given : List Val) →
+      length m.parameters ≡ length given → (heard : Bool) (b : Bed) (out : List ℕ) (w : World) → HasLevels p.host (suc n) w →
+      AllNested p trees n →
       let f = base_of heard (captures_of b out) w in
-      let floor = length (captures_of b out) in
-      subst (λ es. Leads p f (told_by b out) (begun p f (option_and_then (run_of_macro id given floor) (slice_get es m)) (captures_of b out) w)
-      (final (told_by b out) (Failed (InvalidOperation ∷ []) w))) (sym empty) (is_over refl refl)
+      let o = macro_body (under p.host (nests_of p.host trees n) (trees id)) m given (new_run heard w) out w in
+      Leads p f (told_by b out) (step p f (cfg (spot_of id b out) place (onto given []) w)) (end_of b (at_end o.ending o))
+  body_runs n id m place there given many heard b out w deep below =
+      let nests = nests_of p.host trees n in
+      let nest_ends = nests_end p.host trees n in
+      let kept_again = again_end p.host nests nest_ends (trees id) (p.host.limit + 1) in
+      let u : Under = under p.host nests (trees id) in
+      let run = new_run heard w in
+      let o = macro_body u m given run out w in
+      let end = end_of b (at_end o.ending o) in
+      let f = base_of heard (captures_of b out) w in
+      let context = running heard b out w end in
+      let s = spot_of id b out in
+      let stop = beyond place (body_code m) in
+      let start = beyond place (parameters_code m.parameters) in
+      let l = ending_at stop in
+      let setting = setting_of n id f end below in
+      let deep_here = deep_at n id heard b out w end deep in
+      let is_over_there = returns id heard b out w end stop there.exit in
+      let ends = end_then id heard b out w stop o.ending o.parent o.text o.world
+      (ends_as _ w o (body_ends u nest_ends kept_again m given run out w)) is_over_there in
+      parameters_run setting m.parameters given run s l place [] w many (here setting run s w deep_here) there.code.0
+      (use_then context b w (take_parameters u run m.parameters given w) run out (λ _ v. exec_all u m.at m.body.row run out v)
+      (λ q x v. Go context (later s q x) stop [] v) (Stops context b) (Stops context b) _
+      (take_parameters_give u nest_ends kept_again run m.parameters given w) ends (λ _ v k h.
+      stmts_run setting [] m.at l m.body.row run s start [] v (Stops context b) (Stops context b) (stands_start id b out heard w)
+      (deep_kept setting run s k deep_here) (
+        λ q x v1 pc k1 none is e. stops_then context s w stop is_over_there q x v1 pc (kept_then k k1) is e,
+        λ q x v1 pc k1 none is e. stops_then context s w stop is_over_there q x v1 pc (kept_then k k1) is e,
+      )
+      there.code.1 there.numbered h))
+
+  counted_runs : (n : ℕ) (id : StreamId) (m : FoundMacro) (place count : ℕ) → count ≡ length m.parameters →
+      BodyStands (p.code id) m place → (given : List Val) (heard : Bool) (b : Bed) (out : List ℕ) (w : World) →
+      HasLevels p.host (suc n) w → AllNested p trees n → (many : Bool) → nat_eq (length m.parameters) (length given) ≡ many →
+      let f = base_of heard (captures_of b out) w in
+      let o = macro_body (under p.host (nests_of p.host trees n) (trees id)) m given (new_run heard w) out w in
+      Leads p f (told_by b out)
+      (begun p f (choose many (λ _. Some (record (run_from id (length (captures_of b out))) { place = place; operands = onto given [] }))
+      (λ _. None)) (captures_of b out) w)
+      (end_of b (choose many (λ _. at_end o.ending o) (λ _. failed InvalidOperation (new_run heard w) out w)))
+  counted_runs n id m place count same there given heard b out w deep below false e = is_over refl refl
+  counted_runs n id m place count same there given heard b out w deep below true e =
+      body_runs n id m place there given (eqb-true (length m.parameters) (length given) e) heard b out w deep below
+
+  macro_runs : (n : ℕ) (id : StreamId) (om : Option FoundMacro) (oe : Option (ℕ × ℕ)) → Both (IsEntered (p.code id)) om oe →
+      (given : List Val) (heard : Bool) (b : Bed) (out : List ℕ) (w : World) → HasLevels p.host (suc n) w → AllNested p trees n →
+      let f = base_of heard (captures_of b out) w in
+      Leads p f (told_by b out)
+      (begun p f (option_and_then (run_of_macro id given (length (captures_of b out))) oe) (captures_of b out) w)
+      (end_of b (macro_run (under p.host (nests_of p.host trees n) (trees id)) om given (new_run heard w) out w))
+  macro_runs n id None None both given heard b out w deep below = is_over refl refl
+  macro_runs n id None (Some e) both given heard b out w deep below = absurd both
+  macro_runs n id (Some m) None both given heard b out w deep below = absurd both
+  macro_runs n id (Some m) (Some e) both given heard b out w deep below =
+      let f = base_of heard (captures_of b out) w in
+      subst (λ k. Leads p f (told_by b out)
+      (begun p f (choose (nat_eq k (length given))
+      (λ _. Some (record (run_from id (length (captures_of b out))) { place = e.0; operands = onto given [] })) (λ _. None))
+      (captures_of b out) w)
+      (end_of b (macro_run (under p.host (nests_of p.host trees n) (trees id)) (Some m) given (new_run heard w) out w))) (sym both.0)
+      (counted_runs n id m e.0 e.1 both.0 both.1 given heard b out w deep below (nat_eq (length m.parameters) (length given)) refl)
 
   -- What nests comes to what it means. Level zero isn't reached, since a run stands one level deeper than the one that needs it, within the
   -- limit.
   nests_run : (n : ℕ) → AllNested p trees n
   nests_run zero k heard b out w deep within = absurd (omega (arith, deep, within))
-  nests_run (suc n) (macro_of id m given) heard b out w deep within = no_macro_runs id m given heard b out w
+  nests_run (suc n) (macro_of id m given) heard b out w deep within =
+      macro_runs n id (slice_get (macros_in first_numbers (trees id).row) m) (slice_get (entries (p.code id)) m) (all_entered id m) given
+      heard b out w deep (nests_run n)
   nests_run (suc n) (whole id) heard b out w deep within = stream_runs n id heard b out w deep (nests_run n)
 
   -- And so does any run that has levels enough, from any world, heard or not.
   level_runs : (n : ℕ) (k : Callee) (heard : Bool) (b : Bed) (out : List ℕ) (w : World) → HasLevels p.host (suc n) w →
       Entered p k heard b out w (nests_of p.host trees (suc n) k heard out w)
-  level_runs n (macro_of id m given) heard b out w deep = no_macro_runs id m given heard b out w
+  level_runs n (macro_of id m given) heard b out w deep =
+      macro_runs n id (slice_get (macros_in first_numbers (trees id).row) m) (slice_get (entries (p.code id)) m) (all_entered id m) given
+      heard b out w deep (nests_run n)
   level_runs n (whole id) heard b out w deep = stream_runs n id heard b out w deep (nests_run n)
 
   -- A render's run comes to what its trees mean.
@@ -298,7 +412,7 @@ unnumbered trees p = record { host = p.host; code = λ s. unnumbered_code (trees
 uncached : (trees : Trees) (s : StreamId) → AllUncached (unnumbered_code (trees s).row)
 uncached trees s =
     let c = statements_code [] (trees s).row in
-    (statements_begin [] 0 (trees s).row (assembled c) (whole_labels c) 0 (stands_whole c) refl).uncached
+    plain_uncached (whole_labels c) 0 c (statements_begin [] first_numbers (trees s).row).plain_code
 
 numbered_streams : (trees : Trees) (p : Program) → IsCompiled trees p → (s : StreamId) →
     IsNumbered (unnumbered_code (trees s).row) (p.code s)

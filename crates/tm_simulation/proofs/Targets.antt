@@ -35,7 +35,8 @@ use Rattle.tm_meaning.specs.Machine.{goes, asked_in_place}
 use Rattle.tm_meaning.specs.Machine.{stuck}
 use Rattle.tm_meaning.specs.Instructions.{end_capture_of, is_no_loop}
 use Rattle.tm_syntax.proofs.Standing.{HasAt}
-use Rattle.tm_syntax.specs.Loops.{loops_before}
+use Rattle.tm_syntax.specs.Loops.{Numbers}
+use Rattle.tm_simulation.proofs.Counts.{Counts}
 use Rattle.tm_simulation.proofs.Advances.{Kept, kept_top, kept_frames, kept_then, kept_popped}
 use Rattle.tm_simulation.proofs.Advances.{within}
 use Rattle.tm_simulation.proofs.Advances.{kept_unescaped}
@@ -291,10 +292,10 @@ module _ (setting : Setting) where
   )
 
   -- The code of statements comes behind itself with what they mean, or to their fault.
-  abbrev pub StmtsRun : {m : _} → ℕ → Labels → List Opened → Row_of-Stmt m → Type 1
-  StmtsRun loops l os ss =
+  abbrev pub StmtsRun : {m : _} → Numbers → Labels → List Opened → Row_of-Stmt m → Type 1
+  StmtsRun numbers l os ss =
       (run : Run) (s : Spot) (pc : ℕ) (stack : List Val) (w : World) (L N : Then) → Stands context.base run s → Deep setting run s w →
       Around l os s stack w L N → In setting s l pc (statements_code os ss) →
-      loops_before pc (context.program.code s.run.stream) ≡ loops →
-      Ends context s.bed (exec_all u loops ss (as_at run s) s.out w) (λ q out1 world1. Go context (later s q out1)
+      Counts (context.program.code s.run.stream) numbers pc (statements_code os ss) →
+      Ends context s.bed (exec_all u numbers ss (as_at run s) s.out w) (λ q out1 world1. Go context (later s q out1)
       (beyond pc (statements_code os ss)) stack world1) L N → Go context s pc stack w

@@ -1,6 +1,6 @@
--- The loops of a tree stand in its code, each at its number.
+-- The loops and macros of a tree stand in its code, each at its number.
 use Rattle.std.proofs.Common.{◌≡◌, ℕ, zero, suc, ◌+◌, ◌⊎◌, inl, inr, List, [], ◌∷◌, Option, Some, None, Bool, true, false, ◌++◌}
-use Rattle.std.proofs.Common.{refl, sym, ap, subst}
+use Rattle.std.proofs.Common.{refl, sym, ap, subst, length}
 use Rattle.std.proofs.Common.{arith}
 use Rattle.std.proofs.lemmas.List.{append-nil}
 use Rattle.tm_syntax.specs.declared.instruction.Instruction.{Instruction}
@@ -25,10 +25,11 @@ use Rattle.tm_syntax.specs.declared.tree.AssignmentTarget.{AssignmentTarget, Nam
 use Rattle.tm_syntax.specs.declared.tree.AssignmentTarget.{Row_of-AssignmentTarget}
 use Rattle.tm_syntax.specs.declared.tree.AssignmentTarget.{end_of-AssignmentTarget as no_target, more_of-AssignmentTarget as target}
 use Rattle.tm_syntax.specs.declared.tree.Assignment.{Assignment}
+use Rattle.tm_syntax.specs.declared.tree.Parameter.{Parameter}
 use Rattle.tm_syntax.specs.declared.tree.CaptureUse.{CaptureUse}
 use Rattle.tm_syntax.specs.declared.tree.CaptureUse.TheVariants as uses
 use Rattle.tm_syntax.specs.declared.tree.Stmt.{Stmt, EmitRaw, EmitExpr, EmitLoop, If', For', Break, Continue, Block', Set, CaptureBlock'}
-use Rattle.tm_syntax.specs.declared.tree.Stmt.{With', Do, AutoEscape', Row_of-Stmt, end_of-Stmt as no_statement}
+use Rattle.tm_syntax.specs.declared.tree.Stmt.{With', Do, AutoEscape', Macro', CallBlock', Row_of-Stmt, end_of-Stmt as no_statement}
 use Rattle.tm_syntax.specs.declared.tree.Stmt.{more_of-Stmt as statement, Held-Stmt-If-2 as Otherwise, None' as no_else}
 use Rattle.tm_syntax.specs.declared.tree.Stmt.{Some' as otherwise}
 use Rattle.tm_syntax.specs.declared.opened.Opened.{Opened}
@@ -36,19 +37,25 @@ use Rattle.tm_syntax.specs.declared.opened.Opened.TheVariants.{Scope as a_scope,
 use Rattle.tm_syntax.specs.Forms.{unary, chained, conditional, with_condition, with_comparison, with_pair, plain, spread, keyword}
 use Rattle.tm_syntax.specs.Forms.{spread_keywords, item, slice, binary, compare, and_then, or_else}
 use Rattle.tm_syntax.specs.Code.{unary_code, binary_code, application_code, passed_count, merging, passing_by, close_all, for_flags}
+use Rattle.tm_syntax.specs.Code.{RowEnd, row_end, caller_end, passing_code, step_call_code, steps_call_code, call_code, called_alone}
+use Rattle.tm_syntax.specs.Code.{together}
 use Rattle.tm_syntax.specs.Code.{list_of_row, map_of_row, merged_code, has_spread, has_spread_keyword, row_behind, keywords_behind}
 use Rattle.tm_syntax.specs.Blocks.{body_of}
-use Rattle.tm_syntax.specs.Loops.{FoundLoop, with_pass, within_loop, passes, past, pasts, past_else, loops_of, loops_in, loops_else}
-use Rattle.tm_syntax.specs.Fragments.{Fragment, straight, ◌⨾◌, looped, Labels}
+use Rattle.tm_syntax.specs.Loops.{Numbers, FoundLoop, FoundMacro, with_pass, within_loop, within_macro, passes, past, pasts, past_else}
+use Rattle.tm_syntax.specs.Loops.{loops_of, loops_in, loops_else, macros_of, macros_in, macros_else}
+use Rattle.tm_syntax.specs.Fragments.{Fragment, straight, ◌⨾◌, looped, declares, Labels, beyond}
+use Rattle.tm_syntax.specs.Names.{parameter_names}
 use Rattle.tm_syntax.specs.declared.jump.JumpKind.TheVariants.{IfFalse}
 use Rattle.tm_syntax.specs.Code.{expr_code, conditions_code, exprs_code, pairs_code, argument_code}
 use Rattle.tm_syntax.specs.Code.{arguments_code, listed_code, lists_code, keyword_code, keywords_code, step_code, links_code}
 use Rattle.tm_syntax.specs.Code.{steps_code, target_code}
 use Rattle.tm_syntax.specs.Code.{targets_code, set_code, assignments_code, iterable_code, pass_round, statement_code, statements_code}
-use Rattle.tm_syntax.specs.Code.{branches_code, after_loop_code, filters_code, use_code}
+use Rattle.tm_syntax.specs.Code.{branches_code, after_loop_code, filters_code, use_code, default_code, parameters_code, macro_head}
 use Rattle.tm_syntax.proofs.Standing.{HasAt, At}
-use Rattle.tm_simulation.proofs.Begins.{Begins, IsLoop, NoneBegins, Loopless, both_begin, loop_begins, none_begin, after_none}
-use Rattle.tm_simulation.proofs.Begins.{before_none, over_begins, either_begins}
+use Rattle.std.specs.Prelude.{codes}
+use Rattle.tm_simulation.proofs.Counts.{NoneBegins, Loopless, Counts, one_loop_more, counted_none, Has, it, front, back}
+use Rattle.tm_simulation.proofs.Begins.{Begins, IsLoop, IsMacro, both_begin, loop_begins, macro_begins, none_begin, after_none}
+use Rattle.tm_simulation.proofs.Begins.{before_none, over_begins, either_begins, one_part_begins}
 
 -- ---------------------------------------------------------------- expressions begin none
 unary_loopless : (op : UnaryOperator) → NoneBegins (unary_code op ∷ [])
@@ -80,7 +87,7 @@ merged_loopless true n = (refl, tt)
 
 passing_loopless : {n m : _} → (b : Bool) (before : ℕ) (given : Row_of-Argument n) (named : Row_of-Keyword m) (by_place by_name : Fragment)
     (lists : Fragment → Fragment) → Loopless by_place → Loopless by_name → Loopless (lists by_name) →
-    Loopless (passing_by b before given named by_place by_name lists)
+    Loopless (passing_by row_end b before given named by_place by_name lists)
 passing_loopless false before given named by_place by_name lists h k m = (h, k)
 passing_loopless true before given named by_place by_name lists h k m = (m, (refl, tt))
 
@@ -92,7 +99,7 @@ mutual
   expr_loopless (Tuple' _ es) = (exprs_loopless es, (refl, tt))
   expr_loopless (Map' _ ps) = (pairs_loopless ps, (refl, tt))
   expr_loopless (Call' f _ given _ named) =
-      let by_name : Loopless (merging named (keywords_code 0 named)) = (keywords_loopless 0 named, merged_loopless (has_spread_keyword named) _) in (
+      let by_name : Loopless (merging row_end named (keywords_code row_end 0 named)) = (keywords_loopless 0 named, merged_loopless (has_spread_keyword named) _) in (
         passing_loopless (has_spread given) 0 given named _ _ _ (arguments_loopless given) by_name
             (lists_loopless 0 given _ _ by_name),
         (refl, tt),
@@ -117,7 +124,7 @@ mutual
   argument_loopless (plain a) = expr_loopless a
   argument_loopless (spread a) = expr_loopless a
 
-  arguments_loopless : {n : _} → (given : Row_of-Argument n) → Loopless (arguments_code given)
+  pub arguments_loopless : {n : _} → (given : Row_of-Argument n) → Loopless (arguments_code given)
   arguments_loopless no_argument = tt
   arguments_loopless (argument a more) = (argument_loopless a, arguments_loopless more)
 
@@ -135,21 +142,21 @@ mutual
   keyword_loopless n (keyword x a) = ((refl, tt), expr_loopless a)
   keyword_loopless n (spread_keywords a) = (map_loopless n, expr_loopless a)
 
-  keywords_loopless : {n : _} → (before : ℕ) (ks : Row_of-Keyword n) → Loopless (keywords_code before ks)
+  keywords_loopless : {n : _} → (before : ℕ) (ks : Row_of-Keyword n) → Loopless (keywords_code row_end before ks)
   keywords_loopless before no_keyword = map_loopless before
   keywords_loopless before (keyword_and k more) = (keyword_loopless before k, keywords_loopless (keywords_behind before k) more)
 
-  step_loopless : (s : Step) → Loopless (step_code s)
+  pub step_loopless : (s : Step) → Loopless (step_code s)
   step_loopless (Attribute x) = (refl, tt)
   step_loopless (item a) = (expr_loopless a, (refl, tt))
   step_loopless (Apply' k x _ given _ named) =
-      let by_name : Loopless (merging named (keywords_code 0 named)) = (keywords_loopless 0 named, merged_loopless (has_spread_keyword named) _) in (
+      let by_name : Loopless (merging row_end named (keywords_code row_end 0 named)) = (keywords_loopless 0 named, merged_loopless (has_spread_keyword named) _) in (
         passing_loopless (has_spread given) 1 given named _ _ _ (arguments_loopless given) by_name
             (lists_loopless 1 given _ _ by_name),
-        application_loopless k x (passed_count 1 given named),
+        application_loopless k x (passed_count row_end 1 given named),
       )
   step_loopless (Called _ given _ named) =
-      let by_name : Loopless (merging named (keywords_code 0 named)) = (keywords_loopless 0 named, merged_loopless (has_spread_keyword named) _) in (
+      let by_name : Loopless (merging row_end named (keywords_code row_end 0 named)) = (keywords_loopless 0 named, merged_loopless (has_spread_keyword named) _) in (
         passing_loopless (has_spread given) 1 given named _ _ _ (arguments_loopless given) by_name
             (lists_loopless 1 given _ _ by_name),
         (refl, tt),
@@ -205,13 +212,79 @@ behind_exit : (all : List Instruction) (l : Labels) (end : ℕ) (os : List Opene
 behind_exit all l end os no_else h = inl h
 behind_exit all l end os (otherwise _ body) h = inr h.0
 
-abbrev pub found : {n : _} → ℕ → Option Expr → Bool → AssignmentTarget → Row_of-Stmt n → FoundLoop
+-- ---------------------------------------------------------------- nor do the parameters of macros
+default_loopless : (default : Option Expr) → Loopless (default_code default)
+default_loopless None = tt
+default_loopless (Some e) = ((refl, (refl, tt)), (tt, ((refl, tt), expr_loopless e)))
+
+pub parameters_loopless : (ps : List Parameter) → Loopless (parameters_code ps)
+parameters_loopless [] = tt
+parameters_loopless (p ∷ ps) = (parameters_loopless ps, (default_loopless p.default, (refl, tt)))
+
+pub names_as_many : (ps : List Parameter) → length (parameter_names ps) ≡ length ps
+names_as_many [] = refl
+names_as_many (p ∷ ps) = ap suc (names_as_many ps)
+
+-- ---------------------------------------------------------------- calls have the macro that they are given
+module _ (x : Fragment) where
+  -- the value of `caller` among the arguments by their names
+  end_has : (n : ℕ) → Has x ((caller_end x).code n)
+  end_has n = back (refl, tt) (front it (refl, tt))
+
+  keywords_have : {n : _} → (before : ℕ) (ks : Row_of-Keyword n) → Has x (keywords_code (caller_end x) before ks)
+  keywords_have before no_keyword = end_has before
+  keywords_have before (keyword_and k more) = back (keyword_loopless before k) (keywords_have (keywords_behind before k) more)
+
+  lists_have : {n : _} → (before : ℕ) (given : Row_of-Argument n) (more : ℕ) (by_name : Fragment) → Has x by_name →
+      Has x (lists_code before given more by_name)
+  lists_have before no_argument more by_name h = front h (list_loopless (before + more))
+  lists_have before (argument a rest) more by_name h =
+      back (listed_loopless before a) (lists_have (row_behind before a) rest more by_name h)
+
+  passing_has_by : {n m : _} → (b : Bool) (before : ℕ) (given : Row_of-Argument n) (named : Row_of-Keyword m) (by_place by_name : Fragment)
+      (lists : Fragment → Fragment) → Loopless by_place → Has x by_name → Has x (lists by_name) →
+      Has x (passing_by (caller_end x) b before given named by_place by_name lists)
+  passing_has_by false before given named by_place by_name lists h k m = back h k
+  passing_has_by true before given named by_place by_name lists h k m = front m (refl, tt)
+
+  passing_has : {n m : _} → (before : ℕ) (given : Row_of-Argument n) (named : Row_of-Keyword m) →
+      Has x (passing_code (caller_end x) before given named)
+  passing_has before given named =
+      let by_name = front (keywords_have 0 named) (merged_loopless (has_spread_keyword named) _) in
+      passing_has_by (has_spread given) before given named (arguments_code given) _ _ (arguments_loopless given) by_name
+      (lists_have before given (together (caller_end x) named) _ by_name)
+
+  alone_has : Has x (called_alone (caller_end x))
+  alone_has = front (end_has 0) (refl, tt)
+
+  step_call_has : (s : Step) → Has x (step_call_code (caller_end x) s)
+  step_call_has (Apply' k f _ given _ named) =
+      front (passing_has 1 given named) (application_loopless k f (passed_count (caller_end x) 1 given named))
+  step_call_has (Called _ given _ named) = front (passing_has 1 given named) (refl, tt)
+  step_call_has s = back (step_loopless s) alone_has
+
+  steps_call_have : {n : _} → (ss : Row_of-Step n) → Has x (steps_call_code (caller_end x) ss)
+  steps_call_have no_step = alone_has
+  steps_call_have (step s no_step) = step_call_has s
+  steps_call_have (step s (step t more)) = back (step_loopless s) (steps_call_have (step t more))
+
+  pub call_has : (e : Expr) → Has x (call_code (caller_end x) e)
+  call_has (Call' f _ given _ named) = front (passing_has 0 given named) (refl, tt)
+  call_has (chained a _ ss) = back (expr_loopless a) (steps_call_have ss)
+  call_has e = back (expr_loopless e) alone_has
+
+-- ---------------------------------------------------------------- loops and macros that are found
+abbrev pub found : {n : _} → Numbers → Option Expr → Bool → AssignmentTarget → Row_of-Stmt n → FoundLoop
 found at c r t body = record { recursive = r; target = t; body = body_of body; at = within_loop c at }
 
-is_loop : {n : _} → (os : List Opened) (at : ℕ) (c : Option Expr) (r : Bool) (t : AssignmentTarget) (body : Row_of-Stmt n)
+-- behind the pass of a condition
+abbrev pub behind_pass : Option Expr → Numbers → Numbers
+behind_pass c at = record at { loops = at.loops + passes c }
+
+is_loop : {n : _} → (os : List Opened) (at : Numbers) (c : Option Expr) (r : Bool) (t : AssignmentTarget) (body : Row_of-Stmt n)
     (other : Otherwise) →
-    IsLoop (found at c r t body) (at + passes c) (for_flags r) (target_code t ⨾ statements_code [] body) (after_loop_code os other)
-is_loop os at c r t body other all l pc is first = (
+    IsLoop (found at c r t body) (behind_pass c at) (for_flags r) (target_code t ⨾ statements_code [] body) (after_loop_code os other)
+is_loop os at c r t body other all l pc is n = (
   refl,
   λ yes. (
     ap for_flags yes,
@@ -220,9 +293,25 @@ is_loop os at c r t body other all l pc is first = (
       after = after_loop_code os other;
       code = subst (λ b. At all l pc (looped (for_flags b) (target_code t ⨾ statements_code [] body) (after_loop_code os other))) yes is;
       exit = behind_exit all l _ os other is.4;
-      numbered = (none_begin (within_loop c at) (target_code t) (target_loopless t) all _ (pc + 1 + 1) is.2.0 first).number;
+      numbered =
+          subst (λ m. Counts all m (beyond (pc + 1 + 1) (target_code t)) (statements_code [] body))
+          (counted_none (within_loop c at) (target_code t) (target_loopless t)) n.1;
     },
   ),
+)
+
+is_macro : {n : _} → (at : Numbers) (x : List ℕ) (ps : List Parameter) (body : Row_of-Stmt n) →
+    IsMacro (record { parameters = ps; body = body_of body; at = within_macro at }) at (macro_head x ps body)
+    (parameters_code ps ⨾ statements_code [] body)
+is_macro at x ps body all pc is exit n = (
+  names_as_many ps,
+  record {
+    code = is;
+    exit = exit;
+    numbered =
+        subst (λ m. Counts all m (beyond (pc + 1) (parameters_code ps)) (statements_code [] body))
+        (counted_none (within_macro at) (parameters_code ps) (parameters_loopless ps)) n.1;
+  },
 )
 
 pass_loopless : (t : AssignmentTarget) (c : Expr) → Loopless (pass_round t c)
@@ -233,26 +322,29 @@ abbrev pass_of : Option Expr → FoundLoop → List FoundLoop
 pass_of None l = []
 pass_of (Some c) l = record l { recursive = false } ∷ []
 
-pub iterable_begins : (at : ℕ) (t : AssignmentTarget) (e : Expr) (c : Option Expr) (l : FoundLoop) →
-    Begins at (iterable_code t e c) (pass_of c l) (at + passes c)
-iterable_begins at t e None l = let none : at ≡ at + 0 = omega arith in subst (λ n. Begins at (expr_code e) [] n) none
-    (none_begin at (expr_code e) (expr_loopless e))
+pub iterable_begins : (at : Numbers) (t : AssignmentTarget) (e : Expr) (c : Option Expr) (l : FoundLoop) →
+    Begins at (iterable_code t e c) (pass_of c l) [] (behind_pass c at)
+iterable_begins at t e None l =
+    let none : at.loops ≡ at.loops + 0 = omega arith in
+    subst (λ n. Begins at (expr_code e) [] [] (record at { loops = n })) none (none_begin at (expr_code e) (expr_loopless e))
 iterable_begins at t e (Some c) l =
     after_none (straight _) (refl, tt) (after_none (expr_code e) (expr_loopless e)
     (loop_begins {f = record l { recursive = false }} (λ all k pc is first. (refl, λ never. absurd (cc never)))
-    (none_begin (at + 1) (pass_round t c) (pass_loopless t c)) (none_begin (at + 1) (straight _) (refl, (refl, tt)))))
+    (none_begin (one_loop_more at) (pass_round t c) (pass_loopless t c)) (none_begin (one_loop_more at) (straight _) (refl, (refl, tt)))))
 
 with_pass_is : (c : Option Expr) (l : FoundLoop) (ls : List FoundLoop) → pass_of c l ++ l ∷ ls ≡ with_pass c l ls
 with_pass_is None l ls = refl
 with_pass_is (Some c) l ls = refl
 
 mutual
-  pub statement_begins : (os : List Opened) (at : ℕ) (s : Stmt) → Begins at (statement_code os s) (loops_of at s) (past at s)
+  pub statement_begins : (os : List Opened) (at : Numbers) (s : Stmt) →
+      Begins at (statement_code os s) (loops_of at s) (macros_of at s) (past at s)
   statement_begins os at (EmitRaw t) = none_begin at (statement_code os (EmitRaw t)) (refl, tt)
   statement_begins os at (EmitExpr e) = none_begin at (statement_code os (EmitExpr e)) (expr_loopless e, (refl, tt))
   statement_begins os at (EmitLoop e) = none_begin at (statement_code os (EmitLoop e)) (expr_loopless e, (refl, tt))
   statement_begins os at (If' c _ body other) = after_none (expr_code c) (expr_loopless c)
-      (branches_begin os at (statements_code os body) (loops_in at body) (pasts at body) (statements_begin os at body) other)
+      (branches_begin os at (statements_code os body) (loops_in at body) (macros_in at body) (pasts at body) (statements_begin os at body)
+      other)
   statement_begins os at Break = none_begin at (statement_code os Break) (closed_loopless os, tt)
   statement_begins os at Continue = none_begin at (statement_code os Continue) (closed_loopless os, tt)
   statement_begins os at (Block' x _ body) = none_begin at (straight (i.CallBlock x ∷ [])) (refl, tt)
@@ -271,24 +363,34 @@ mutual
       let l = found at c r t body in
       let m = within_loop c at in
       let rounds = after_none (target_code t) (target_loopless t) (statements_begin [] m body) in
-      subst (λ ls. Begins at (statement_code os (For' t e c r n body other)) ls (past at (For' t e c r n body other)))
+      subst (λ ls. Begins at (statement_code os (For' t e c r n body other)) ls (macros_of at (For' t e c r n body other))
+      (past at (For' t e c r n body other)))
       (with_pass_is c l (loops_in m body ++ loops_else (pasts m body) other))
       (both_begin (iterable_begins at t e c l) (loop_begins (is_loop os at c r t body other) rounds
       (behind_loop_begins os (pasts m body) other)))
+  statement_begins os at (Macro' x ps _ body) =
+      let inner = after_none (parameters_code ps) (parameters_loopless ps) (statements_begin [] (within_macro at) body) in
+      before_none (straight (i.StoreLocal x ∷ [])) (refl, tt) (macro_begins (is_macro at x ps body) inner)
+  statement_begins os at (CallBlock' e ps _ body) =
+      let inner = after_none (parameters_code ps) (parameters_loopless ps) (statements_begin [] (within_macro at) body) in
+      before_none (straight (i.Emit ∷ [])) (refl, tt)
+      (one_part_begins (call_has _ e) (macro_begins (is_macro at (codes "caller") ps body) inner))
 
-  pub statements_begin : {n : _} → (os : List Opened) (at : ℕ) (ss : Row_of-Stmt n) →
-      Begins at (statements_code os ss) (loops_in at ss) (pasts at ss)
+  pub statements_begin : {n : _} → (os : List Opened) (at : Numbers) (ss : Row_of-Stmt n) →
+      Begins at (statements_code os ss) (loops_in at ss) (macros_in at ss) (pasts at ss)
   statements_begin os at no_statement = none_begin at (straight []) tt
   statements_begin os at (statement s ss) = both_begin (statement_begins os at s) (statements_begin os (past at s) ss)
 
-  branches_begin : (os : List Opened) (at : ℕ) (first : Fragment) (ls : List FoundLoop) (m : ℕ) → Begins at first ls m →
-      (other : Otherwise) → Begins at (branches_code os first other) (ls ++ loops_else m other) (past_else m other)
-  branches_begin os at first ls m f no_else = subst (λ ks. Begins at (branches_code os first no_else) ks m) (sym (append-nil ls))
-      (over_begins IfFalse f)
-  branches_begin os at first ls m f (otherwise _ eb) = either_begins f (statements_begin os m eb)
+  branches_begin : (os : List Opened) (at : Numbers) (first : Fragment) (ls : List FoundLoop) (ms : List FoundMacro) (m : Numbers) →
+      Begins at first ls ms m → (other : Otherwise) →
+      Begins at (branches_code os first other) (ls ++ loops_else m other) (ms ++ macros_else m other) (past_else m other)
+  branches_begin os at first ls ms m f no_else =
+      subst (λ ks. Begins at (branches_code os first no_else) ks (ms ++ []) m) (sym (append-nil ls))
+      (subst (λ ns. Begins at (branches_code os first no_else) ls ns m) (sym (append-nil ms)) (over_begins IfFalse f))
+  branches_begin os at first ls ms m f (otherwise _ eb) = either_begins f (statements_begin os m eb)
 
-  behind_loop_begins : (os : List Opened) (at : ℕ) (other : Otherwise) → Begins at (after_loop_code os other) (loops_else at other)
-      (past_else at other)
+  behind_loop_begins : (os : List Opened) (at : Numbers) (other : Otherwise) →
+      Begins at (after_loop_code os other) (loops_else at other) (macros_else at other) (past_else at other)
   behind_loop_begins os at no_else = none_begin at (straight (i.PopLoopFrame ∷ [])) (refl, tt)
   behind_loop_begins os at (otherwise _ body) = after_none (straight _) (refl, (refl, tt))
       (over_begins IfFalse (statements_begin os at body))

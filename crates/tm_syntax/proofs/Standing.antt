@@ -1,6 +1,6 @@
 -- Where code stands in a stream.
 use Rattle.std.proofs.Common.{◌≡◌, ℕ, ◌+◌, ◌<◌, List, [], ◌∷◌, ◌++◌, length, Some, refl, sym, ap, ◌∙◌, subst, arith, length-append}
-use Rattle.std.proofs.Common.{append_assoc}
+use Rattle.std.proofs.Common.{append_assoc, Bool, true}
 use Rattle.std.specs.Prelude.{slice_get}
 use Rattle.std.proofs.lemmas.Option.{slice_get-get_or}
 use Rattle.std.proofs.Math.Seq.{get_or-append_seam}
@@ -14,27 +14,34 @@ abbrev pub HasAt : List Instruction → ℕ → List Instruction → Type 0
 HasAt all pc [] = Unit {0}
 HasAt all pc (i ∷ is) = (slice_get all pc ≡ Some i) × HasAt all (pc + 1) is
 
--- and so does code, with these labels
-abbrev pub At : List Instruction → Labels → ℕ → Fragment → Type 0
-At all l pc (straight is) = HasAt all pc is
-At all l pc (c ⨾ d) = At all l pc c × At all l (beyond pc c) d
-At all l pc (jump_out j) = slice_get all pc ≡ Some (jump j l.out)
-At all l pc (bounded c) = At all (outward (beyond pc c) l) pc c
-At all l pc (fork c d) =
-    At all (outward (beyond pc c + 1) l) pc c × (slice_get all (beyond pc c) ≡ Some (i.Jump (beyond (beyond pc c + 1) d))) × At all l
-    (beyond pc c + 1) d
-At all l pc (looped g c d) =
+-- And so does code, with these labels, where the place of each of its macros is marked so.
+abbrev pub AtWhere : (ℕ → Bool) → List Instruction → Labels → ℕ → Fragment → Type 0
+AtWhere marks all l pc (straight is) = HasAt all pc is
+AtWhere marks all l pc (c ⨾ d) = AtWhere marks all l pc c × AtWhere marks all l (beyond pc c) d
+AtWhere marks all l pc (jump_out j) = slice_get all pc ≡ Some (jump j l.out)
+AtWhere marks all l pc (bounded c) = AtWhere marks all (outward (beyond pc c) l) pc c
+AtWhere marks all l pc (fork c d) =
+    AtWhere marks all (outward (beyond pc c + 1) l) pc c × (slice_get all (beyond pc c) ≡ Some (i.Jump (beyond (beyond pc c + 1) d)))
+    × AtWhere marks all l (beyond pc c + 1) d
+AtWhere marks all l pc (looped g c d) =
     (slice_get all pc ≡ Some (i.PushLoop g)) × (slice_get all (pc + 1) ≡ Some (i.Iterate (beyond (pc + 1 + 1) c + 1)))
-    × At all (inward (pc + 1) (beyond (pc + 1 + 1) c + 1) l) (pc + 1 + 1) c
-    × (slice_get all (beyond (pc + 1 + 1) c) ≡ Some (i.Jump (pc + 1))) × At all l (beyond (pc + 1 + 1) c + 1) d
-At all l pc break_loop = slice_get all pc ≡ Some (i.Jump l.after)
-At all l pc next_round = slice_get all pc ≡ Some (i.Jump l.again)
-At all l pc (declares m c) =
-    (slice_get all pc ≡ Some (i.Jump (beyond (pc + 1) c + 1))) × At all (ending_at (beyond (pc + 1) c)) (pc + 1) c
-    × HasAt all (beyond (pc + 1) c) (behind_body m (pc + 1))
+    × AtWhere marks all (inward (pc + 1) (beyond (pc + 1 + 1) c + 1) l) (pc + 1 + 1) c
+    × (slice_get all (beyond (pc + 1 + 1) c) ≡ Some (i.Jump (pc + 1))) × AtWhere marks all l (beyond (pc + 1 + 1) c + 1) d
+AtWhere marks all l pc break_loop = slice_get all pc ≡ Some (i.Jump l.after)
+AtWhere marks all l pc next_round = slice_get all pc ≡ Some (i.Jump l.again)
+AtWhere marks all l pc (declares m c) =
+    (slice_get all pc ≡ Some (i.Jump (beyond (pc + 1) c + 1))) × AtWhere (λ _. true) all (ending_at (beyond (pc + 1) c)) (pc + 1) c
+    × HasAt all (beyond (pc + 1) c) (behind_body m (pc + 1)) × (marks pc ≡ true)
+
+-- whatever its place is
+abbrev pub everywhere : ℕ → Bool
+everywhere pc = true
+
+abbrev pub At : List Instruction → Labels → ℕ → Fragment → Type 0
+At all l pc c = AtWhere everywhere all l pc c
 
 -- ---------------------------------------------------------------- how long code is
-beyond_all_is : (pc : ℕ) (is : List Instruction) → beyond_all pc is ≡ pc + length is
+pub beyond_all_is : (pc : ℕ) (is : List Instruction) → beyond_all pc is ≡ pc + length is
 beyond_all_is pc [] = omega arith
 beyond_all_is pc (x ∷ is) = beyond_all_is (pc + 1) is ∙ omega arith
 
@@ -103,7 +110,7 @@ stands all l pc next_round h = h.0
 stands all l pc (declares m c) h =
     let k = ending_at (beyond (pc + 1) c) in
     let b = behind_body m (pc + 1) in
-    (h.0, stands all k (pc + 1) c (stands_front all k (pc + 1) c b h.1), stands_behind all k (pc + 1) c b h.1)
+    (h.0, stands all k (pc + 1) c (stands_front all k (pc + 1) c b h.1), stands_behind all k (pc + 1) c b h.1, refl)
 
 has_all : (is before : List Instruction) → HasAt (before ++ is) (length before) is
 has_all [] before = tt

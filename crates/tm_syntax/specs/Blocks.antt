@@ -2,7 +2,7 @@
 use Rattle.std.specs.Prelude.{ℕ, List, [], ◌∷◌, ◌++◌, map as each}
 use mathlib.Core.Former.{Count}
 use Rattle.tm_syntax.specs.declared.tree.Stmt.{EmitRaw, EmitExpr, EmitLoop, Break, Continue, Set, Do}
-use Rattle.tm_syntax.specs.declared.tree.Stmt.{Stmt, If', For', Block', CaptureBlock', With', AutoEscape', Macro', Row_of-Stmt}
+use Rattle.tm_syntax.specs.declared.tree.Stmt.{Stmt, If', For', Block', CaptureBlock', With', AutoEscape', Macro', CallBlock', Row_of-Stmt}
 use Rattle.tm_syntax.specs.declared.tree.Stmt.{end_of-Stmt as no_statement, more_of-Stmt as statement, Held-Stmt-If-2 as Otherwise}
 use Rattle.tm_syntax.specs.declared.tree.Stmt.{None' as no_else, Some' as otherwise}
 use Rattle.tm_syntax.specs.declared.instruction.Instruction.{Instruction}
@@ -29,6 +29,7 @@ abbrev mutual
   blocks_of (With' given _ body) = blocks_in body
   blocks_of (AutoEscape' e _ body) = blocks_in body
   blocks_of (Macro' x ps _ body) = blocks_in body
+  blocks_of (CallBlock' e ps _ body) = blocks_in body
   blocks_of (EmitRaw t) = []
   blocks_of (EmitExpr e) = []
   blocks_of (EmitLoop e) = []

@@ -1,5 +1,5 @@
 -- The code of a tree.
-use Rattle.std.specs.Prelude.{ℕ, zero, suc, ◌+◌, ◌||◌, pos, List, [], ◌∷◌, ◌++◌, Option, Some, None, Bool, true, false}
+use Rattle.std.specs.Prelude.{ℕ, zero, suc, ◌+◌, ◌||◌, pos, List, [], ◌∷◌, ◌++◌, Option, Some, None, Bool, true, false, codes}
 use Rattle.tm_values.specs.Val.{number, text}
 use Rattle.tm_syntax.specs.declared.tree.UnaryOperator.{UnaryOperator}
 use Rattle.tm_syntax.specs.declared.tree.UnaryOperator.TheVariants as unaries
@@ -24,7 +24,7 @@ use Rattle.tm_syntax.specs.declared.tree.Parameter.{Parameter}
 use Rattle.tm_syntax.specs.declared.tree.CaptureUse.{CaptureUse}
 use Rattle.tm_syntax.specs.declared.tree.CaptureUse.TheVariants as uses
 use Rattle.tm_syntax.specs.declared.tree.Stmt.{Stmt, EmitRaw, EmitExpr, EmitLoop, If', For', Break, Continue, Block', Set, CaptureBlock'}
-use Rattle.tm_syntax.specs.declared.tree.Stmt.{With', Do, AutoEscape', Macro', Row_of-Stmt, end_of-Stmt as no_statement}
+use Rattle.tm_syntax.specs.declared.tree.Stmt.{With', Do, AutoEscape', Macro', CallBlock', Row_of-Stmt, end_of-Stmt as no_statement}
 use Rattle.tm_syntax.specs.declared.tree.Stmt.{more_of-Stmt as statement, Held-Stmt-If-2 as Otherwise, None' as no_else}
 use Rattle.tm_syntax.specs.declared.tree.Stmt.{Some' as otherwise}
 use Rattle.tm_syntax.specs.declared.instruction.CaptureMode.TheVariants.{Capture}
@@ -129,9 +129,25 @@ abbrev pub maps_at : ℕ → Keyword → ℕ
 maps_at n (keyword x a) = 0
 maps_at n (spread_keywords a) = rows_of n + 1
 
-abbrev pub count_maps : {n : _} → ℕ → Row_of-Keyword n → ℕ
-count_maps before no_keyword = rows_of before
-count_maps before (keyword_and k rest) = maps_at before k + count_maps (keywords_behind before k) rest
+-- How arguments by their names end, behind a row of so many: how many maps there are, and the code of these.
+pub record RowEnd : Type 0 where
+  pub maps : ℕ → ℕ
+  pub code : ℕ → Fragment
+
+-- the row becomes a map, where there is any
+abbrev pub row_end : RowEnd
+row_end = record { maps = rows_of; code = λ n. straight (map_of_row n) }
+
+-- `caller` is behind it, whose value this code pushes
+abbrev pub caller_end : Fragment → RowEnd
+caller_end c = record {
+  maps = λ n. rows_of (suc n);
+  code = λ n. straight (i.LoadConst (text (codes "caller") false) ∷ []) ⨾ c ⨾ straight (map_of_row (suc n));
+}
+
+abbrev pub count_maps : {n : _} → RowEnd → ℕ → Row_of-Keyword n → ℕ
+count_maps end before no_keyword = end.maps before
+count_maps end before (keyword_and k rest) = maps_at before k + count_maps end (keywords_behind before k) rest
 
 -- maps are merged where one is spread
 abbrev pub merged_code : Bool → ℕ → List Instruction
@@ -143,8 +159,8 @@ merged_count false n = n
 merged_count true n = 1
 
 -- arguments by their names are one argument together
-abbrev pub together : {n : _} → Row_of-Keyword n → ℕ
-together ks = merged_count (has_spread_keyword ks) (count_maps 0 ks)
+abbrev pub together : {n : _} → RowEnd → Row_of-Keyword n → ℕ
+together end ks = merged_count (has_spread_keyword ks) (count_maps end 0 ks)
 
 -- a call's count is on top of the values where some are spread
 abbrev pub count_by : Bool → ℕ → Option ℕ
@@ -152,23 +168,24 @@ count_by false n = Some n
 count_by true n = None
 
 -- how many values a call is passed, with so many before the arguments
-abbrev pub passed_count : {n m : _} → ℕ → Row_of-Argument n → Row_of-Keyword m → Option ℕ
-passed_count before given named = count_by (has_spread given) (count given + together named + before)
+abbrev pub passed_count : {n m : _} → RowEnd → ℕ → Row_of-Argument n → Row_of-Keyword m → Option ℕ
+passed_count end before given named = count_by (has_spread given) (count given + together end named + before)
 
 -- maps of arguments by their names become one keyword map, where there are any
-abbrev pub merging : {n : _} → Row_of-Keyword n → Fragment → Fragment
-merging ks maps = maps ⨾ straight (merged_code (has_spread_keyword ks) (count_maps 0 ks))
+abbrev pub merging : {n : _} → RowEnd → Row_of-Keyword n → Fragment → Fragment
+merging end ks maps = maps ⨾ straight (merged_code (has_spread_keyword ks) (count_maps end 0 ks))
 
 -- What a call is passed, with so many values before the arguments: these, and those by their names as one; or the lists of all.
-abbrev pub passing_by : {n m : _} → Bool → ℕ → Row_of-Argument n → Row_of-Keyword m → Fragment → Fragment → (Fragment → Fragment) →
-    Fragment
-passing_by false before given named by_place by_name lists = by_place ⨾ by_name
-passing_by true before given named by_place by_name lists = lists by_name ⨾ straight
-    (i.UnpackLists (count_lists before given (together named)) ∷ [])
+abbrev pub passing_by : {n m : _} → RowEnd → Bool → ℕ → Row_of-Argument n → Row_of-Keyword m → Fragment → Fragment →
+    (Fragment → Fragment) → Fragment
+passing_by end false before given named by_place by_name lists = by_place ⨾ by_name
+passing_by end true before given named by_place by_name lists = lists by_name ⨾ straight
+    (i.UnpackLists (count_lists before given (together end named)) ∷ [])
 
-abbrev pub passing : {n m : _} → ℕ → Row_of-Argument n → Row_of-Keyword m → Fragment → Fragment → (Fragment → Fragment) → Fragment
-passing before given named by_place maps lists =
-    passing_by (has_spread given) before given named by_place (merging named maps) lists
+abbrev pub passing : {n m : _} → RowEnd → ℕ → Row_of-Argument n → Row_of-Keyword m → Fragment → Fragment → (Fragment → Fragment) →
+    Fragment
+passing end before given named by_place maps lists =
+    passing_by end (has_spread given) before given named by_place (merging end named maps) lists
 
 abbrev pub count_exprs : {n : _} → Row_of-Expr n → ℕ
 count_exprs no_expr = 0
@@ -189,9 +206,9 @@ abbrev mutual
   expr_code (List' _ es) = exprs_code es ⨾ straight (i.BuildList (Some (count_exprs es)) ∷ [])
   expr_code (Tuple' _ es) = exprs_code es ⨾ straight (i.BuildTuple (count_exprs es) ∷ [])
   expr_code (Map' _ ps) = pairs_code ps ⨾ straight (i.BuildMap (count_pairs ps) ∷ [])
-  expr_code (Call' f _ given _ named) = passing 0 given named (arguments_code given) (keywords_code 0 named)
-      (λ by_name. lists_code 0 given (together named) by_name) ⨾ straight
-      (i.CallFunction f (passed_count 0 given named) ∷ [])
+  expr_code (Call' f _ given _ named) = passing row_end 0 given named (arguments_code given) (keywords_code row_end 0 named)
+      (λ by_name. lists_code 0 given (together row_end named) by_name) ⨾ straight
+      (i.CallFunction f (passed_count row_end 0 given named) ∷ [])
   expr_code (unary op a) = expr_code a ⨾ straight (unary_code op ∷ [])
   expr_code (chained a _ ss) = expr_code a ⨾ steps_code ss
   expr_code (conditional a _ cs) = conditions_code cs (expr_code a)
@@ -232,19 +249,19 @@ abbrev mutual
   keyword_code before (keyword x a) = straight (i.LoadConst (text x false) ∷ []) ⨾ expr_code a
   keyword_code before (spread_keywords a) = straight (map_of_row before) ⨾ expr_code a
 
-  pub keywords_code : {n : _} → ℕ → Row_of-Keyword n → Fragment
-  keywords_code before no_keyword = straight (map_of_row before)
-  keywords_code before (keyword_and k more) = keyword_code before k ⨾ keywords_code (keywords_behind before k) more
+  pub keywords_code : {n : _} → RowEnd → ℕ → Row_of-Keyword n → Fragment
+  keywords_code end before no_keyword = end.code before
+  keywords_code end before (keyword_and k more) = keyword_code before k ⨾ keywords_code end (keywords_behind before k) more
 
   pub step_code : Step → Fragment
   step_code (Attribute x) = straight (i.GetAttr x ∷ [])
   step_code (item a) = expr_code a ⨾ straight (i.GetItem ∷ [])
-  step_code (Apply' k x _ given _ named) = passing 1 given named (arguments_code given) (keywords_code 0 named)
-      (λ by_name. lists_code 1 given (together named) by_name) ⨾ straight
-      (application_code k x (passed_count 1 given named))
-  step_code (Called _ given _ named) = passing 1 given named (arguments_code given) (keywords_code 0 named)
-      (λ by_name. lists_code 1 given (together named) by_name) ⨾ straight
-      (i.CallObject (passed_count 1 given named) ∷ [])
+  step_code (Apply' k x _ given _ named) = passing row_end 1 given named (arguments_code given) (keywords_code row_end 0 named)
+      (λ by_name. lists_code 1 given (together row_end named) by_name) ⨾ straight
+      (application_code k x (passed_count row_end 1 given named))
+  step_code (Called _ given _ named) = passing row_end 1 given named (arguments_code given) (keywords_code row_end 0 named)
+      (λ by_name. lists_code 1 given (together row_end named) by_name) ⨾ straight
+      (i.CallObject (passed_count row_end 1 given named) ∷ [])
   step_code (slice a b c) = expr_code a ⨾ expr_code b ⨾ expr_code c ⨾ straight (i.Slice ∷ [])
   step_code (binary op a) = expr_code a ⨾ straight (binary_code op)
   step_code (compare op a _ cs) = expr_code a ⨾ fork (links_code op cs) drop_right
@@ -263,12 +280,38 @@ abbrev mutual
 
 -- arguments by their names as one, where there are any
 abbrev pub named_code : {n : _} → Row_of-Keyword n → Fragment
-named_code ks = merging ks (keywords_code 0 ks)
+named_code ks = merging row_end ks (keywords_code row_end 0 ks)
 
 -- what a call is passed, with so many values before the arguments
-abbrev pub passing_code : {n m : _} → ℕ → Row_of-Argument n → Row_of-Keyword m → Fragment
-passing_code before given named =
-    passing before given named (arguments_code given) (keywords_code 0 named) (λ by_name. lists_code before given (together named) by_name)
+abbrev pub passing_code : {n m : _} → RowEnd → ℕ → Row_of-Argument n → Row_of-Keyword m → Fragment
+passing_code end before given named =
+    passing end before given named (arguments_code given) (keywords_code end 0 named)
+    (λ by_name. lists_code before given (together end named) by_name)
+
+-- ---------------------------------------------------------------- calls that end so
+-- a value is called with what is behind its arguments alone
+abbrev pub called_alone : RowEnd → Fragment
+called_alone end = end.code 0 ⨾ straight (i.CallObject (Some (end.maps 0 + 1)) ∷ [])
+
+-- The last step of a value is its call, whose arguments end so; a step that is no call is called behind.
+abbrev pub step_call_code : RowEnd → Step → Fragment
+step_call_code end (Apply' k x _ given _ named) = passing_code end 1 given named ⨾ straight
+    (application_code k x (passed_count end 1 given named))
+step_call_code end (Called _ given _ named) = passing_code end 1 given named ⨾ straight
+    (i.CallObject (passed_count end 1 given named) ∷ [])
+step_call_code end s = step_code s ⨾ called_alone end
+
+abbrev pub steps_call_code : {n : _} → RowEnd → Row_of-Step n → Fragment
+steps_call_code end no_step = called_alone end
+steps_call_code end (step s no_step) = step_call_code end s
+steps_call_code end (step s (step t more)) = step_code s ⨾ steps_call_code end (step t more)
+
+-- An expression that is a call, whose arguments end so; what is no call is called behind.
+abbrev pub call_code : RowEnd → Expr → Fragment
+call_code end (Call' f _ given _ named) = passing_code end 0 given named ⨾ straight
+    (i.CallFunction f (passed_count end 0 given named) ∷ [])
+call_code end (chained a _ ss) = expr_code a ⨾ steps_call_code end ss
+call_code end e = expr_code e ⨾ called_alone end
 
 -- comparisons in a row after the right side of the first
 abbrev pub row_code : {n : _} → BinaryOperator → Row_of-Comparison n → Fragment
@@ -383,6 +426,9 @@ abbrev mutual
       (an_escape ∷ os) body ⨾ straight (i.PopAutoEscape ∷ [])
   statement_code os (Macro' x ps _ body) =
       declares (macro_head x ps body) (parameters_code ps ⨾ statements_code [] body) ⨾ straight (i.StoreLocal x ∷ [])
+  statement_code os (CallBlock' e ps _ body) =
+      call_code (caller_end (declares (macro_head (codes "caller") ps body) (parameters_code ps ⨾ statements_code [] body))) e
+      ⨾ straight (i.Emit ∷ [])
 
   pub statements_code : {n : _} → List Opened → Row_of-Stmt n → Fragment
   statements_code os no_statement = straight []

@@ -9,7 +9,7 @@ use Rattle.tm_syntax.specs.declared.tree.Expr.{Expr}
 use Rattle.tm_syntax.specs.declared.tree.AssignmentTarget.{AssignmentTarget}
 use Rattle.tm_syntax.specs.declared.tree.Parameter.{Parameter}
 use Rattle.tm_syntax.specs.declared.tree.Stmt.{EmitRaw, EmitExpr, EmitLoop, Break, Continue, Block', Set, Do}
-use Rattle.tm_syntax.specs.declared.tree.Stmt.{Stmt, If', For', CaptureBlock', With', AutoEscape', Macro', Row_of-Stmt}
+use Rattle.tm_syntax.specs.declared.tree.Stmt.{Stmt, If', For', CaptureBlock', With', AutoEscape', Macro', CallBlock', Row_of-Stmt}
 use Rattle.tm_syntax.specs.declared.tree.Stmt.{end_of-Stmt as no_statement}
 use Rattle.tm_syntax.specs.declared.tree.Stmt.{more_of-Stmt as statement, Held-Stmt-If-2 as Otherwise, None' as no_else}
 use Rattle.tm_syntax.specs.declared.tree.Stmt.{Some' as otherwise}
@@ -44,6 +44,7 @@ abbrev mutual
   past at (With' given _ body) = pasts at body
   past at (AutoEscape' e _ body) = pasts at body
   past at (Macro' x ps _ body) = pasts (within_macro at) body
+  past at (CallBlock' e ps _ body) = pasts (within_macro at) body
   past at (EmitRaw t) = at
   past at (EmitExpr e) = at
   past at (EmitLoop e) = at
@@ -84,6 +85,7 @@ abbrev mutual
   loops_of at (With' given _ body) = loops_in at body
   loops_of at (AutoEscape' e _ body) = loops_in at body
   loops_of at (Macro' x ps _ body) = loops_in (within_macro at) body
+  loops_of at (CallBlock' e ps _ body) = loops_in (within_macro at) body
   loops_of at (EmitRaw t) = []
   loops_of at (EmitExpr e) = []
   loops_of at (EmitLoop e) = []
@@ -116,6 +118,8 @@ abbrev mutual
   macros_of at (With' given _ body) = macros_in at body
   macros_of at (AutoEscape' e _ body) = macros_in at body
   macros_of at (Macro' x ps _ body) =
+      record { parameters = ps; body = body_of body; at = within_macro at } ∷ macros_in (within_macro at) body
+  macros_of at (CallBlock' e ps _ body) =
       record { parameters = ps; body = body_of body; at = within_macro at } ∷ macros_in (within_macro at) body
   macros_of at (EmitRaw t) = []
   macros_of at (EmitExpr e) = []

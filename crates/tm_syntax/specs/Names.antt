@@ -26,7 +26,7 @@ use Rattle.tm_syntax.specs.declared.tree.Parameter.{Parameter}
 use Rattle.tm_syntax.specs.declared.tree.CaptureUse.{CaptureUse}
 use Rattle.tm_syntax.specs.declared.tree.CaptureUse.TheVariants as uses
 use Rattle.tm_syntax.specs.declared.tree.Stmt.{Stmt, EmitRaw, EmitExpr, EmitLoop, If', For', Break, Continue, Block', Set, CaptureBlock'}
-use Rattle.tm_syntax.specs.declared.tree.Stmt.{With', Do, AutoEscape', Macro', Row_of-Stmt, end_of-Stmt as no_statement}
+use Rattle.tm_syntax.specs.declared.tree.Stmt.{With', Do, AutoEscape', Macro', CallBlock', Row_of-Stmt, end_of-Stmt as no_statement}
 use Rattle.tm_syntax.specs.declared.tree.Stmt.{more_of-Stmt as statement, Held-Stmt-If-2 as Otherwise, None' as no_else}
 use Rattle.tm_syntax.specs.declared.tree.Stmt.{Some' as otherwise}
 
@@ -273,6 +273,8 @@ abbrev mutual
   walk nested (AutoEscape' e _ body) k = walk_all nested body (walk_expr nested e k)
   walk nested (Macro' x ps _ body) k = close_scope
       (walk_all nested body (walk_parameters nested ps (assign (codes "caller") (open_scope (assign x k)))))
+  walk nested (CallBlock' e ps _ body) k = close_scope
+      (walk_all nested body (walk_parameters nested ps (assign (codes "caller") (open_scope (walk_expr nested e k)))))
 
   pub walk_all : {n : _} → Bool → Row_of-Stmt n → Walk → Walk
   walk_all nested no_statement k = k

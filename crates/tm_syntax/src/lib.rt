@@ -20,6 +20,7 @@ pub use opened::Opened;
 pub use raw_text::RawText;
 pub use token::{Sign, Tag, Token};
 pub use tree::{
-    Application, Argument, Assignment, AssignmentTarget, BinaryOperator, CaptureUse, Comparison,
-    Condition, Expr, ForLoop, Keyword, Macro, Pair, Parameter, Step, Stmt, Tree, UnaryOperator,
+    Application, Argument, Assignment, AssignmentTarget, BinaryOperator, CallBlock, CaptureUse,
+    Comparison, Condition, Expr, ForLoop, Keyword, Macro, Pair, Parameter, Step, Stmt, Tree,
+    UnaryOperator,
 };

@@ -233,6 +233,8 @@ pub enum Stmt {
     AutoEscape(Boxed<Expr>, Items<Stmt>),
     /// A macro.
     Macro(Macro),
+    /// A call that is given a macro of its own.
+    CallBlock(CallBlock),
 }
 
 /// A loop over items.
@@ -262,6 +264,18 @@ pub struct Macro {
     /// What its arguments are bound to.
     pub parameters: Items<Parameter>,
     /// What a call of it runs.
+    pub body: Items<Stmt>,
+}
+
+/// A call that is emitted, whose last argument by its name, `caller`, is a macro.
+#[cycle(stmt)]
+#[derive(Drop)]
+pub struct CallBlock {
+    /// The call without that argument.
+    pub call: Boxed<Expr>,
+    /// What the arguments of a call of `caller` are bound to.
+    pub parameters: Items<Parameter>,
+    /// What such a call runs.
     pub body: Items<Stmt>,
 }
 
