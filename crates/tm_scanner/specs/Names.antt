@@ -49,14 +49,16 @@ abbrev pub start_words : List (List ℕ × Tag)
 start_words =
     (codes "if", tag.If) ∷ (codes "for", tag.For) ∷ (codes "break", tag.Break) ∷ (codes "continue", tag.Continue)
     ∷ (codes "block", tag.Block) ∷ (codes "set", tag.Set) ∷ (codes "with", tag.With) ∷ (codes "do", tag.Do)
-    ∷ (codes "filter", tag.Filter) ∷ (codes "autoescape", tag.Autoescape) ∷ (codes "macro", tag.Macro) ∷ []
+    ∷ (codes "filter", tag.Filter) ∷ (codes "autoescape", tag.Autoescape) ∷ (codes "macro", tag.Macro)
+    ∷ (codes "call", tag.Call) ∷ []
 
 -- the words of tags that go on with a statement or end it
 abbrev pub later_words : List (List ℕ × Tag)
 later_words =
     (codes "elif", tag.Elif) ∷ (codes "else", tag.Else) ∷ (codes "endif", tag.Endif) ∷ (codes "endfor", tag.Endfor)
     ∷ (codes "endblock", tag.Endblock) ∷ (codes "endset", tag.Endset) ∷ (codes "endwith", tag.Endwith)
-    ∷ (codes "endfilter", tag.Endfilter) ∷ (codes "endautoescape", tag.Endautoescape) ∷ (codes "endmacro", tag.Endmacro) ∷ []
+    ∷ (codes "endfilter", tag.Endfilter) ∷ (codes "endautoescape", tag.Endautoescape) ∷ (codes "endmacro", tag.Endmacro)
+    ∷ (codes "endcall", tag.Endcall) ∷ []
 
 abbrev pub tag_of : List ℕ → Option Tag
 tag_of name = option_or (look_up start_words name) (look_up later_words name)

@@ -157,6 +157,8 @@ fn start_tag(name: &str) -> Option<Tag>
         Some(Tag::Autoescape)
     } else if is(name, "macro") {
         Some(Tag::Macro)
+    } else if is(name, "call") {
+        Some(Tag::Call)
     } else {
         None
     }
@@ -186,6 +188,8 @@ fn later_tag(name: &str) -> Option<Tag>
         Some(Tag::Endautoescape)
     } else if is(name, "endmacro") {
         Some(Tag::Endmacro)
+    } else if is(name, "endcall") {
+        Some(Tag::Endcall)
     } else {
         None
     }

@@ -129,6 +129,10 @@ pub enum Tag {
     Macro,
     /// `{% endmacro`
     Endmacro,
+    /// `{% call`
+    Call,
+    /// `{% endcall`
+    Endcall,
 }
 
 /// A token of a source.
