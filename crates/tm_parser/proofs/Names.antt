@@ -10,6 +10,7 @@ use Rattle.tm_syntax.specs.declared.tree.Stmt.TheBlock.{shape-the_row-Stmt-0, hi
 use Rattle.tm_syntax.specs.declared.tree.Stmt.TheVariants as stmts
 use Rattle.tm_syntax.specs.declared.tree.ForLoop.{ForLoop}
 use Rattle.tm_syntax.specs.declared.tree.Macro.{Macro}
+use Rattle.tm_syntax.specs.declared.tree.CallBlock.{CallBlock}
 use Rattle.tm_parser.specs.Template.{names_of, block_names}
 
 -- a list of the program is a row of children
@@ -50,7 +51,11 @@ pub names_of_macro : (m : Macro) → names_of (stmts.Macro m) ≡ block_names m.
 unfolding hidden row shape-the_row-Stmt-0
 names_of_macro m = refl
 
-pub ruleset forms = (names_of_if, names_of_if_else, names_of_for, names_of_block, names_of_macro)
+pub names_of_call : (c : CallBlock) → names_of (stmts.CallBlock c) ≡ block_names c.body
+unfolding hidden row shape-the_row-Stmt-0
+names_of_call c = refl
+
+pub ruleset forms = (names_of_if, names_of_if_else, names_of_for, names_of_block, names_of_macro, names_of_call)
 
 -- the loop over statements: what is left behind one, and behind the last
 pub one_more : (old new goal : List (List ℕ)) (ss : List Stmt) (k : ℕ) (s : Stmt) → k < length ss → s ≡ get_or ss k s →

@@ -1,5 +1,5 @@
 -- The grammar of statements.
-use Rattle.std.specs.Prelude.{ℕ, zero, suc, List, [], ◌∷◌, Bool, true, false, Option, Some, None, if◌then◌else◌, ◌&&◌, nat_eq, codes}
+use Rattle.std.specs.Prelude.{ℕ, zero, suc, List, [], ◌∷◌, Bool, true, false, Option, Some, None, is_none, if◌then◌else◌, ◌&&◌, nat_eq, codes}
 use Rattle.std.specs.Cmp.Lexicographic.{pointwise}
 use denote.Enum.Bare.{sameb}
 use Rattle.tm_syntax.specs.contracts.token.Tag.{the_type}
@@ -54,7 +54,7 @@ pub record Inner : Type 1 where
   pub else_or_end : Tag → Bool → Rule (Option (List Stmt))
   -- what a loop goes over, the condition of an item, whether it can be called, and the end of its tag
   pub loop_head : Rule LoopHead
-  -- the parameters of a macro behind their opening bracket, and their end
+  -- the parameters of a macro or of a call's body behind their opening bracket, and their end
   pub parameters : Rule (List Parameter)
 
 -- Each tag that begins a statement.
@@ -70,6 +70,7 @@ start_of tags.With = Some starts.With
 start_of tags.Do = Some starts.Do
 start_of tags.Autoescape = Some starts.AutoEscape
 start_of tags.Macro = Some starts.Macro
+start_of tags.Call = Some starts.Call
 start_of _ = None
 
 -- what a statement begins with
@@ -380,6 +381,32 @@ do_tag i = do
     last ← block_end
     pure (stmts.Do x))
 
+abbrev pub have_no_default : List Parameter → Bool
+have_no_default [] = true
+have_no_default (p ∷ ps) = is_none p.default && have_no_default ps
+
+-- the parameters of a call's body: none where no bracket opens, and else such as a macro's, without any default
+unfoldable pub call_parameters : Inner → Rule (List Parameter)
+call_parameters t = branch (first (is sign.OpenRound))
+    (λ _. do
+      ps ← t.parameters
+      provided (have_no_default ps) (pure ps))
+    (pure [])
+
+-- What stands behind the expression of a call's tag, which is a call. The loops around the tag aren't around its body.
+unfoldable pub call_block : Inner → List Parameter → Expr → Rule Stmt
+call_block t ps x = provided (is_call x) (do
+  close ← block_end
+  body ← t.body false
+  last ← lone tags.Endcall
+  pure (stmts.CallBlock (record { call = x; parameters = ps; body = body })))
+
+unfoldable pub call_tag : Inside → Inner → Rule Stmt
+call_tag i t = do
+  ps ← call_parameters t
+  x ← i.expr
+  call_block t ps x
+
 -- what stands behind the start of a statement
 abbrev pub statement : Inside → Inner → Bool → Start → Rule Stmt
 statement i t looping (starts.Raw text) = pure (stmts.EmitRaw text)
@@ -395,6 +422,7 @@ statement i t looping starts.With = with_tag i t looping
 statement i t looping starts.Do = do_tag i
 statement i t looping starts.AutoEscape = autoescape_tag i t looping
 statement i t looping starts.Macro = macro_tag t
+statement i t looping starts.Call = call_tag i t
 
 -- statements behind these ones, as long as one begins
 abbrev pub more_statements : Inside → Inner → Bool → List Stmt → Rule (List Stmt)

@@ -2,7 +2,7 @@
 use Rattle.std.specs.Prelude.{ℕ, false, List, [], ◌∷◌, ◌++◌, IsTrue}
 use Rattle.tm_syntax.specs.declared.token.Token.{Token}
 use Rattle.tm_syntax.specs.declared.tree.Stmt.{Stmt, EmitRaw, EmitExpr, EmitLoop, If', For', Break, Continue, Block', Set, CaptureBlock'}
-use Rattle.tm_syntax.specs.declared.tree.Stmt.{With', Do, AutoEscape', Macro', Row_of-Stmt, end_of-Stmt as no_statement}
+use Rattle.tm_syntax.specs.declared.tree.Stmt.{With', Do, AutoEscape', Macro', CallBlock', Row_of-Stmt, end_of-Stmt as no_statement}
 use Rattle.tm_syntax.specs.declared.tree.Stmt.{more_of-Stmt as statement, Held-Stmt-If-2 as Otherwise, None' as no_else}
 use Rattle.tm_syntax.specs.declared.tree.Stmt.{Some' as otherwise}
 use Rattle.tm_syntax.specs.declared.tree.Stmt.TheBlock.{hidden-the_row-Stmt-0 as row}
@@ -28,6 +28,7 @@ abbrev mutual
   names_of (Do x) = []
   names_of (AutoEscape' x _ body) = names_in body
   names_of (Macro' name parameters _ body) = names_in body
+  names_of (CallBlock' call parameters _ body) = names_in body
 
   pub names_in : {n : _} → Row_of-Stmt n → List (List ℕ)
   names_in no_statement = []

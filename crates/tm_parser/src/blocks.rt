@@ -64,5 +64,6 @@ fn add_names_of<'t>(names: &mut Vec<&'t str>, statement: &'t Stmt) -> Result<(),
         Stmt::With(_, body) => add_names(names, body.as_slice()),
         Stmt::AutoEscape(_, body) => add_names(names, body.as_slice()),
         Stmt::Macro(declared) => add_names(names, declared.body.as_slice()),
+        Stmt::CallBlock(called) => add_names(names, called.body.as_slice()),
     }
 }

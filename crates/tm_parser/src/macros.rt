@@ -1,10 +1,11 @@
-//! Blocks, and macros with their parameters: bodies that have a name.
-ghost use Rattle.std.specs.Prelude.{◌≡◌, [], IfOk};
+//! Blocks, macros and calls with a body: bodies around which is no loop, and parameters.
+ghost use Rattle.std.specs.Prelude.{◌≡◌, [], false, IfOk};
 ghost use Rattle.tm_parser.specs.Parses.{Parses};
 ghost use Rattle.tm_parser.specs.Distinct as spec;
 ghost use Rattle.tm_parser.specs.Grammar.{inside, items, more_items};
-ghost use Rattle.tm_parser.specs.Statements.{block_tag, default_value, inner, macro_tag, named_body, named_end};
-ghost use Rattle.tm_parser.specs.Statements.{parameter, parameters};
+ghost use Rattle.tm_parser.specs.Statements as statements;
+ghost use Rattle.tm_parser.specs.Statements.{block_tag, call_block, call_parameters, call_tag, default_value, inner};
+ghost use Rattle.tm_parser.specs.Statements.{macro_tag, named_body, named_end, parameter, parameters};
 ghost use Rattle.tm_grammar.specs.Combinators.{one_more};
 ghost use Rattle.tm_syntax.specs.Names.{parameter_names};
 ghost use Rattle.tm_syntax.specs.declared.token.Sign.TheVariants as sign;
@@ -12,9 +13,10 @@ ghost use Rattle.tm_syntax.specs.declared.token.Sign.TheVariants as sign;
 use crate::cursor::{Cursor, refusal};
 use crate::distinct::are_distinct;
 use crate::lists::with_one;
+use crate::statements::is_call;
 use sqlite_items::{Boxed, Items};
 use std::alloc::{AllocError, Global};
-use tm_syntax::{Expr, Macro, Name, Parameter, Sign, Stmt, Tag};
+use tm_syntax::{CallBlock, Expr, Macro, Name, Parameter, Sign, Stmt, Tag};
 use tm_values::Error;
 
 // Each method reads one rule, with `depth` nestings to go. SyntaxError where no tokens spell it.
@@ -49,7 +51,15 @@ impl Cursor<'_> {
         }))
     }
 
-    /// The body of a block or a macro of this name, up to its end tag. Around it is no loop.
+    /// A body inside one nesting more, around which is no loop.
+    #[cycle(statements)]
+    fn closed_body(&mut self, alloc: Global, depth: u8) -> Result<Items<Stmt>, Error>
+        ensures { Parses result self.new (((inner depth).body false).reads self.old) }
+    {
+        self.inner_body(alloc, depth, false)
+    }
+
+    /// The body of a block or a macro of this name, up to its end tag.
     #[cycle(statements)]
     #[tactic(auto, unfolding(crate::specs::Statements::named_body))]
     fn named_body(
@@ -61,7 +71,7 @@ impl Cursor<'_> {
     ) -> Result<Items<Stmt>, Error>
         ensures { Parses result self.new ((named_body (inner depth) end name.now).reads self.old) }
     {
-        let body = self.inner_body(alloc, depth, false)?;
+        let body = self.closed_body(alloc, depth)?;
         self.expect_named_end(end, name)?;
         Ok(body)
     }
@@ -73,6 +83,59 @@ impl Cursor<'_> {
         self.expect_tag(end)?;
         self.expect_same(name)?;
         self.expect(Sign::BlockEnd)
+    }
+
+    /// The parameters of a call's body, if any, the call and the body, up to its end tag.
+    #[cycle(statements)]
+    #[tactic(auto, unfolding(crate::specs::Statements::call_tag))]
+    pub fn call_tag(&mut self, alloc: Global, depth: u8) -> Result<Stmt, Error>
+        ensures { Parses result self.new ((call_tag (inside depth) (inner depth)).reads self.old) }
+    {
+        let parameters = self.call_parameters(alloc, depth)?;
+        let call = self.inner_expr(alloc, depth)?;
+        self.call_block(alloc, depth, parameters, call)
+    }
+
+    /// What stands behind the expression of a call's tag. SyntaxError also where that is no call.
+    #[cycle(statements)]
+    #[tactic(auto, unfolding(crate::specs::Statements::call_block))]
+    fn call_block(
+        &mut self,
+        alloc: Global,
+        depth: u8,
+        parameters: Items<Parameter>,
+        call: Boxed<Expr>,
+    ) -> Result<Stmt, Error>
+        ensures { Parses result self.new
+            ((call_block (inner depth) parameters call).reads self.old) }
+    {
+        if !is_call(call.get()) {
+            return Err(refusal());
+        }
+        self.expect(Sign::BlockEnd)?;
+        let body = self.closed_body(alloc, depth)?;
+        self.expect_lone(Tag::Endcall)?;
+        Ok(Stmt::CallBlock(CallBlock {
+            call,
+            parameters,
+            body,
+        }))
+    }
+
+    /// The parameters of a call's body, none where no bracket opens. SyntaxError also where one has
+    /// a default.
+    #[tactic(auto, unfolding(crate::specs::Statements::call_parameters))]
+    fn call_parameters(&mut self, alloc: Global, depth: u8) -> Result<Items<Parameter>, Error>
+        ensures { Parses result self.new ((call_parameters (inner depth)).reads self.old) }
+    {
+        if !self.take(Sign::OpenRound) {
+            return Ok(Items::new(alloc));
+        }
+        let parameters = self.inner_parameters(alloc, depth)?;
+        if !have_no_default(parameters.as_slice()) {
+            return Err(refusal());
+        }
+        Ok(parameters)
     }
 
     /// Parameters behind their opening bracket, inside one nesting more.
@@ -168,6 +231,18 @@ impl Cursor<'_> {
         }
         Ok(None)
     }
+}
+
+/// Whether none of the parameters has a default.
+fn have_no_default(parameters: &[Parameter]) -> bool
+    ensures { result ≡ statements.have_no_default parameters.now }
+{
+    for parameter in parameters {
+        if parameter.default.is_some() {
+            return false;
+        }
+    }
+    true
 }
 
 /// Whether no name is that of two parameters; AllocError for want of memory.

@@ -175,6 +175,7 @@ impl Cursor<'_> {
             Start::Do => self.do_tag(alloc, depth),
             Start::AutoEscape => self.autoescape_tag(alloc, depth, looping),
             Start::Macro => self.macro_tag(alloc, depth),
+            Start::Call => self.call_tag(alloc, depth),
         }
     }
 
@@ -549,7 +550,7 @@ fn is_plain(argument: &Argument) -> bool
 }
 
 /// Whether an expression is the call of a name, of a method or of a value.
-fn is_call(expr: &Expr) -> bool
+pub fn is_call(expr: &Expr) -> bool
     ensures { result ≡ spec.is_call expr.now }
 {
     match expr {

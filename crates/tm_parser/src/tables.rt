@@ -58,6 +58,8 @@ pub enum Start {
     AutoEscape,
     /// The start of a macro.
     Macro,
+    /// The start of a call with a body.
+    Call,
 }
 
 // The levels of operators, from the tightest.
@@ -347,6 +349,7 @@ pub fn start_of(tag: Tag) -> Option<Start>
         Tag::Do => Start::Do,
         Tag::Autoescape => Start::AutoEscape,
         Tag::Macro => Start::Macro,
+        Tag::Call => Start::Call,
         Tag::Elif
         | Tag::Else
         | Tag::Endif
@@ -356,6 +359,7 @@ pub fn start_of(tag: Tag) -> Option<Start>
         | Tag::Endfilter
         | Tag::Endwith
         | Tag::Endautoescape
-        | Tag::Endmacro => return None,
+        | Tag::Endmacro
+        | Tag::Endcall => return None,
     })
 }
