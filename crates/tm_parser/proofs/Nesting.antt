@@ -14,7 +14,7 @@ use Rattle.tm_syntax.specs.declared.tree.AssignmentTarget.TheVariants as target_
 use Rattle.tm_grammar.specs.Meanings.{got}
 use Rattle.tm_parser.specs.Grammar.{inside, expr, operand, filter_step, chained, compared, conditional, target}
 use Rattle.tm_parser.specs.Grammar.{target_of, lone_target, last_target, attribute_name, split_last, are_none}
-use Rattle.tm_parser.specs.Statements.{inner, body, rest, else_or_end, loop_head}
+use Rattle.tm_parser.specs.Statements.{inner, body, rest, else_or_end, loop_head, parameters}
 
 suc-sub-one : (n : ℕ) → suc n - 1 ≡ n
 suc-sub-one n = omega arith
@@ -165,6 +165,18 @@ inner_loop_head zero ts h = absurd (h refl)
 inner_loop_head (suc depth) ts h = ap (λ k. (loop_head (inside k)).reads ts) (sym (suc-sub-one depth))
 
 pub ruleset loops = (none_loop_head, inner_loop_head)
+
+pub no_parameters : (depth : ℕ) (ts : List Token) → depth ≡ 0 → (inner depth).parameters.reads ts ≡ None
+unfolding inner
+no_parameters depth ts h = ap (λ k. (inner k).parameters.reads ts) h
+
+pub inner_parameters : (depth : ℕ) (ts : List Token) → ¬ (depth ≡ 0) →
+    (inner depth).parameters.reads ts ≡ (parameters (inside (depth - 1))).reads ts
+unfolding inner
+inner_parameters zero ts h = absurd (h refl)
+inner_parameters (suc depth) ts h = ap (λ k. (parameters (inside k)).reads ts) (sym (suc-sub-one depth))
+
+pub ruleset macros = (no_parameters, inner_parameters)
 
 pub no_names : {A : Type 0} (xs : List A) → xs ≡ [] → are_none xs ≡ true
 no_names xs h = ap are_none h

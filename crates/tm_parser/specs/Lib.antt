@@ -1,3 +1,4 @@
+pub mod Distinct
 pub mod Grammar
 pub mod Levels
 pub mod Looks

@@ -1,5 +1,5 @@
 -- The grammar of statements.
-use Rattle.std.specs.Prelude.{ℕ, zero, suc, List, [], ◌∷◌, Bool, true, false, Option, Some, None, if◌then◌else◌, ◌&&◌, nat_eq, codes}
+use Rattle.std.specs.Prelude.{ℕ, zero, suc, List, [], ◌∷◌, Bool, true, false, Option, Some, None, is_none, if◌then◌else◌, ◌&&◌, nat_eq, codes}
 use Rattle.std.specs.Cmp.Lexicographic.{pointwise}
 use denote.Enum.Bare.{sameb}
 use Rattle.tm_syntax.specs.contracts.token.Tag.{the_type}
@@ -16,9 +16,11 @@ use Rattle.tm_syntax.specs.declared.tree.Application.TheVariants as applications
 use Rattle.tm_syntax.specs.declared.tree.Step.{Step, Apply', Call' as Called}
 use Rattle.tm_syntax.specs.declared.tree.Argument.{Argument}
 use Rattle.tm_syntax.specs.Forms.{plain, spread, chained as chained_steps}
+use Rattle.tm_syntax.specs.Names.{parameter_names}
 use Rattle.tm_syntax.specs.declared.tree.Expr.TheVariants as exprs
 use Rattle.tm_syntax.specs.declared.tree.AssignmentTarget.{AssignmentTarget}
 use Rattle.tm_syntax.specs.declared.tree.Assignment.{Assignment}
+use Rattle.tm_syntax.specs.declared.tree.Parameter.{Parameter}
 use Rattle.tm_syntax.specs.declared.tree.CaptureUse.{CaptureUse}
 use Rattle.tm_syntax.specs.declared.tree.CaptureUse.TheVariants as uses
 use Rattle.tm_syntax.specs.declared.tree.Stmt.{Stmt}
@@ -28,6 +30,7 @@ use Rattle.tm_parser.specs.declared.tables.Start.TheVariants as starts
 use Rattle.tm_parser.specs.declared.targets.LoopHead.{LoopHead}
 use Rattle.tm_grammar.specs.Combinators.{provided, first, nothing, pure, ◌>>=◌, branch, token, not_before, one_more, many_from}
 use Rattle.tm_grammar.specs.Rule.{Look}
+use Rattle.tm_parser.specs.Distinct.{are_distinct}
 use Rattle.tm_parser.specs.Looks.{ahead}
 use Rattle.tm_parser.specs.Grammar.{Rule, Inside, inside, items, whole, expr, target}
 use Rattle.tm_parser.specs.Tokens.{is, a_name, is_comma}
@@ -51,6 +54,8 @@ pub record Inner : Type 1 where
   pub else_or_end : Tag → Bool → Rule (Option (List Stmt))
   -- what a loop goes over, the condition of an item, whether it can be called, and the end of its tag
   pub loop_head : Rule LoopHead
+  -- the parameters of a macro or of a call's body behind their opening bracket, and their end
+  pub parameters : Rule (List Parameter)
 
 -- Each tag that begins a statement.
 abbrev pub start_of : Tag → Option Start
@@ -64,6 +69,8 @@ start_of tags.Filter = Some starts.Filter
 start_of tags.With = Some starts.With
 start_of tags.Do = Some starts.Do
 start_of tags.Autoescape = Some starts.AutoEscape
+start_of tags.Macro = Some starts.Macro
+start_of tags.Call = Some starts.Call
 start_of _ = None
 
 -- what a statement begins with
@@ -181,15 +188,25 @@ jump looping s = provided looping (do
   last ← block_end
   pure s)
 
--- The loops around a block aren't around its body.
+-- this end tag, which may say the name again
+abbrev pub named_end : Tag → List ℕ → Rule (Unit {0})
+named_end end name = do
+  word ← token (is_tag end)
+  again ← same_name name
+  block_end
+
+-- The body of a block or a macro of this name, up to its end tag. The loops around it aren't around its body.
+unfoldable pub named_body : Inner → Tag → List ℕ → Rule (List Stmt)
+named_body t end name = do
+  body ← t.body false
+  last ← named_end end name
+  pure body
+
 unfoldable pub block_tag : Inner → Rule Stmt
 block_tag t = do
   name ← token a_name
   close ← block_end
-  body ← t.body false
-  word ← token (is_tag tags.Endblock)
-  again ← same_name name
-  last ← block_end
+  body ← named_body t tags.Endblock name
   pure (stmts.Block name body)
 
 -- a tuple without brackets behind its first item, and the end of the tag
@@ -310,6 +327,36 @@ autoescape_tag i t looping = do
   last ← lone tags.Endautoescape
   pure (stmts.AutoEscape x body)
 
+-- the default of a parameter, or none
+unfoldable pub default_value : Inside → Rule (Option Expr)
+default_value i = branch (first (is sign.Assign))
+    (λ _. do
+      x ← i.expr
+      pure (Some x))
+    (pure None)
+
+unfoldable pub parameter : Inside → Rule Parameter
+parameter i = do
+  name ← token a_name
+  default ← default_value i
+  pure (record { name = name; default = default })
+
+-- Parameters, with commas between them and behind the last one a comma or none, and their end; no name is that of two.
+unfoldable pub parameters : Inside → Rule (List Parameter)
+parameters i = do
+  room ← i.room
+  ps ← items sign.CloseRound (parameter i) []
+  provided (are_distinct (parameter_names ps)) (pure ps)
+
+unfoldable pub macro_tag : Inner → Rule Stmt
+macro_tag t = do
+  name ← token a_name
+  bracket ← token (is sign.OpenRound)
+  ps ← t.parameters
+  close ← block_end
+  body ← named_body t tags.Endmacro name
+  pure (stmts.Macro (record { name = name; parameters = ps; body = body }))
+
 -- the call of a method or of a value
 abbrev pub calls : Step → Bool
 calls (Apply' applications.Method name _ given _ named) = true
@@ -334,6 +381,32 @@ do_tag i = do
     last ← block_end
     pure (stmts.Do x))
 
+abbrev pub have_no_default : List Parameter → Bool
+have_no_default [] = true
+have_no_default (p ∷ ps) = is_none p.default && have_no_default ps
+
+-- the parameters of a call's body: none where no bracket opens, and else such as a macro's, without any default
+unfoldable pub call_parameters : Inner → Rule (List Parameter)
+call_parameters t = branch (first (is sign.OpenRound))
+    (λ _. do
+      ps ← t.parameters
+      provided (have_no_default ps) (pure ps))
+    (pure [])
+
+-- What stands behind the expression of a call's tag, which is a call. The loops around the tag aren't around its body.
+unfoldable pub call_block : Inner → List Parameter → Expr → Rule Stmt
+call_block t ps x = provided (is_call x) (do
+  close ← block_end
+  body ← t.body false
+  last ← lone tags.Endcall
+  pure (stmts.CallBlock (record { call = x; parameters = ps; body = body })))
+
+unfoldable pub call_tag : Inside → Inner → Rule Stmt
+call_tag i t = do
+  ps ← call_parameters t
+  x ← i.expr
+  call_block t ps x
+
 -- what stands behind the start of a statement
 abbrev pub statement : Inside → Inner → Bool → Start → Rule Stmt
 statement i t looping (starts.Raw text) = pure (stmts.EmitRaw text)
@@ -348,6 +421,8 @@ statement i t looping starts.Filter = filter_tag i t looping
 statement i t looping starts.With = with_tag i t looping
 statement i t looping starts.Do = do_tag i
 statement i t looping starts.AutoEscape = autoescape_tag i t looping
+statement i t looping starts.Macro = macro_tag t
+statement i t looping starts.Call = call_tag i t
 
 -- statements behind these ones, as long as one begins
 abbrev pub more_statements : Inside → Inner → Bool → List Stmt → Rule (List Stmt)
@@ -358,10 +433,17 @@ body i t looping = more_statements i t looping []
 
 -- what may stand inside n nestings more
 unfoldable pub inner : ℕ → Inner
-inner zero = record { body = λ looping. nothing; rest = λ looping. nothing; else_or_end = λ end looping. nothing; loop_head = nothing }
+inner zero = record {
+  body = λ looping. nothing;
+  rest = λ looping. nothing;
+  else_or_end = λ end looping. nothing;
+  loop_head = nothing;
+  parameters = nothing;
+}
 inner (suc n) = record {
   body = body (inside n) (inner n);
   rest = rest (inside n) (inner n);
   else_or_end = else_or_end (inner n);
   loop_head = loop_head (inside n);
+  parameters = parameters (inside n);
 }

@@ -1,15 +1,13 @@
 -- Which tokens spell which tree.
-use Rattle.std.specs.Prelude.{ℕ, false, List, [], ◌∷◌, ◌++◌, map}
-use Rattle.std.specs.Str.{bytes_eq}
-use Rattle.std.specs.Borrow.{Bor}
-use Rattle.std.specs.List.{IsDistinct}
+use Rattle.std.specs.Prelude.{ℕ, false, List, [], ◌∷◌, ◌++◌, IsTrue}
 use Rattle.tm_syntax.specs.declared.token.Token.{Token}
 use Rattle.tm_syntax.specs.declared.tree.Stmt.{Stmt, EmitRaw, EmitExpr, EmitLoop, If', For', Break, Continue, Block', Set, CaptureBlock'}
-use Rattle.tm_syntax.specs.declared.tree.Stmt.{With', Do, AutoEscape', Row_of-Stmt, end_of-Stmt as no_statement}
+use Rattle.tm_syntax.specs.declared.tree.Stmt.{With', Do, AutoEscape', Macro', CallBlock', Row_of-Stmt, end_of-Stmt as no_statement}
 use Rattle.tm_syntax.specs.declared.tree.Stmt.{more_of-Stmt as statement, Held-Stmt-If-2 as Otherwise, None' as no_else}
 use Rattle.tm_syntax.specs.declared.tree.Stmt.{Some' as otherwise}
 use Rattle.tm_syntax.specs.declared.tree.Stmt.TheBlock.{hidden-the_row-Stmt-0 as row}
 use Rattle.tm_syntax.specs.declared.tree.Tree.{Tree}
+use Rattle.tm_parser.specs.Distinct.{are_distinct}
 use Rattle.tm_parser.specs.Grammar.{inside}
 use Rattle.tm_parser.specs.Statements.{body, inner}
 
@@ -29,6 +27,8 @@ abbrev mutual
   names_of (With' given _ body) = names_in body
   names_of (Do x) = []
   names_of (AutoEscape' x _ body) = names_in body
+  names_of (Macro' name parameters _ body) = names_in body
+  names_of (CallBlock' call parameters _ body) = names_in body
 
   pub names_in : {n : _} → Row_of-Stmt n → List (List ℕ)
   names_in no_statement = []
@@ -41,13 +41,6 @@ abbrev mutual
 abbrev pub block_names : List Stmt → List (List ℕ)
 block_names statements = names_in (row statements)
 
-abbrev pub AreDistinct : List (List ℕ) → Type 0
-AreDistinct = IsDistinct bytes_eq
-
--- the texts behind references
-abbrev pub texts : List (Bor (List ℕ)) → List (List ℕ)
-texts = map (λ name. name.now)
-
 -- how many brackets, prefixes, else parts and tags may be open at once
 abbrev pub nestings : ℕ
 nestings = 150
@@ -55,7 +48,7 @@ nestings = 150
 -- All tokens are the statements of the tree, around which is no loop, within so many nestings, and no name is that of two blocks.
 pub record SpellsTemplate (tokens : List Token) (tree : Tree) : Type 0 where
   pub spelled : (body (inside nestings) (inner nestings) false).spells tokens tree.statements []
-  pub distinct : AreDistinct (block_names tree.statements)
+  pub distinct : IsTrue (are_distinct (block_names tree.statements))
 
 abbrev pub SpellsNoTemplate : List Token → Type 0
 SpellsNoTemplate tokens = (tree : Tree) → SpellsTemplate tokens tree → ⊥

@@ -1,14 +1,16 @@
 //! The blocks of a tree.
-ghost use Rattle.std.specs.Prelude.{◌≡◌, ◌++◌, ◌↔◌, IsTrue, IfOk, OnOk};
-ghost use Rattle.tm_parser.specs.Template.{AreDistinct, block_names, names_of, texts};
+ghost use Rattle.std.specs.Prelude.{◌≡◌, ◌++◌, IfOk, OnOk};
+ghost use Rattle.tm_parser.specs.Distinct as spec;
+ghost use Rattle.tm_parser.specs.Distinct.{texts};
+ghost use Rattle.tm_parser.specs.Template.{block_names, names_of};
 
+use crate::distinct::are_distinct;
 use std::alloc::{AllocError, Global};
-use std::collections::BTreeSet;
 use tm_syntax::Stmt;
 
 /// Whether no name is that of two blocks in the statements; AllocError for want of memory.
 pub fn has_distinct_blocks(alloc: Global, statements: &[Stmt]) -> Result<bool, AllocError>
-    ensures { IfOk result (λ distinct. IsTrue distinct ↔ AreDistinct (block_names statements.now)) }
+    ensures { IfOk result (λ distinct. distinct ≡ spec.are_distinct (block_names statements.now)) }
 {
     let mut names = Vec::new(alloc);
     add_names(&mut names, statements)?;
@@ -61,18 +63,7 @@ fn add_names_of<'t>(names: &mut Vec<&'t str>, statement: &'t Stmt) -> Result<(),
         Stmt::CaptureBlock(_, _, body) => add_names(names, body.as_slice()),
         Stmt::With(_, body) => add_names(names, body.as_slice()),
         Stmt::AutoEscape(_, body) => add_names(names, body.as_slice()),
+        Stmt::Macro(declared) => add_names(names, declared.body.as_slice()),
+        Stmt::CallBlock(called) => add_names(names, called.body.as_slice()),
     }
-}
-
-/// Whether no name stands twice; AllocError for want of memory.
-fn are_distinct(alloc: Global, names: &[&str]) -> Result<bool, AllocError>
-    ensures { IfOk result (λ distinct. IsTrue distinct ↔ AreDistinct (texts names.now)) }
-{
-    let mut seen = BTreeSet::new(alloc);
-    for name in names {
-        if !seen.insert(*name)? {
-            return Ok(false);
-        }
-    }
-    Ok(true)
 }

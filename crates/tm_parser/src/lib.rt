@@ -4,8 +4,10 @@
 mod applications;
 mod blocks;
 mod cursor;
+mod distinct;
 mod expressions;
 mod lists;
+mod macros;
 mod primaries;
 mod statements;
 mod tables;

@@ -3,7 +3,7 @@ ghost use Rattle.std.specs.Prelude.{◌≡◌, ◌++◌, [], ◌∷◌, false, i
 ghost use Rattle.tm_parser.specs.Parses.{Parses};
 ghost use Rattle.tm_parser.specs.Grammar.{inside};
 ghost use Rattle.tm_parser.specs.Statements as spec;
-ghost use Rattle.tm_parser.specs.Statements.{autoescape_tag, block_end, block_tag, body, captured, do_tag, elif_tag, else_or_end};
+ghost use Rattle.tm_parser.specs.Statements.{autoescape_tag, block_end, body, captured, do_tag, elif_tag, else_or_end};
 ghost use Rattle.tm_parser.specs.Statements.{else_tag, emission, filter_tag, for_body, for_tag, if_tag, inner, jump, rest, set_block, set_tag};
 ghost use Rattle.tm_parser.specs.Statements.{set_value, statement, with_tag};
 ghost use Rattle.tm_grammar.specs.Combinators.{one_more, provided};
@@ -29,7 +29,12 @@ impl Cursor<'_> {
     /// Statements inside one nesting more.
     #[cycle(statements)]
     #[tactic(auto, using(crate::proofs::Nesting::statements))]
-    fn inner_body(&mut self, alloc: Global, depth: u8, looping: bool) -> Result<Items<Stmt>, Error>
+    pub fn inner_body(
+        &mut self,
+        alloc: Global,
+        depth: u8,
+        looping: bool,
+    ) -> Result<Items<Stmt>, Error>
         ensures { Parses result self.new (((inner depth).body looping).reads self.old) }
     {
         if depth == 0 {
@@ -169,6 +174,8 @@ impl Cursor<'_> {
             Start::With => self.with_tag(alloc, depth, looping),
             Start::Do => self.do_tag(alloc, depth),
             Start::AutoEscape => self.autoescape_tag(alloc, depth, looping),
+            Start::Macro => self.macro_tag(alloc, depth),
+            Start::Call => self.call_tag(alloc, depth),
         }
     }
 
@@ -338,22 +345,6 @@ impl Cursor<'_> {
             return Err(refusal());
         }
         self.expect(Sign::BlockEnd)
-    }
-
-    /// A block's name and body, up to its end tag, which may say the name again. Around the body is
-    /// no loop.
-    #[cycle(statements)]
-    #[tactic(auto, unfolding(crate::specs::Statements::block_tag))]
-    fn block_tag(&mut self, alloc: Global, depth: u8) -> Result<Stmt, Error>
-        ensures { Parses result self.new ((block_tag (inner depth)).reads self.old) }
-    {
-        let name = self.expect_name()?;
-        self.expect(Sign::BlockEnd)?;
-        let body = self.inner_body(alloc, depth, false)?;
-        self.expect_tag(Tag::Endblock)?;
-        self.expect_same(&name)?;
-        self.expect(Sign::BlockEnd)?;
-        Ok(Stmt::Block(name, body))
     }
 
     /// The target of a `set`, and its value or its body.
@@ -559,7 +550,7 @@ fn is_plain(argument: &Argument) -> bool
 }
 
 /// Whether an expression is the call of a name, of a method or of a value.
-fn is_call(expr: &Expr) -> bool
+pub fn is_call(expr: &Expr) -> bool
     ensures { result ≡ spec.is_call expr.now }
 {
     match expr {

@@ -56,6 +56,10 @@ pub enum Start {
     Do,
     /// The start of an `autoescape`.
     AutoEscape,
+    /// The start of a macro.
+    Macro,
+    /// The start of a call with a body.
+    Call,
 }
 
 // The levels of operators, from the tightest.
@@ -344,6 +348,8 @@ pub fn start_of(tag: Tag) -> Option<Start>
         Tag::With => Start::With,
         Tag::Do => Start::Do,
         Tag::Autoescape => Start::AutoEscape,
+        Tag::Macro => Start::Macro,
+        Tag::Call => Start::Call,
         Tag::Elif
         | Tag::Else
         | Tag::Endif
@@ -352,6 +358,8 @@ pub fn start_of(tag: Tag) -> Option<Start>
         | Tag::Endset
         | Tag::Endfilter
         | Tag::Endwith
-        | Tag::Endautoescape => return None,
+        | Tag::Endautoescape
+        | Tag::Endmacro
+        | Tag::Endcall => return None,
     })
 }

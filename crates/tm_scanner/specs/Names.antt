@@ -1,6 +1,7 @@
 -- Names, and the words that are no names.
 use Rattle.std.specs.Prelude.{ℕ, List, [], ◌∷◌, Bool, true, not, nat_eq, codes, Option, Some, None, option_map, if◌then◌else◌, ◌==◌, ◌||◌}
 use Rattle.std.specs.Prelude.{encode_utf8_all}
+use Rattle.std.specs.Option.{option_or}
 use Rattle.std.specs.Cmp.Lexicographic.{pointwise}
 use Rattle.std.specs.Str.{chars}
 use Rattle.unicode_ident.specs.Ident.{is_xid_start, is_xid_continue}
@@ -43,14 +44,21 @@ reserved_words =
 abbrev pub reserved : List ℕ → Option Sign
 reserved name = look_up reserved_words name
 
-abbrev pub tag_words : List (List ℕ × Tag)
-tag_words =
-    (codes "if", tag.If) ∷ (codes "elif", tag.Elif) ∷ (codes "else", tag.Else) ∷ (codes "endif", tag.Endif)
-    ∷ (codes "for", tag.For) ∷ (codes "endfor", tag.Endfor) ∷ (codes "break", tag.Break) ∷ (codes "continue", tag.Continue)
-    ∷ (codes "block", tag.Block) ∷ (codes "endblock", tag.Endblock) ∷ (codes "set", tag.Set)
-    ∷ (codes "endset", tag.Endset) ∷ (codes "with", tag.With) ∷ (codes "endwith", tag.Endwith) ∷ (codes "do", tag.Do)
-    ∷ (codes "filter", tag.Filter) ∷ (codes "endfilter", tag.Endfilter)
-    ∷ (codes "autoescape", tag.Autoescape) ∷ (codes "endautoescape", tag.Endautoescape) ∷ []
+-- the words of tags that begin a statement
+abbrev pub start_words : List (List ℕ × Tag)
+start_words =
+    (codes "if", tag.If) ∷ (codes "for", tag.For) ∷ (codes "break", tag.Break) ∷ (codes "continue", tag.Continue)
+    ∷ (codes "block", tag.Block) ∷ (codes "set", tag.Set) ∷ (codes "with", tag.With) ∷ (codes "do", tag.Do)
+    ∷ (codes "filter", tag.Filter) ∷ (codes "autoescape", tag.Autoescape) ∷ (codes "macro", tag.Macro)
+    ∷ (codes "call", tag.Call) ∷ []
+
+-- the words of tags that go on with a statement or end it
+abbrev pub later_words : List (List ℕ × Tag)
+later_words =
+    (codes "elif", tag.Elif) ∷ (codes "else", tag.Else) ∷ (codes "endif", tag.Endif) ∷ (codes "endfor", tag.Endfor)
+    ∷ (codes "endblock", tag.Endblock) ∷ (codes "endset", tag.Endset) ∷ (codes "endwith", tag.Endwith)
+    ∷ (codes "endfilter", tag.Endfilter) ∷ (codes "endautoescape", tag.Endautoescape) ∷ (codes "endmacro", tag.Endmacro)
+    ∷ (codes "endcall", tag.Endcall) ∷ []
 
 abbrev pub tag_of : List ℕ → Option Tag
-tag_of name = look_up tag_words name
+tag_of name = option_or (look_up start_words name) (look_up later_words name)

@@ -125,44 +125,71 @@ pub(crate) fn reserved(name: &str) -> Option<Sign>
 pub(crate) fn tag_of(name: &str) -> Option<Tag>
     ensures { result ≡ spec.tag_of name.now }
 {
+    match start_tag(name) {
+        Some(tag) => Some(tag),
+        None => later_tag(name),
+    }
+}
+
+/// Which tag that begins a statement the name begins.
+fn start_tag(name: &str) -> Option<Tag>
+    ensures { result ≡ spec.look_up spec.start_words name.now }
+{
     if is(name, "if") {
         Some(Tag::If)
-    } else if is(name, "elif") {
-        Some(Tag::Elif)
-    } else if is(name, "else") {
-        Some(Tag::Else)
-    } else if is(name, "endif") {
-        Some(Tag::Endif)
     } else if is(name, "for") {
         Some(Tag::For)
-    } else if is(name, "endfor") {
-        Some(Tag::Endfor)
     } else if is(name, "break") {
         Some(Tag::Break)
     } else if is(name, "continue") {
         Some(Tag::Continue)
     } else if is(name, "block") {
         Some(Tag::Block)
-    } else if is(name, "endblock") {
-        Some(Tag::Endblock)
     } else if is(name, "set") {
         Some(Tag::Set)
-    } else if is(name, "endset") {
-        Some(Tag::Endset)
     } else if is(name, "with") {
         Some(Tag::With)
-    } else if is(name, "endwith") {
-        Some(Tag::Endwith)
     } else if is(name, "do") {
         Some(Tag::Do)
     } else if is(name, "filter") {
         Some(Tag::Filter)
-    } else if is(name, "endfilter") {
-        Some(Tag::Endfilter)
     } else if is(name, "autoescape") {
         Some(Tag::Autoescape)
+    } else if is(name, "macro") {
+        Some(Tag::Macro)
+    } else if is(name, "call") {
+        Some(Tag::Call)
+    } else {
+        None
+    }
+}
+
+/// Which tag that goes on with a statement or ends it the name begins.
+fn later_tag(name: &str) -> Option<Tag>
+    ensures { result ≡ spec.look_up spec.later_words name.now }
+{
+    if is(name, "elif") {
+        Some(Tag::Elif)
+    } else if is(name, "else") {
+        Some(Tag::Else)
+    } else if is(name, "endif") {
+        Some(Tag::Endif)
+    } else if is(name, "endfor") {
+        Some(Tag::Endfor)
+    } else if is(name, "endblock") {
+        Some(Tag::Endblock)
+    } else if is(name, "endset") {
+        Some(Tag::Endset)
+    } else if is(name, "endwith") {
+        Some(Tag::Endwith)
+    } else if is(name, "endfilter") {
+        Some(Tag::Endfilter)
     } else if is(name, "endautoescape") {
         Some(Tag::Endautoescape)
+    } else if is(name, "endmacro") {
+        Some(Tag::Endmacro)
+    } else if is(name, "endcall") {
+        Some(Tag::Endcall)
     } else {
         None
     }

@@ -125,6 +125,14 @@ pub enum Tag {
     Autoescape,
     /// `{% endautoescape`
     Endautoescape,
+    /// `{% macro`
+    Macro,
+    /// `{% endmacro`
+    Endmacro,
+    /// `{% call`
+    Call,
+    /// `{% endcall`
+    Endcall,
 }
 
 /// A token of a source.

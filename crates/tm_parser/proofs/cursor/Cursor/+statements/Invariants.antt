@@ -34,8 +34,23 @@ decreases-captured l = nesting_room * l.depth + 1
 abbrev pub decreases-for_tag : goal.decreases-for_tag
 decreases-for_tag l = nesting_room * l.depth + 2
 
+abbrev pub decreases-closed_body : goal.decreases-closed_body
+decreases-closed_body l = nesting_room * l.depth + 1
+
+abbrev pub decreases-named_body : goal.decreases-named_body
+decreases-named_body l = nesting_room * l.depth + 2
+
 abbrev pub decreases-block_tag : goal.decreases-block_tag
-decreases-block_tag l = nesting_room * l.depth + 1
+decreases-block_tag l = nesting_room * l.depth + 3
+
+abbrev pub decreases-macro_tag : goal.decreases-macro_tag
+decreases-macro_tag l = nesting_room * l.depth + 3
+
+abbrev pub decreases-call_block : goal.decreases-call_block
+decreases-call_block l = nesting_room * l.depth + 2
+
+abbrev pub decreases-call_tag : goal.decreases-call_tag
+decreases-call_tag l = nesting_room * l.depth + 3
 
 abbrev pub decreases-with_tag : goal.decreases-with_tag
 decreases-with_tag l = nesting_room * l.depth + 1

@@ -1,0 +1,20 @@
+//! Whether names stand once.
+ghost use Rattle.std.specs.Prelude.{◌≡◌, IfOk};
+ghost use Rattle.tm_parser.specs.Distinct as spec;
+ghost use Rattle.tm_parser.specs.Distinct.{texts};
+
+use std::alloc::{AllocError, Global};
+use std::collections::BTreeSet;
+
+/// Whether no name stands twice; AllocError for want of memory.
+pub fn are_distinct(alloc: Global, names: &[&str]) -> Result<bool, AllocError>
+    ensures { IfOk result (λ distinct. distinct ≡ spec.are_distinct (texts names.now)) }
+{
+    let mut seen = BTreeSet::new(alloc);
+    for name in names {
+        if !seen.insert(*name)? {
+            return Ok(false);
+        }
+    }
+    Ok(true)
+}
