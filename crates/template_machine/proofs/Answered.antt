@@ -1,5 +1,5 @@
 -- What a run of a template's code answered is what its trees mean.
-use Rattle.std.proofs.Common.{◌≡◌, ◌⊎◌, inl, inr, ℕ, List, [], ◌∷◌, Bool, true, false, Option, Result, Ok, Err, IsErrAnd, refl, sym, ap}
+use Rattle.std.proofs.Common.{◌≡◌, inl, inr, ℕ, List, [], ◌∷◌, Bool, true, false, Option, Result, Ok, Err, IsErrAnd, refl, sym, ap}
 use Rattle.std.proofs.Common.{◌∙◌, length, subst}
 use Rattle.std.specs.Io.KnownBytes.{Appends}
 use Rattle.tm_meaning.specs.Memory.{is_want_of_memory}
@@ -7,7 +7,7 @@ use Rattle.tm_values.specs.declared.error.ErrorKind.{ErrorKind}
 use Rattle.tm_meaning.specs.World.{World}
 use Rattle.tm_meaning.specs.Tree.{Trees}
 use Rattle.tm_meaning.specs.Meaning.{Ending, done, leave, next, fault, Outcome, rendered}
-use Rattle.tm_meaning.specs.Machine.{Capture, Config, End, Finished, Failed, Stuck, Program, base_of, new_capture, put_in, put_out, run_from, running}
+use Rattle.tm_meaning.specs.Machine.{Capture, End, Finished, Failed, Stuck, Program, base_of, new_capture, put_in, put_out, run_from, running}
 use Rattle.tm_meaning.specs.Steps.{Final, final, step, Reaches}
 use Rattle.tm_meaning.specs.Compiled.{IsCompiled}
 use Rattle.tm_meaning.proofs.Ends.{one_end}
@@ -15,12 +15,12 @@ use Rattle.tm_output.specs.Counts.{AppendsBeginning}
 use Rattle.tm_parts.specs.Halts.{failures_after}
 use Rattle.tm_parts.specs.declared.halt.Halt.{Halt}
 use Rattle.tm_parts.specs.declared.halt.Halt.TheVariants as halt
-use Rattle.tm_simulation.proofs.Follow.{Bed, air, inside}
-use Rattle.tm_simulation.proofs.Forms.{end_by, end_of}
+use Rattle.tm_simulation.proofs.Follow.{air, inside}
+use Rattle.tm_simulation.proofs.Forms.{end_by}
 use Rattle.tm_simulation.proofs.Simulation.{render_runs}
 use Rattle.tm_vm.specs.Answers.{HaltsAs, ReachesEnd}
 use Rattle.tm_vm.specs.Nested.{WroteBeginning}
-use Rattle.template_machine.specs.Renders.{answer_by, answer_of, IsFresh, IsRun, Ran, run_as_meant, run_by_writer, run_by_memory}
+use Rattle.template_machine.specs.Renders.{answer_by, IsFresh, Ran, run_as_meant, run_by_writer, run_by_memory}
 
 -- ---------------------------------------------------------------- ends
 -- the end that is meant, over captures

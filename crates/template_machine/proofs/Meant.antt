@@ -1,5 +1,5 @@
 -- What an environment gives of a template that is meant.
-use Rattle.std.proofs.Common.{◌≡◌, ℕ, List, refl, sym, ap, ◌∙◌, Option, Some, None, false}
+use Rattle.std.proofs.Common.{◌≡◌, refl, sym, ap, ◌∙◌, Option, Some, None, false}
 use Rattle.std.specs.Option.{option_map}
 use Rattle.tm_syntax.specs.Named.{find}
 use Rattle.tm_meaning.specs.declared.stream.StreamId.{StreamId}
@@ -8,7 +8,7 @@ use Rattle.tm_meaning.specs.declared.stream.TemplateId.TheVariants.{Own, Entry}
 use Rattle.tm_tables.specs.Stated.{StatedObjects}
 use Rattle.tm_meaning.specs.World.{Template, template_at, card_at, card_in, or_is}
 use Rattle.tm_meaning.specs.Calls.{is_required}
-use Rattle.tm_meaning.specs.Tree.{TemplateTree, template_of, tree_at, part_of}
+use Rattle.tm_meaning.specs.Tree.{template_of, tree_at}
 use Rattle.tm_templates.specs.Templates.{Compiled, tree_of}
 use Rattle.tm_templates.proofs.Named.{find-turned}
 use Rattle.tm_templates.proofs.Streams.{none_required}

@@ -13,7 +13,7 @@ use Rattle.tm_meaning.specs.Steps.{step}
 use Rattle.tm_vm.specs.Answers.{program, HaltsAs, ReachesEnd}
 use Rattle.tm_vm.specs.Nested.{WroteBeginning}
 use Rattle.tm_meaning.specs.declared.stream.TemplateId.TheVariants.{Own}
-use Rattle.template_machine.specs.Environment.{IsTemplateOf, IsMadeIn, EnvironmentValue, TemplateValue, host_of, trees, code}
+use Rattle.template_machine.specs.Environment.{IsMadeIn, EnvironmentValue, TemplateValue, host_of, trees, code}
 use Rattle.template_machine.specs.Renders.{meaning, meaning_from, IsFresh, Ran, RenderedText, RenderedSource, source_rendered, IsUnnumbered}
 use Rattle.template_machine.proofs.Answered.{run_done, run_halted}
 

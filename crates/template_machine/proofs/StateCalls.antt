@@ -1,20 +1,17 @@
 -- What calls of a state answer is what is meant.
-use Rattle.std.proofs.Common.{◌≡◌, ◌+◌, ◌≤◌, ◌-◌, ℕ, suc, List, [], ◌∷◌, Option, Some, None, Result, Ok, Err, String, string_bytes, Bool, true, false}
+use Rattle.std.proofs.Common.{◌≡◌, ◌+◌, ◌≤◌, ◌-◌, ℕ, suc, List, [], ◌∷◌, Option, Some, None, Ok, Err, String, string_bytes, Bool, true}
 use Rattle.std.proofs.Common.{refl, sym, ap, ◌∙◌, subst, arith, length}
 use Rattle.std.specs.declared.alloc.Global.{Global}
 use Rattle.std.proofs.lemmas.List.{length-drop}
-use Rattle.tm_meaning.specs.Memory.{is_want_of_memory}
 use Rattle.tm_values.specs.Val.{Val}
 use Rattle.tm_values.specs.declared.error.ErrorKind.{ErrorKind}
-use Rattle.tm_meaning.specs.World.{World, Scope, Res, Good, Bad}
-use Rattle.tm_meaning.specs.Calls.{Asked, Callee, NestedCall, outermost, run_value, runs, undone, wrapped}
-use Rattle.tm_meaning.specs.Tree.{Trees}
+use Rattle.tm_meaning.specs.World.{World, Scope, Good, Bad}
+use Rattle.tm_meaning.specs.Calls.{Asked, Callee, NestedCall, outermost, run_value, undone, wrapped}
 use Rattle.tm_meaning.specs.Meaning.{Ending, done, leave, next, fault, Outcome, nests_of, value_behind}
 use Rattle.tm_meaning.specs.Machine.{Capture, Config, End, Finished, Failed, Stuck, Over, Program, base_of, first_run, new_capture, running}
 use Rattle.tm_meaning.specs.Steps.{Final, begins, begun, final, over, step}
-use Rattle.tm_meaning.specs.Compiled.{IsCompiled}
 use Rattle.tm_meaning.proofs.Ends.{one_end}
-use Rattle.tm_simulation.specs.Reached.{RunsTo, captures_with, end_by, final_in, text_in}
+use Rattle.tm_simulation.specs.Reached.{RunsTo, captures_with, end_by, final_in}
 use Rattle.tm_simulation.proofs.Simulation.{nested_comes_to_meaning}
 use Rattle.tm_output.specs.Pieces.{appends_nothing}
 use Rattle.tm_values.specs.declared.error.ErrorKind.TheVariants.{InvalidOperation}

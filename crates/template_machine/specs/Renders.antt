@@ -10,7 +10,6 @@ use Rattle.tm_values.specs.declared.error.ErrorKind.TheVariants.{InvalidOperatio
 use Rattle.tm_syntax.specs.Named.{put}
 use Rattle.tm_meaning.specs.World.{World, Res, Good, Bad}
 use Rattle.tm_meaning.specs.Calls.{Asked, has, refused, runs, recurs, Callee}
-use Rattle.tm_meaning.specs.declared.stream.StreamId.{StreamId}
 use Rattle.tm_tables.specs.Stated.{StatedObjects}
 use Rattle.tm_meaning.specs.declared.stream.TemplateId.TheVariants.{Own}
 use Rattle.tm_meaning.specs.Machine.{Capture, new_capture, put_in, put_out}

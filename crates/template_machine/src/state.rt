@@ -190,7 +190,10 @@ impl<'env, O: Parties> StateOf<'env, O> {
     {
         let alloc = self.rendering.allocator();
         let NestedRun {
-            run, text, saved, ..
+            run,
+            text,
+            saved,
+            ..
         } = run;
         let result = self.run_in_capture(run);
         self.kept.put_back(saved);

@@ -1,4 +1,4 @@
-use Rattle.std.proofs.Common.{List, Result, Err, refl, ap, sym, ◌∙◌, length}
+use Rattle.std.proofs.Common.{List, Result, refl, ap, sym, ◌∙◌, length}
 use Rattle.tm_meaning.specs.World.{World, root_of}
 use Rattle.tm_meaning.specs.Machine.{Capture, run_from, running}
 use Rattle.tm_parts.specs.declared.halt.Halt.{Halt}
