@@ -46,6 +46,7 @@ fn word(instruction: &Instruction) -> &'static str {
         Instruction::UnpackLists(_) => "lists:",
         Instruction::Neg => "-",
         Instruction::Not => "not",
+        Instruction::IsUndefined => "undefined",
         Instruction::CompareAndPreserve(_) => "keep:",
         Instruction::Swap => "swap",
         Instruction::DupTop => "copy",
@@ -61,6 +62,11 @@ fn word(instruction: &Instruction) -> &'static str {
         Instruction::PerformTest(_, _, _) => "test:",
         Instruction::CallBlock(_) => "block:",
         Instruction::StoreLocal(_) => "store:",
+        Instruction::Enclose(_) => "enclose:",
+        Instruction::GetClosure => "closure",
+        Instruction::BuildMacro(_, _, true) => "macro!:",
+        Instruction::BuildMacro(_, _, false) => "macro:",
+        Instruction::Return => "return",
         Instruction::UnpackList(_) => "unpack:",
         Instruction::SetAttr(_) => "set:",
         Instruction::PushLoop(flags) if flags.recursive => "loop!",
@@ -129,6 +135,8 @@ fn detail(instruction: &Instruction) -> &str {
         | Instruction::PerformTest(name, _, _)
         | Instruction::CallBlock(name)
         | Instruction::StoreLocal(name)
+        | Instruction::Enclose(name)
+        | Instruction::BuildMacro(name, _, _)
         | Instruction::SetAttr(name) => name.as_str(),
         Instruction::CompareAndPreserve(operator) => comparison(*operator),
         Instruction::BuildList(Some(number))
@@ -147,7 +155,7 @@ fn detail(instruction: &Instruction) -> &str {
     }
 }
 
-// The count of a call's values, or `*` where it is on top of them.
+// The count of a call's values, or `*` where it is on top of them; where a macro is entered.
 fn count(instruction: &Instruction) -> &'static str {
     match instruction {
         Instruction::CallFunction(_, number)
@@ -158,6 +166,7 @@ fn count(instruction: &Instruction) -> &'static str {
             Some(number) => numeral(*number),
             None => "*",
         },
+        Instruction::BuildMacro(_, place, _) => numeral(*place),
         _ => "",
     }
 }

@@ -12,6 +12,8 @@ mod errors;
 mod flags;
 mod guards;
 #[cfg(test)]
+mod macros;
+#[cfg(test)]
 mod names;
 #[cfg(test)]
 mod output;

@@ -10,7 +10,7 @@ use tm_names::undeclared;
 use tm_values::Error;
 
 /// The names alone.
-static ALONE: [&str; 30] = [
+static ALONE: [&str; 33] = [
     "{% set x = foo %}{{ x }}{{ bar.baz }} => bar foo",
     "{{ bar.baz() }} => bar",
     "{{ super(a) }}{{ self.b() }} => a",
@@ -41,10 +41,13 @@ static ALONE: [&str; 30] = [
     "{{ a if b else c }}{{ d[e:f:g] }}{{ h < i < j }} => a b c d e f g h i j",
     "{{ [a, (b,), {c: d}] }}{{ not e and -f or g ~ h }} => a b c d e f g h",
     "{{ b }}{{ a }}{{ ab }}{{ b }} => a ab b",
+    "{% macro m(a, b=a, c=d) %}{{ b }}{{ m }}{{ e }}{{ caller() }}{% set f = 1 %}{% endmacro %}{{ m }}{{ f }}{{ caller }} => caller d e f",
+    "{% macro m(a=b, b=1) %}{% endmacro %} => b",
+    "{% call(a, b) f(c) %}{{ a }}{{ caller }}{{ d }}{% endcall %}{{ a }} => a c d f",
 ];
 
 /// With what is nested in them.
-static NESTED: [&str; 12] = [
+static NESTED: [&str; 14] = [
     "{% set x = foo %}{{ x }}{{ bar.baz }} => bar.baz foo",
     "{{ bar.baz() }} => bar.baz",
     "{{ bar[\"x\"] }}{{ b[0].y }} => b bar",
@@ -57,6 +60,8 @@ static NESTED: [&str; 12] = [
     "{{ self.b() }}{{ self.b }}{{ super(a.b) }} => a.b self.b",
     "{{ [a.b][0].c }}{{ a.b.c }}{{ a }} => a a.b a.b.c",
     "{% for x.y in z.w %}{{ loop.index }}{{ a.loop }}{% endfor %} => a.loop x z.w",
+    "{% macro m(a) %}{{ a.b }}{{ c.d }}{% endmacro %}{{ m.name }} => c.d",
+    "{% call a.b.m() %}{{ c.d }}{% endcall %} => a.b.m c.d",
 ];
 
 /// The names that a source reads, each behind a blank.

@@ -1,6 +1,6 @@
 //! Sources with their code, and what is no source of a template.
 use crate::rows::{halves, joined};
-use crate::{code, syntax};
+use crate::{code, macros, syntax};
 use std::alloc::Global;
 use std::process::Abort;
 use std::rc::RcStr;
@@ -200,6 +200,7 @@ fn sources_have_their_code(rt: HostRuntime) -> Result<(), Fail> {
     let syntax = syntax::usual(rt.alloc())?;
     check_codes(&rt, rt.alloc(), &*syntax, &EXPRESSIONS_AND_STATEMENTS)?;
     check_codes(&rt, rt.alloc(), &*syntax, &TOKENS)?;
+    check_codes(&rt, rt.alloc(), &*syntax, &macros::CODES)?;
     Ok(())
 }
 
@@ -371,7 +372,7 @@ static REFUSED: [&str; 163] = [
 ];
 
 /// What may nest 150 deep, by its pieces.
-static NESTINGS: [&str; 26] = [
+static NESTINGS: [&str; 31] = [
     "{{|0*(|a|0*)|}}",
     "{{|0*f (|a|0*)|}}",
     "{{|0*f ( a =|a|0*)|}}",
@@ -396,6 +397,11 @@ static NESTINGS: [&str; 26] = [
     "0*{%for a in b %}|{%break %}|0*{%endfor %}",
     "2*{%for a in b %}|{%for ( a ) in ( b ) , c if ( d ) %} {%endfor %}|2*{%endfor %}",
     "2*{%with %}|{%for a in b %} {%else %} {%endfor %}|2*{%endwith %}",
+    "1*{%macro m ( ) %}|{{ a }}|1*{%endmacro %}",
+    "2*{%with %}|{%macro m ( a , b = c ) %} {%endmacro %}|2*{%endwith %}",
+    "3*{%with %}|{%macro m ( a = ( b ) ) %} {%endmacro %}|3*{%endwith %}",
+    "1*{%call m ( ) %}|{{ a }}|1*{%endcall %}",
+    "2*{%with %}|{%call ( a ) m ( b ) %} {%endcall %}|2*{%endwith %}",
     "{{|0*(|1|0*)|}}",
     "1*{% if a %}|{{ (1) }}|1*{% endif %}",
 ];
@@ -448,6 +454,7 @@ fn check_joined(
 #[test]
 fn what_is_no_template_is_refused(rt: HostRuntime) -> Result<(), Fail> {
     check_joined(&rt, rt.alloc(), &REFUSED, 0, false)?;
+    check_joined(&rt, rt.alloc(), &macros::REFUSED, 0, false)?;
     Ok(())
 }
 
