@@ -68,10 +68,15 @@ abbrev pub again_with : List Val → Reply
 again_with [] = gives (undefined false)
 again_with (v ∷ vs) = further_with (codes "again") v
 
--- a further call, without arguments, of what a text names; undefined where there is none
-abbrev pub macro_named : Option (List ℕ) → Reply
-macro_named None = gives (undefined false)
-macro_named (Some t) = asks_for (further.Macro t [])
+-- the second of arguments alone, where there is one
+abbrev pub second_alone : List Val → List Val
+second_alone (v ∷ given ∷ more) = given ∷ []
+second_alone _ = []
+
+-- a further call, with these arguments, of what a text names; undefined where there is none
+abbrev pub macro_named : Option (List ℕ) → List Val → Reply
+macro_named None args = gives (undefined false)
+macro_named (Some t) args = asks_for (further.Macro t args)
 
 -- and of the block
 abbrev pub block_named : Option (List ℕ) → Reply

@@ -12,6 +12,8 @@ mod limited;
 #[cfg(test)]
 mod loops;
 #[cfg(test)]
+mod macros;
+#[cfg(test)]
 mod party;
 #[cfg(test)]
 mod readme;

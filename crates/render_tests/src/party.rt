@@ -12,7 +12,7 @@ ghost use Rattle.tm_tables.specs.Stated.{IsStated, just, keeping};
 ghost use Rattle.render_tests.specs.Found.{as_safe, in_capitals, of_first, of_text, part_of, reply_of, reply_of_found};
 ghost use Rattle.render_tests.specs.declared.party.Party.TheVariants.{Second, Last, Keeper, Reader, Title, Seen, Faulty};
 ghost use Rattle.render_tests.specs.Found.{again_with, capitals_twice, first_text, found_at, further_with};
-ghost use Rattle.render_tests.specs.Found.{block_named, macro_named};
+ghost use Rattle.render_tests.specs.Found.{block_named, macro_named, second_alone};
 ghost use Rattle.render_tests.specs.declared.party.Party.TheVariants.{Upper, Safe, Substr};
 ghost use Rattle.render_tests.specs.declared.party.Party.TheVariants.{Look, Kept, Capital, Twice, Again, Macro, Block};
 ghost use Rattle.tm_values.specs.Val.{none, text_in};
@@ -56,7 +56,7 @@ pub(crate) enum Party {
     Twice,
     /// Asks for the filter `again` with its first argument.
     Again,
-    /// Asks for what the name that its first argument is stands for.
+    /// Asks for what the name that its first argument is stands for, with the second where there is one.
     Macro,
     /// Asks for the block of the name that its first argument is.
     Block,
@@ -81,7 +81,7 @@ impl Callable for Party {
       | Capital ↦ λ args view. just (further_with (codes "upper") (text (codes "a") false))
       | Twice ↦ λ args view. just (capitals_twice (first_text args))
       | Again ↦ λ args view. just (again_with args)
-      | Macro ↦ λ args view. just (macro_named (first_text args))
+      | Macro ↦ λ args view. just (macro_named (first_text args) (second_alone args))
       | Block ↦ λ args view. just (block_named (first_text args))
     ] };
 
@@ -282,13 +282,28 @@ fn again(alloc: Global, args: &[Value]) -> CallableAnswer
     }
 }
 
-/// Asks for what the name that the first argument is stands for; undefined where it is no text.
-fn macro_named(alloc: Global, args: &[Value]) -> CallableAnswer
-    ensures { IsStated result (just (macro_named (first_text args.now))) }
+/// The second argument alone, where there is one. Fails by OutOfMemory alone.
+fn second_alone(alloc: Global, args: &[Value]) -> Result<Vec<Value>, Error>
+    ensures { OkOrOutOfMemory result (λ given. given.items ≡ second_alone args.now) }
 {
-    match first_text(args) {
-        Some(name) => CallableAnswer::further_macro(alloc, name, Vec::new(alloc)),
-        None => CallableAnswer::value(alloc, Value::undefined()),
+    let mut given = Vec::new(alloc);
+    if let [_, value, ..] = args {
+        given.push(value.share()?)?;
+    }
+    Ok(given)
+}
+
+/// Asks for what the name that the first argument is stands for, with the second where there is one; undefined
+/// where it is no text.
+fn macro_named(alloc: Global, args: &[Value]) -> CallableAnswer
+    ensures { IsStated result (just (macro_named (first_text args.now) (second_alone args.now))) }
+{
+    let Some(name) = first_text(args) else {
+        return CallableAnswer::value(alloc, Value::undefined());
+    };
+    match second_alone(alloc, args) {
+        Ok(given) => CallableAnswer::further_macro(alloc, name, given),
+        Err(error) => CallableAnswer::fault(alloc, error),
     }
 }
 

@@ -130,7 +130,7 @@ fn remains(state: &Left<'_>) -> Option<u64> {
 }
 
 /// Whether a state is left as a row asks.
-fn is_left(state: &Left<'_>, wanted: &str) -> bool {
+pub(crate) fn is_left(state: &Left<'_>, wanted: &str) -> bool {
     match wanted.split_once(' ') {
         Some(("known", names)) => lists(&state.known_variables(), names),
         Some(("exports", names)) => lists(&state.exports(), names),

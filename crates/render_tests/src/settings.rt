@@ -3,7 +3,7 @@
 use crate::callbacks::{method_of, rule_of, style_of};
 use crate::party::{Party, Rows, add_objects};
 use crate::renders::{Given, Setup, are, expect_row, row_of, usual};
-use crate::{bounds, loops, rows, values};
+use crate::{bounds, loops, macros, rows, values};
 use std::alloc::Global;
 use std::test::Fail;
 use template_machine::*;
@@ -65,6 +65,26 @@ fn is_refused<'source>(environment: &mut Rows<'source>, rest: &'source str) -> b
     }
 }
 
+/// Whether a source runs out of each fuel up to the number before it. That fuel is set behind it.
+fn is_short(environment: &mut Rows<'_>, rest: &str) -> bool {
+    let (most, source) = rest.split_once(' ').unwrap_or(("0", rest));
+    let most: u64 = most.parse().unwrap_or(0);
+    for fuel in 0..=most {
+        environment.set_fuel(Some(fuel));
+        if !runs_out(environment, source) {
+            return false;
+        }
+    }
+    true
+}
+
+fn runs_out(environment: &Rows<'_>, source: &str) -> bool {
+    match environment.render_str(&mut StateIds::new(), source, Value::undefined()) {
+        Ok(_) => false,
+        Err(error) => error.kind() == ErrorKind::OutOfFuel,
+    }
+}
+
 /// Changes a setting of an environment, or asks for them; false where they aren't so, or there is
 /// no such word.
 fn set(environment: &mut Rows<'_>, word: &str, rest: &str) -> bool {
@@ -112,6 +132,7 @@ fn change<'source>(
             Ok(true)
         }
         "refused" => Ok(is_refused(environment, rest)),
+        "short" => Ok(is_short(environment, rest)),
         "globals" => has_globals(alloc, environment, rest),
         _ => Ok(set(environment, word, rest)),
     }
@@ -153,7 +174,7 @@ fn expect_table<'source>(
     Ok(())
 }
 
-static TABLES: [&str; 24] = [
+static TABLES: [&str; 25] = [
     rows::TEXTS,
     rows::CALLS,
     rows::FILTERS,
@@ -165,6 +186,7 @@ static TABLES: [&str; 24] = [
     loops::LOOPS,
     loops::RECURSIONS,
     loops::METHODS,
+    macros::MACROS,
     values::OPERATIONS,
     values::WRITTEN,
     values::FUNCTIONS,

@@ -5,6 +5,7 @@ ghost use Rattle.tm_meaning.specs.declared.reply.Reply.TheVariants.{Value as giv
 ghost use Rattle.tm_tables.specs.Stated.{just};
 
 use crate::callbacks::{Method, Style, rule_of};
+use crate::macros::serve_states;
 use crate::party::{Left, Page, Party, Rows};
 use std::alloc::Global;
 use std::test::Fail;
@@ -19,7 +20,7 @@ fn replaced(state: &mut Left<'_>, number: i128) -> Result<Option<i128>, Error> {
 }
 
 /// The number that is kept at `k`.
-fn kept(state: &Left<'_>) -> Option<i128> {
+pub(crate) fn kept(state: &Left<'_>) -> Option<i128> {
     match state.get_temp("k") {
         Some(value) => value.as_whole(),
         None => None,
@@ -124,7 +125,8 @@ fn renders_otherwise(alloc: Global, environment: &Rows<'_>) -> Result<bool, Erro
     Ok(
         is_unnamed(&template)?
             && keeps_the_last(alloc, &template)?
-            && runs_blocks(alloc, environment)?,
+            && runs_blocks(alloc, environment)?
+            && serve_states(alloc, environment)?,
     )
 }
 

@@ -1,0 +1,166 @@
+//! Rows of macros and call tags, and macros that a state calls.
+use crate::party::{Left, Rows};
+use crate::renders::is_left;
+use crate::states::kept;
+use std::alloc::Global;
+use template_machine::*;
+
+/// Macros and call tags.
+pub(crate) const MACROS: &str = r#"Macros and call tags.
+- @undefined-names
+- @short 7 {% macro m() %}x{% endmacro %}{{ m() }}
+- @fuel 8
+- {% macro m() %}x{% endmacro %}{{ m() }} => x => 7 => fuel 1
+- @fuel 10000
+- @limit 7
+- {% macro m() %}x{% endmacro %}{{ m() }} => x => 7
+- @limit 6
+- {% macro m() %}x{% endmacro %}{{ m() }} =>  => InvalidOperation
+- @limit 500
+- {% macro m(a, b=2) %}{{ a }}{{ b }}{% endmacro %}{{ m(1) }} {{ m(b=5) }} {{ m(1, 2) }} {{ m(*[7], b=8) }} {{ m(**{"a": 1}) }} => 12 5 12 78 12 => 77
+- {% macro m(a, b=2) %}{{ a }}{{ b }}{% endmacro %}{{ m(1, a=3) }} =>  => TooManyArguments
+- {% macro m(a, b=2) %}{{ a }}{{ b }}{% endmacro %}{{ m(1, 2, 3) }} =>  => TooManyArguments
+- {% macro m(a, b=2) %}{{ a }}{{ b }}{% endmacro %}{{ m(z=1) }} =>  => TooManyArguments
+- {% macro m(a, b=2) %}{{ a }}{{ b }}{% endmacro %}{{ m(caller=1) }} =>  => TooManyArguments
+- {% macro m(a, b=2) %}{{ a }}{{ b }}{% endmacro %}{{ m(**{1: 2}) }} => 2 => ok
+- {% macro m(a, b=2) %}{{ a }}{{ b }}{% endmacro %}{{ m() }} => 2 => ok
+- {% macro m(a, b=a) %}{{ b }}{% endmacro %}{{ m(1) }} =>  => 14
+- {% macro m(a=b, b=1) %}{{ a }}{% endmacro %}{{ m() }} => 1 => 17
+- {% macro m(a=1, b) %}{{ a }}{{ b }}{% endmacro %}{{ m(b=2) }} => 12 => 18
+- {% macro m(a=1) %}{{ a }}{% endmacro %}{{ m(x) }}{{ m(none) }} => 1none => 21
+- {% macro m(caller) %}{{ caller }}{% endmacro %}{{ m(caller=1) }} => 1 => 12
+- @short 6 {% macro m() %}{{ caller() }}{% endmacro %}{{ m() }}
+- @fuel 7
+- {% macro m() %}{{ caller() }}{% endmacro %}{{ m() }} =>  => InvalidOperation
+- @fuel 10000
+- {% macro m() %}[{{ caller(2) }}]{% endmacro %}{% call(n) m() %}{{ n + 1 }}{% endcall %} => [3] => 21
+- {% macro m() %}[{{ caller() }}]{% endmacro %}{% for x in [1,2] %}{% call m() %}{{ x }}{% endcall %}{% endfor %} => [1][2] => 42
+- {% macro m() %}[{{ caller() }}]{% endmacro %}{% set x %}{% call m() %}a{% endcall %}{% endset %}{{ x }} => [a] => 20
+- {% for i in [1,2] %}{% macro m() %}{{ j }}{% endmacro %}{{ m() }}{% set j = i %}{{ m() }}{% endfor %} => 112 => 40
+- {% set x = 1 %}{% macro m() %}{{ x }}{% endmacro %}{% set x = 2 %}{{ m() }} => 2 => 13
+- {% set x = 1 %}{% macro m() %}{{ x }}{% endmacro %}{% with x = 3 %}{{ m() }}{% endwith %} => 1 => 13
+- {% macro m(n) %}{{ n }}{% if n > 0 %}{{ m(n - 1) }}{% endif %}{% endmacro %}{{ m(3) }} => 3210 => 51
+- {% macro a() %}{{ b() }}{% endmacro %}{% macro b() %}B{% endmacro %}{{ a() }} => B => 14
+- {% macro o() %}{% macro i() %}{{ z }}{% endmacro %}{% set z = 5 %}{{ i() }}{% endmacro %}{{ o() }} => 5 => 18
+- @short 89 {% macro m() %}{{ m() }}{% endmacro %}{{ m() }}
+- @fuel 90
+- {% macro m() %}{{ m() }}{% endmacro %}{{ m() }} =>  => InvalidOperation
+- @fuel 10000
+- {% macro m(a) %}{% endmacro %}{{ m }} {{ m.arguments }} {{ m.caller }} {{ m.name }} {{ m.x }} => <macro m> ["a"] false m  => 22
+- {% macro m() %}x{% endmacro %}{% set n = {"f": m} %}{{ n.f() }} {{ n["f"]() }} => x x => 19
+- {% macro m() %}x{% endmacro %}{{ m.name() }} =>  => InvalidOperation
+- {% macro m() %}x{% endmacro %}{{ m.zz() }} =>  => UnknownMethod
+- @short 6 {% call m() %}{% endcall %}
+- @fuel 7
+- {% call m() %}{% endcall %} =>  => UnknownFunction
+- @fuel 10000
+- {% macro m() %}{% endmacro %}{% call m() %}x{% endcall %} =>  => TooManyArguments
+- {% call(a) dict(b=1) %}{{ a }}{% endcall %} => {"b": 1, "caller": <macro caller>} => 9
+- @short 10 a{% macro m() %}b{{ y.z }}{% endmacro %}{{ m() }}
+- @fuel 11
+- a{% macro m() %}b{{ y.z }}{% endmacro %}{{ m() }} => a => UndefinedError
+- @fuel 10000
+- {% for x in [7] recursive %}{{ x }}{% macro m(a) %}{{ "" ~ loop(a) }}{% endmacro %}{% if x == 7 %}{{ m([8]) }}{% endif %}{% endfor %} => 78 => 42
+- {% for x in [1,2] %}{% macro m() %}{{ loop.index }}{% endmacro %}{{ m() }}{% endfor %} => 12 => 30
+- @undefined strict
+- @short 8 {% macro m(a) %}{{ a }}{% endmacro %}{{ m() }}
+- @fuel 9
+- {% macro m(a) %}{{ a }}{% endmacro %}{{ m() }} =>  => UndefinedError
+- @fuel 10000
+- @undefined lenient
+- {% macro m(x) %}<{{ x }}>{% endmacro %}{{ by_macro("m", 5) }} => <5> => 13
+- @name p.html
+- {% macro m(x) %}<{{ x }}>{% endmacro %}{{ by_macro("m", 5) }} => &lt;5&gt; => 13
+- {% macro m() %}<b>{{ "<" }}{% endmacro %}{{ m() }} => <b>&lt; => 9
+- {% macro m() %}<b>{% endmacro %}{{ m() ~ "" }} => &lt;b&gt; => 9
+- @name <string>
+- {{ by_macro("m", 5) }} =>  => UnknownFunction
+- {% set m = 1 %}{{ by_macro("m", 5) }} =>  => InvalidOperation
+- @limit 7
+- {% macro m() %}x{% endmacro %}{{ by_macro("m") }} =>  => InvalidOperation
+- @limit 8
+- {% macro m() %}x{% endmacro %}{{ by_macro("m") }} => x => ok
+- @limit 500"#;
+
+/// Two macros, of which one faults where it stands deep.
+const DECLARED: &str =
+    r#"{% macro m(a, b=2) %}{{ a }}{{ b }}{% endmacro %}{% macro bad(p) %}{% set q = 1 %}{% with r = 2 %}{% autoescape "html" %}{{ x.y }}{% endautoescape %}{% endwith %}{% endmacro %}"#;
+
+/// Whether a state stands as the render of these two left it.
+fn stands(state: &Left<'_>) -> bool {
+    is_left(state, "exports bad m")
+        && is_left(state, "known bad dict m namespace range title")
+        && state.auto_escape() == AutoEscape::None
+}
+
+/// Whether the call of a name is a fault of this kind, and the state stands as before.
+fn faults(state: &mut Left<'_>, name: &str, kind: ErrorKind) -> bool {
+    match state.call_macro(name, &[]) {
+        Ok(_) => false,
+        Err(error) => error.kind() == kind && stands(state),
+    }
+}
+
+/// Whether the call of `m` with 1 gives its text, and the state stands as before.
+fn gives(alloc: Global, state: &mut Left<'_>) -> Result<bool, Error> {
+    let mut args = Vec::new(alloc);
+    args.push(Value::number(1))?;
+    let text = state.call_macro("m", &args)?;
+    Ok(text.as_str() == "12" && stands(state))
+}
+
+/// Whether a state calls its macros by their names, also behind faults and with what it keeps.
+fn are_called(alloc: Global, environment: &Rows<'_>) -> Result<bool, Error> {
+    let template = environment.template_from_str(DECLARED)?;
+    let mut ids = StateIds::new();
+    let captured = template.render_captured_to(&mut ids, Value::undefined(), &mut NullWriter)?;
+    let (_output, mut state) = captured.into_parts();
+    let is_called = gives(alloc, &mut state)?
+        && faults(&mut state, "no", ErrorKind::UnknownFunction)
+        && faults(&mut state, "bad", ErrorKind::UndefinedError);
+    let _before = state.set_temp("k", Value::number(3))?;
+    let is_kept = faults(&mut state, "bad", ErrorKind::UndefinedError) && kept(&state) == Some(3);
+    Ok(is_called && is_kept && gives(alloc, &mut state)?)
+}
+
+/// Whether a source is InvalidOperation, which nothing caused.
+fn is_refused(environment: &Rows<'_>, ids: &mut StateIds, source: &str, given: Value) -> bool {
+    match environment.render_str(ids, source, given) {
+        Ok(_) => false,
+        Err(error) => error.kind() == ErrorKind::InvalidOperation && error.cause().is_none(),
+    }
+}
+
+/// The macro `m` of a render's state, at its name.
+fn macro_of(alloc: Global, environment: &Rows<'_>, ids: &mut StateIds) -> Result<Value, Error> {
+    let template = environment.template_from_str("{% macro m() %}x{% endmacro %}")?;
+    let captured = template.render_captured_to(ids, Value::undefined(), &mut NullWriter)?;
+    let found = captured.state().lookup("m")?;
+    let mut names = ValueMap::new(alloc);
+    names.insert(
+        Value::text(alloc, "m")?,
+        found.unwrap_or(Value::undefined()),
+    )?;
+    Value::from_map(alloc, names)
+}
+
+/// Whether a macro can't be called in another render, of the same counter and of one that gives the same numbers.
+fn belong_to_renders(alloc: Global, environment: &Rows<'_>) -> Result<bool, Error> {
+    let mut ids = StateIds::new();
+    let names = macro_of(alloc, environment, &mut ids)?;
+    let source = "{{ m() }}";
+    let is_refused_behind = is_refused(environment, &mut ids, source, names.share()?);
+    Ok(is_refused_behind && is_refused(environment, &mut StateIds::new(), source, names))
+}
+
+/// Whether macros serve the states of their renders, and end at the limit.
+pub(crate) fn serve_states(alloc: Global, environment: &Rows<'_>) -> Result<bool, Error> {
+    let endless = "{% macro m() %}{{ m() }}{% endmacro %}{{ m() }}";
+    let is_ended = is_refused(
+        environment,
+        &mut StateIds::new(),
+        endless,
+        Value::undefined(),
+    );
+    Ok(is_ended && are_called(alloc, environment)? && belong_to_renders(alloc, environment)?)
+}
