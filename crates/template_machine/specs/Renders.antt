@@ -8,8 +8,9 @@ use Rattle.tm_values.specs.Val.{Val, boolean}
 use Rattle.tm_values.specs.declared.error.ErrorKind.{ErrorKind}
 use Rattle.tm_values.specs.declared.error.ErrorKind.TheVariants.{InvalidOperation, WriteFailure}
 use Rattle.tm_syntax.specs.Named.{put}
-use Rattle.tm_meaning.specs.World.{World, Res, Good, Bad}
-use Rattle.tm_meaning.specs.Calls.{Asked, has, refused, runs, recurs, Callee}
+use Rattle.tm_definitions.specs.Emitted.{text_answer}
+use Rattle.tm_meaning.specs.World.{World, Res, Good, Bad, HostValue, answered, bind, records_of}
+use Rattle.tm_meaning.specs.Calls.{Asked, has, refused, runs, recurs, Callee, by_depths, named_call}
 use Rattle.tm_tables.specs.Stated.{StatedObjects}
 use Rattle.tm_meaning.specs.declared.stream.TemplateId.TheVariants.{Own}
 use Rattle.tm_meaning.specs.Machine.{Capture, new_capture, put_in, put_out}
@@ -67,6 +68,14 @@ called_value stated t (has v w) = Good v w
 called_value stated t (refused chain w) = Bad chain w
 called_value stated t (runs c w) = let o = callee_run stated t c.callee w in value_behind o.ending c o
 called_value stated t (recurs n items w) = Bad (InvalidOperation ∷ []) w
+
+-- what the value of a name gives for these arguments, called as a function
+abbrev pub call_by_name : HostValue → List ℕ → List Val → World → Asked
+call_by_name host x args w = named_call (by_depths host w) 0 host x args w
+
+-- The value of a call as its text, or why it has none.
+abbrev pub as_text : Res Val → Res (List ℕ)
+as_text called = bind called (λ v w. answered (text_answer (records_of w) v) w)
 
 abbrev pub answer_by : Ending → World → Answer World
 answer_by (fault chain) w = Err chain

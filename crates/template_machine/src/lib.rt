@@ -14,9 +14,9 @@ pub use ids::StateIds;
 pub use state::{Captured, CapturedOf, State, StateOf};
 pub use template::{Template, TemplateOf};
 pub use tm_compiler::{
-    Application, Argument, BinaryOperator, Comparison, Condition, Expr, ForLoop, Instruction,
-    Keyword, Name, NameMap, Pair, RawText, Step, Stmt, Streams, SyntaxConfig, SyntaxConfigBuilder,
-    Tree, UnaryOperator, generate, parse,
+    Application, Argument, BinaryOperator, CallBlock, Comparison, Condition, Expr, ForLoop,
+    Instruction, Keyword, Macro, Name, NameMap, Pair, Parameter, RawText, Step, Stmt, Streams,
+    SyntaxConfig, SyntaxConfigBuilder, Tree, UnaryOperator, generate, parse,
 };
 pub use tm_meaning::{Call, GlobalFunction, Reply};
 pub use tm_operations as operations;

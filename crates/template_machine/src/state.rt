@@ -10,7 +10,7 @@ ghost use Rattle.tm_meaning.specs.Calls.{apply_filter, perform_test};
 ghost use Rattle.tm_state.specs.Answers.{Becomes, CallLies, IsEmitted, KeepsFixed, NeedsRun, OneDeeper, StaysInPlace};
 ghost use Rattle.tm_state.specs.State.{callee_of, exported};
 ghost use Rattle.template_machine.specs.Environment.{host_of};
-ghost use Rattle.template_machine.specs.Renders.{called_value, callee_run, with_temp, with_world, IsCalled, IsCaptured, IsTested, RanApart};
+ghost use Rattle.template_machine.specs.Renders.{as_text, call_by_name, called_value, callee_run, with_temp, with_world, IsCalled, IsCaptured, IsTested, RanApart};
 ghost use Rattle.tm_meaning.specs.Machine.{new_capture};
 
 use crate::environment::BoxedObjects;
@@ -18,6 +18,7 @@ use crate::rendering::Rendering;
 use std::marker::Model;
 use tm_operations::is_true;
 use tm_parts::{Captures, Halt, NullWriter};
+use tm_printing::to_text;
 use tm_state::{CallResult, NestedRun, RunOf, StateData};
 use tm_syntax::{CaptureMode, Name};
 use tm_tables::{Host, NO_PLACE, Parties};
@@ -160,6 +161,28 @@ impl<'env, O: Parties> StateOf<'env, O> {
             .perform_test(alloc, &self.rendering, name, NO_PLACE, args)?;
         let value = self.value_of(called)?;
         Ok(is_true(&value))
+    }
+
+    /// The text of what the value of a name gives for these arguments, called as a function: that of a macro, as
+    /// of `m` after `{% macro m() %}`, or of a function. The name is looked up as it is: UnknownFunction where
+    /// there is none, InvalidOperation where its value can't be called, where a macro isn't of this state or its run
+    /// stands too deep, or where the answer can't be printed, and the fault of what is called; OutOfMemory. However
+    /// it ends, the state stands where it stood, and what the call kept is kept.
+    pub fn call_macro(&mut self, name: &str, args: &[Value]) -> Result<String, Error>
+        ensures called { IsEmitted result (as_text (called_value O.stated self.old.template
+            (call_by_name (host_of O.stated self.old.template) name.now args.now self.old.world)))
+            self.new.world }
+        ensures template { self.new.template ≡ self.old.template }
+        ensures stays { StaysInPlace self.old.world self.new.world }
+        ensures kept { KeepsFixed self.old.world self.new.world }
+    {
+        let alloc = self.rendering.allocator();
+        let hashed = Name::new(alloc, name)?;
+        let called = self
+            .kept
+            .call_named(alloc, &self.rendering, &hashed, args)?;
+        let value = self.value_of(called)?;
+        to_text(alloc, &value, &self.kept)
     }
 
     /// What a call came to, as a value: the run that it needs is run, and what that replaced is put back behind it.
