@@ -6,3 +6,4 @@ pub mod Formatted
 pub mod Stored
 pub mod Declared
 pub mod Binding
+pub mod NameSets

@@ -1,13 +1,17 @@
 -- Words on the arguments of macros.
 use Rattle.std.specs.Borrow.{Bor}
 use Rattle.std.specs.declared.alloc.Global.{Global}
-use Rattle.std.specs.Prelude.{◌≡◌, Vec, List, [], ◌∷◌, ◌++◌, Option, None, Some, Result, Ok, Err, false}
+use Rattle.std.specs.BTreeSet.{BTreeSet, contains}
+use Rattle.std.specs.Cmp.Lexicographic.{slice_cmp}
+use Rattle.std.specs.Ordering.{nat_cmp}
+use Rattle.std.specs.declared.cmp.Ordering.{Ordering}
+use Rattle.std.specs.Prelude.{◌≡◌, ℕ, Vec, List, [], ◌∷◌, ◌++◌, Option, None, Some, Result, Ok, Err, false}
 use Rattle.tm_definitions.specs.Members.{or_undefined}
 use Rattle.tm_values.specs.Val.{Val, entries_in}
 use Rattle.tm_values.specs.declared.error.ErrorKind.{ErrorKind}
 use Rattle.tm_values.specs.declared.error.ErrorKind.TheVariants.{TooManyArguments}
 use Rattle.tm_meaning.specs.Memory.{is_want_of_memory}
-use Rattle.tm_meaning.specs.Calls.{behind_first}
+use Rattle.tm_meaning.specs.Calls.{behind_first, is_argument}
 
 -- the pairs of a keyword map that is given, or none
 abbrev pub given_in : Option (Bor Val) → List (Val × Val)
@@ -39,3 +43,12 @@ IsBound (Err chain) stated = is_want_of_memory chain ≡ false → (chain ≡ To
 abbrev pub BindsTo : Result (Vec Val Global) (List ErrorKind) → Option (List Val) → Type 0
 BindsTo (Ok vs) stated = stated ≡ Some vs.items
 BindsTo (Err chain) stated = is_want_of_memory chain ≡ false → (chain ≡ TooManyArguments ∷ []) × (stated ≡ None)
+
+-- ---------------------------------------------------------------- sets of names
+-- the order of names behind references
+abbrev pub order : Bor (List ℕ) → Bor (List ℕ) → Ordering
+order x y = slice_cmp nat_cmp x.now y.now
+
+-- The set has these names and no others.
+abbrev pub HoldsNames : BTreeSet (Bor (List ℕ)) → List (List ℕ) → Type 0
+HoldsNames set names = (x : Bor (List ℕ)) → contains order set x ≡ is_argument x.now names

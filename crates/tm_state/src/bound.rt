@@ -1,16 +1,17 @@
 //! What the arguments of macros are bound to.
-ghost use Rattle.std.specs.Prelude.{◌≡◌, codes, false, map as each};
+ghost use Rattle.std.specs.Prelude.{◌≡◌, IfOk, codes, false, map as each};
 ghost use Rattle.std.specs.Option.{option_copied};
 ghost use Rattle.std.specs.Rc.{rc_str_bytes};
 ghost use Rattle.tm_definitions.specs.Maps.{keywords_of, plain_of};
 ghost use Rattle.tm_definitions.specs.Members.{or_undefined};
 ghost use Rattle.tm_meaning.specs.Calls.{all_used, bound, bound_to, is_argument, is_used, takes_caller};
-ghost use Rattle.tm_state.specs.Macros.{BindsTo, IsBound, argument_of, given_in};
+ghost use Rattle.tm_state.specs.Macros.{BindsTo, HoldsNames, IsBound, argument_of, given_in};
 ghost use Rattle.tm_values.specs.Answer.{IsLent, OkOrOutOfMemory};
 ghost use Rattle.tm_values.specs.Map.{find as find_key};
 ghost use Rattle.tm_values.specs.Val.{text, text_in};
 
-use std::alloc::Global;
+use std::alloc::{AllocError, Global};
+use std::collections::BTreeSet;
 use std::rc::RcStr;
 use tm_values::{Error, ErrorKind, Macro, Node, Value};
 
@@ -20,7 +21,7 @@ pub(crate) fn bind(alloc: Global, declared: &Macro, args: &[Value]) -> Result<Ve
     ensures { BindsTo result (bound_to declared.now args.now) }
 {
     let (plain, keywords) = split_keywords(args);
-    if !all_used(declared, keywords) {
+    if !all_used(alloc, declared, keywords)? {
         return Err(Error::from(ErrorKind::TooManyArguments));
     }
     bind_each(alloc, declared.arguments(), plain, keywords)
@@ -128,14 +129,23 @@ fn is_argument(names: &[RcStr], name: &str) -> bool
     false
 }
 
-/// Whether a macro uses each value that a keyword map gives it.
-fn all_used(declared: &Macro, keywords: Option<&Value>) -> bool
-    ensures { result ≡ all_used declared.now (given_in keywords.entry) }
+/// How many names are searched one by one.
+const FEW: usize = 16;
+
+/// Whether a macro uses each value that a keyword map gives it. Fails by OutOfMemory alone.
+fn all_used(alloc: Global, declared: &Macro, keywords: Option<&Value>) -> Result<bool, Error>
+    ensures { OkOrOutOfMemory result
+        (λ used. used ≡ all_used declared.now (given_in keywords.entry)) }
 {
-    match keywords {
-        Some(keywords) => each_used(declared, keywords.pairs()),
-        None => true,
+    let Some(keywords) = keywords else {
+        return Ok(true);
+    };
+    let pairs = keywords.pairs();
+    if pairs.len() <= FEW || declared.arguments().len() <= FEW {
+        return Ok(each_used(declared, pairs));
     }
+    let names = name_set(alloc, declared.arguments())?;
+    Ok(each_found(declared, &names, pairs))
 }
 
 /// Whether a macro uses each of these values that are given by their keys.
@@ -160,6 +170,49 @@ fn is_used(declared: &Macro, key: Option<&str>) -> bool
         Some(name) => {
             is_argument(declared.arguments(), name) || (name == "caller" && takes_caller(declared))
         }
+        None => true,
+    }
+}
+
+/// These names in their order; AllocError for want of memory.
+fn name_set(alloc: Global, names: &[RcStr]) -> Result<BTreeSet<&str>, AllocError>
+    ensures { IfOk result (λ set. HoldsNames set (each rc_str_bytes names.now)) }
+{
+    let mut set = BTreeSet::new(alloc);
+    let mut place = 0;
+    while place < names.len() {
+        set.insert(names[place].as_str())?;
+        place += 1;
+    }
+    Ok(set)
+}
+
+/// Whether a macro, the names of whose arguments are in a set, uses each of these values that are given by their keys.
+fn each_found<'a>(
+    declared: &Macro,
+    names: &BTreeSet<&'a str>,
+    pairs: &'a [(Value, Value)],
+) -> bool
+    requires { HoldsNames names.now declared.now.arguments }
+    ensures { result ≡ all_used declared.now pairs.now }
+{
+    let mut place = 0;
+    while place < pairs.len() {
+        if !is_found(declared, names, pairs[place].0.as_str()) {
+            return false;
+        }
+        place += 1;
+    }
+    true
+}
+
+/// The same of what is given under a key, which may be no text.
+fn is_found<'a>(declared: &Macro, names: &BTreeSet<&'a str>, key: Option<&'a str>) -> bool
+    requires { HoldsNames names.now declared.now.arguments }
+    ensures { result ≡ is_used declared.now (option_copied key.entry) }
+{
+    match key {
+        Some(name) => names.contains(name) || (name == "caller" && takes_caller(declared)),
         None => true,
     }
 }
