@@ -46,6 +46,7 @@ fn word(instruction: &Instruction) -> &'static str {
         Instruction::UnpackLists(_) => "lists:",
         Instruction::Neg => "-",
         Instruction::Not => "not",
+        Instruction::IsUndefined => "undefined",
         Instruction::CompareAndPreserve(_) => "keep:",
         Instruction::Swap => "swap",
         Instruction::DupTop => "copy",
@@ -61,6 +62,10 @@ fn word(instruction: &Instruction) -> &'static str {
         Instruction::PerformTest(_, _, _) => "test:",
         Instruction::CallBlock(_) => "block:",
         Instruction::StoreLocal(_) => "store:",
+        Instruction::Enclose(_) => "enclose:",
+        Instruction::GetClosure => "closure",
+        Instruction::BuildMacro(_, _, _) => "macro:",
+        Instruction::Return => "return",
         Instruction::UnpackList(_) => "unpack:",
         Instruction::SetAttr(_) => "set:",
         Instruction::PushLoop(flags) if flags.recursive => "loop!",
@@ -129,6 +134,8 @@ fn detail(instruction: &Instruction) -> &str {
         | Instruction::PerformTest(name, _, _)
         | Instruction::CallBlock(name)
         | Instruction::StoreLocal(name)
+        | Instruction::Enclose(name)
+        | Instruction::BuildMacro(name, _, _)
         | Instruction::SetAttr(name) => name.as_str(),
         Instruction::CompareAndPreserve(operator) => comparison(*operator),
         Instruction::BuildList(Some(number))
