@@ -3,3 +3,4 @@ mod Meant
 mod Runs
 mod Started
 mod StateCalls
+mod Texts
