@@ -178,9 +178,7 @@ impl<'env, O: Parties> StateOf<'env, O> {
     {
         let alloc = self.rendering.allocator();
         let hashed = Name::new(alloc, name)?;
-        let called = self
-            .kept
-            .call_named(alloc, &self.rendering, &hashed, args)?;
+        let called = self.kept.call_named(alloc, &self.rendering, &hashed, args)?;
         let value = self.value_of(called)?;
         to_text(alloc, &value, &self.kept)
     }

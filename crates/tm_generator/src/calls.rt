@@ -67,14 +67,10 @@ fn push_step_open(code: &mut Builder, step: &Step) -> Result<OpenCall, Error>
 
 /// Adds the code that ends what a call is passed, and the call; OutOfMemory.
 #[inline(never)]
-pub(crate) fn push_call_end(
-    code: &mut Builder,
-    call: &Expr,
-    passed: &OpenCall,
-) -> Result<(), Error>
+pub(crate) fn push_call_end(code: &mut Builder, call: &Expr, passed: &OpenCall) -> Result<(), Error>
     ensures ok { OnOk result
         (code.new ≡ put (ending row_end passed.now ⨾
-            straight (call_end call.now (ending_count row_end passed.now))) code.old) }
+        straight (call_end call.now (ending_count row_end passed.now))) code.old) }
     ensures err { IfErr result (λ e. e ≡ OutOfMemory ∷ []) }
 {
     let count = passed.end(code)?;

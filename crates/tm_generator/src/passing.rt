@@ -43,8 +43,14 @@ impl OpenCall {
         ensures { result ≡ called_with_none }
     {
         OpenCall {
-            lists: Rows { ended: 0, pending: 1 },
-            maps: Rows { ended: 0, pending: 0 },
+            lists: Rows {
+                ended: 0,
+                pending: 1,
+            },
+            maps: Rows {
+                ended: 0,
+                pending: 0,
+            },
             spreads: false,
             merges: false,
         }
