@@ -7,7 +7,7 @@ ghost use Rattle.tm_values.specs.Answer.{IsAnswer, IsLent, OkOrOutOfMemory};
 ghost use Rattle.tm_meaning.specs.World.{emitted, find_name, fuel_levels, name_of, records_of, view_of};
 ghost use Rattle.tm_tables.specs.Known.{AreFound, NamingFails};
 ghost use Rattle.tm_meaning.specs.Calls.{apply_filter, perform_test};
-ghost use Rattle.tm_state.specs.Answers.{Becomes, CallLies, IsEmitted, KeepsFixed, NeedsRun, OneDeeper, StaysInPlace};
+ghost use Rattle.tm_state.specs.Answers.{Becomes, CallLies, IsEmitted, KeepsFixed, KeepsFixedAndLists, NeedsRun, OneDeeper, StaysInPlace};
 ghost use Rattle.tm_state.specs.State.{callee_of, exported};
 ghost use Rattle.template_machine.specs.Environment.{host_of};
 ghost use Rattle.template_machine.specs.Renders.{as_text, call_by_name, called_value, callee_run, with_temp, with_world, IsCalled, IsCaptured, IsTested, RanApart};
@@ -191,7 +191,7 @@ impl<'env, O: Parties> StateOf<'env, O> {
         ensures template { self.new.template ≡ self.old.template }
         ensures stays { (limit : _) (before : _) → CallLies limit (Ok called) before self.old.world →
             StaysInPlace before self.new.world }
-        ensures kept { KeepsFixed self.old.world self.new.world }
+        ensures kept { KeepsFixedAndLists self.old.world self.new.world }
     {
         match called {
             CallResult::Value(value) => Ok(value),
@@ -207,7 +207,7 @@ impl<'env, O: Parties> StateOf<'env, O> {
         ensures template { self.new.template ≡ self.old.template }
         ensures stays { (limit : _) (before : _) → OneDeeper limit run.saved before self.old.world →
             StaysInPlace before self.new.world }
-        ensures kept { KeepsFixed self.old.world self.new.world }
+        ensures kept { KeepsFixedAndLists self.old.world self.new.world }
     {
         let alloc = self.rendering.allocator();
         let NestedRun {
@@ -229,7 +229,7 @@ impl<'env, O: Parties> StateOf<'env, O> {
             (callee_of run) self.old.world) self.new.world }
         ensures template { self.new.template ≡ self.old.template }
         ensures no_fewer { length self.old.world.scopes.frames ≤ length self.new.world.scopes.frames }
-        ensures kept { KeepsFixed self.old.world self.new.world }
+        ensures kept { KeepsFixedAndLists self.old.world self.new.world }
     {
         let alloc = self.rendering.allocator();
         let mut captures = Captures::new(alloc);
@@ -249,7 +249,7 @@ impl<'env, O: Parties> StateOf<'env, O> {
             (callee_of run) self.old.world) self.new.world }
         ensures template { self.new.template ≡ self.old.template }
         ensures no_fewer { length self.old.world.scopes.frames ≤ length self.new.world.scopes.frames }
-        ensures kept { KeepsFixed self.old.world self.new.world }
+        ensures kept { KeepsFixedAndLists self.old.world self.new.world }
     {
         let alloc = self.rendering.allocator();
         let state = self.kept.take(alloc);

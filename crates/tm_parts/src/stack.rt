@@ -59,6 +59,12 @@ impl Stack {
         Stack { values }
     }
 
+    /// The operands, in whose room there may be others.
+    pub fn into_values(self) -> Vec<Value> {
+        let Stack { values } = self;
+        values
+    }
+
     /// How many operands there are.
     pub fn len(&self) -> usize
         ensures { result ≡ length self.now }

@@ -3,7 +3,7 @@ ghost use Rattle.std.specs.Prelude.{◌≡◌, ◌+◌, ◌≤◌, ◌∷◌, []
 ghost use Rattle.tm_meaning.specs.Calls.{deeper, enter_block, refused};
 ghost use Rattle.tm_meaning.specs.Memory.{is_want_of_memory};
 ghost use Rattle.tm_meaning.specs.World.{depth};
-ghost use Rattle.tm_state.specs.Answers.{KeepsFixed};
+ghost use Rattle.tm_state.specs.Answers.{KeepsFixedAndLists};
 ghost use Rattle.tm_state.specs.State.{IsBlockOf, behind_block, behind_macro, put_back, runs_block, saved_of, saved_scopes};
 ghost use Rattle.tm_syntax.specs.Named.{find};
 
@@ -15,7 +15,7 @@ use std::mem;
 use tm_meaning::StreamId;
 use tm_syntax::Name;
 use tm_tables::{Context, Host};
-use tm_values::{Error, ErrorKind};
+use tm_values::{Error, ErrorKind, Value};
 
 impl StateData<'_> {
     /// Lets the scopes stand so many levels deeper, within the limit, and gives the depth at which the outermost one stood.
@@ -58,7 +58,7 @@ impl StateData<'_> {
         ensures err { IfErr result (λ e. is_want_of_memory e ≡ false →
             enter_block (H.meaning host.now) name.now self.old ≡ refused e self.old) }
         ensures unchanged { OnErr result (self.new ≡ self.old) }
-        ensures kept { KeepsFixed self.old self.new }
+        ensures kept { KeepsFixedAndLists self.old self.new }
     {
         let stream = self.block_stream(name)?;
         if host.is_required(&stream) {
@@ -169,9 +169,25 @@ impl StateData<'_> {
             block,
             escape,
         } = saved;
-        self.context = context;
+        let left = mem::replace(&mut self.context, context);
+        self.rooms.keep_scopes(left);
         self.stream = stream;
         self.block = block;
         self.escape = escape;
+    }
+
+    /// Room for a run's operands, of which there are none.
+    pub fn take_operands(&mut self, alloc: Global) -> Vec<Value>
+        ensures empty { result.items ≡ [] }
+        ensures unchanged { self.new ≡ self.old }
+    {
+        self.rooms.take_operands(alloc)
+    }
+
+    /// Keeps the room of a run's operands for another one.
+    pub fn keep_operands(&mut self, operands: Vec<Value>)
+        ensures { self.new ≡ self.old }
+    {
+        self.rooms.keep_operands(operands);
     }
 }

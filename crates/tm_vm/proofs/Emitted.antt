@@ -14,7 +14,7 @@ use Rattle.tm_meaning.specs.declared.base.Base.{Base}
 use Rattle.tm_output.specs.Targets.{IsToldInPart, IsToldWhole}
 use Rattle.tm_output.specs.declared.target.TargetFailed.{TargetFailed}
 use Rattle.tm_output.specs.Counts.{AppendsBeginning}
-use Rattle.tm_state.specs.Answers.{KeepsFixed, SameScopes}
+use Rattle.tm_state.specs.Answers.{KeepsFixedAndLists, SameScopes}
 use Rattle.tm_vm.specs.Answers.{output}
 use Rattle.tm_vm.specs.AtOnce.{Attempted, paid, written_of}
 use Rattle.tm_vm.proofs.Performed.{chosen}
@@ -44,8 +44,8 @@ goes_on host f old new v rest text none heard top known moved =
     ∙ (ap (λ (vs : List Val). on (drop 1 vs) old) (sym top) ∙ sym moved)))))
 
 kept_in : (old new : Config) → new ≡ record old { run = record old.run { operands = drop 1 old.run.operands; place = old.run.place + 1 } } →
-    KeepsFixed old.world new.world
-kept_in old new moved = subst (λ (w : World). KeepsFixed old.world w) (sym (ap (λ (c : Config). c.world) moved))
+    KeepsFixedAndLists old.world new.world
+kept_in old new moved = subst (λ (w : World). KeepsFixedAndLists old.world w) (sym (ap (λ (c : Config). c.world) moved))
     (record { same_id = refl; same_fuel_set = refl; no_more_fuel = omega arith; same_blocks = refl; same_loaded = refl })
 
 pub emitted_at_once : (told now : Option (List ℕ)) (failures count : ℕ) (host : HostValue) (f : Base) (old new : Config) (v : Val)

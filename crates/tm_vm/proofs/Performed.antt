@@ -14,7 +14,7 @@ use Rattle.std.proofs.Common.{◌-◌, nat_lt}
 use Rattle.std.proofs.lemmas.Bool.Decides.{nat_tests}
 use Rattle.tm_meaning.specs.Steps.{act, charge_of, effect, pay, step}
 use Rattle.tm_syntax.specs.declared.instruction.Instruction.{Instruction}
-use Rattle.tm_state.specs.Answers.{IsBefore, KeepsFixed, OneDeeper, SameScopes}
+use Rattle.tm_state.specs.Answers.{IsBefore, KeepsFixedAndLists, OneDeeper, SameScopes}
 use Rattle.tm_vm.proofs.Loop.{kept_same, kept_then}
 use Rattle.tm_meaning.specs.declared.base.Base.{Base}
 use Rattle.tm_output.specs.Pieces.{appends_nothing, beginning_nothing}
@@ -188,7 +188,7 @@ needed {f = f} {n = n} {old = old} {new = new} {told = told} (Err (halt.Fault ch
 
 -- one that needs a run, which is boxed
 pub boxed : {p : Program} {n : Next} {old new : Config} (e : NestedRun) (b : Box NestedRun) → b.value ≡ e → Enters p e new n →
-    KeepsFixed old.world new.world → OneDeeper p.host.limit e.saved old.world new.world
+    KeepsFixedAndLists old.world new.world → OneDeeper p.host.limit e.saved old.world new.world
     → new.run.stream ≡ old.run.stream → Needs p n old new (Ok (flow.Enter b))
 boxed {p = p} {n = n} {old = old} {new = new} e b same enters kept deeper stream = record {
   did = subst (λ x. Enters p x new n) (sym same) enters;
@@ -225,7 +225,7 @@ pub block_entered : (p : Program) (f : Base) (old : Config) (x : List ℕ) (s : 
     none_waits old.run.parent ≡ true → audible f old ≡ true
     → enter_block p.host x old.world ≡ runs_block s old.world w →
     new ≡ record { run = record old.run { place = old.run.place + 1 }; captures = old.captures; world = w }
-    → e ≡ block_run s old.world → KeepsFixed old.world w
+    → e ≡ block_run s old.world → KeepsFixedAndLists old.world w
     → Enters p e new (call_block_of p f x old)
 block_entered p f old x s e new w waits heard enters moved is kept =
     let d : NestedRun = block_run s old.world in
@@ -295,7 +295,7 @@ paid_for c left = record c { world = record c.world { fuel = left } }
 step_paid : {told now : Option (List ℕ)} {failures count : ℕ} (p : Program) (f : Base) (x : Instruction) (old new : Config)
     (result : Result Flow Halt) (left : ℕ)
     → slice_get (p.code old.run.stream) old.run.place ≡ Some x → pay x old.world ≡ Good tt (paid_for old left).world →
-    KeepsFixed old.world (paid_for old left).world
+    KeepsFixedAndLists old.world (paid_for old left).world
     → Performs p f (effect p f x (paid_for old left)) (paid_for old left) new told now failures count result →
     Performs p f (step p f old) old new told now failures count result
 step_paid {told = told} {now = now} p f x old new result left found paid kept h =
@@ -312,13 +312,13 @@ step_paid {told = told} {now = now} p f x old new result left found paid kept h 
 -- an instruction did its part, behind its charge
 pub step_done : {told now : Option (List ℕ)} {failures count : ℕ} (p : Program) (f : Base) (x : Instruction)
     (old mid new : Config) (result : Result Flow Halt)
-    → slice_get (p.code old.run.stream) old.run.place ≡ Some x → pay x old.world ≡ Good tt mid.world → KeepsFixed old.world mid.world →
+    → slice_get (p.code old.run.stream) old.run.place ≡ Some x → pay x old.world ≡ Good tt mid.world → KeepsFixedAndLists old.world mid.world →
     mid ≡ record old { world = record old.world { fuel = mid.world.fuel } }
     → Performs p f (effect p f x mid) mid new told now failures count result →
     Performs p f (step p f old) old new told now failures count result
 step_done {told = told} {now = now} {failures = failures} {count = count} p f x old mid new result found paid kept rest h =
     step_paid p f x old new result mid.world.fuel found (paid
-    ∙ ap (λ (c : Config). Good tt c.world) rest) (subst (λ (c : Config). KeepsFixed old.world c.world) rest kept)
+    ∙ ap (λ (c : Config). Good tt c.world) rest) (subst (λ (c : Config). KeepsFixedAndLists old.world c.world) rest kept)
     (subst (λ (c : Config). Performs p f (effect p f x c) c new told now failures count result) rest h)
 
 -- what stands at a place of a list
@@ -331,7 +331,7 @@ read_at (y ∷ ys) (suc n) x within read = read_at ys n x (omega (arith, within)
 pays_one : (x : Instruction) (w : World) → charge_of x ≡ 1 → 1 < w.fuel → pay x w ≡ Good tt (record w { fuel = w.fuel - 1 })
 pays_one x w one more = let enough : nat_lt 1 w.fuel ≡ true = grind (arith, nat_tests) in rw (one, enough) refl
 
-paid_keeps : (w : World) → KeepsFixed w (record w { fuel = w.fuel - 1 })
+paid_keeps : (w : World) → KeepsFixedAndLists w (record w { fuel = w.fuel - 1 })
 paid_keeps w = record { same_id = refl; same_fuel_set = refl; no_more_fuel = omega arith; same_blocks = refl; same_loaded = refl }
 
 -- the instruction at the place was paid for and did its part at once

@@ -5,7 +5,7 @@ ghost use Rattle.tm_meaning.specs.World.{Good, Bad};
 ghost use Rattle.tm_meaning.specs.Steps.{charge_of, closed, pay, effect, finish, return_of, step};
 ghost use Rattle.tm_vm.specs.Answers.{program, CanGoOn, Performs, Finishes, Paid};
 ghost use Rattle.tm_vm.specs.AtOnce.{StepAttempted};
-ghost use Rattle.tm_state.specs.Answers.{KeepsFixed};
+ghost use Rattle.tm_state.specs.Answers.{KeepsFixedAndLists};
 
 use crate::at_once::Attempt;
 use crate::flow::Flow;
@@ -142,7 +142,7 @@ impl Machine<'_> {
             (pay instruction.now self.old.world ≡ Bad (OutOfFuel ∷ []) self.new.world) }
         ensures spent { OnOk result
             (self.new.world.fuel + charge_of instruction.now ≡ self.old.world.fuel) }
-        ensures kept { KeepsFixed self.old.world self.new.world }
+        ensures kept { KeepsFixedAndLists self.old.world self.new.world }
         ensures rest { self.new ≡ record self.old {
           world = record self.old.world { fuel = self.new.world.fuel };
         } }
