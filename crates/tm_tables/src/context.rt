@@ -89,12 +89,12 @@ impl Context {
         Ok(Context { frames, outer })
     }
 
-    /// No scopes that hold anything: what is left is the room for those of a macro.
+    /// The room of these scopes for those of a macro: their names stand for nothing any more.
     pub fn into_room(self) -> Context {
         let Context { mut frames, .. } = self;
         frames.truncate(2);
         for frame in &mut frames {
-            frame.renew(Value::undefined(), None);
+            frame.clear();
         }
         Context { frames, outer: 0 }
     }

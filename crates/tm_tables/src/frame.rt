@@ -159,8 +159,10 @@ impl Frame {
         if let Some(number) = self.named_loop(name.as_str()) {
             return Ok(Some(Found::Loop(number)));
         }
-        if let Some(enclosed) = closures.get(self.reads, name) {
-            return Ok(Some(Found::Value(enclosed)));
+        if self.reads.is_some() {
+            if let Some(enclosed) = closures.get(self.reads, name) {
+                return Ok(Some(Found::Value(enclosed)));
+            }
         }
         match self.context_member(name.as_str(), records)? {
             Some(member) => Ok(Some(Found::Value(member))),
@@ -177,6 +179,7 @@ impl Frame {
         ensures { IsHeld result (context_member (R.records records.now) name.now self.now.context) }
     {
         match &self.context.node {
+            Node::Undefined(_) => Ok(None),
             Node::Namespace(state, index) => match find_namespace(records, *state, *index) {
                 Some(pairs) => Ok(pairs.member(name)),
                 None => Err(Error::from(ErrorKind::InvalidOperation)),
