@@ -6,7 +6,7 @@ ghost use Rattle.tm_syntax.specs.Named.{find, name_cmp, texts_of};
 ghost use Rattle.tm_values.specs.Answer.{IsAnswer, IsLent, OkOrOutOfMemory};
 ghost use Rattle.tm_meaning.specs.World.{emitted, find_name, fuel_levels, name_of, records_of, view_of};
 ghost use Rattle.tm_tables.specs.Known.{AreFound, NamingFails};
-ghost use Rattle.tm_meaning.specs.Calls.{apply_filter, perform_test};
+ghost use Rattle.tm_meaning.specs.Calls.{apply_filter, enter_block, perform_test};
 ghost use Rattle.tm_state.specs.Answers.{Becomes, CallLies, IsEmitted, KeepsFixed, KeepsFixedAndLists, NeedsRun, OneDeeper, StaysInPlace};
 ghost use Rattle.tm_state.specs.State.{callee_of, exported};
 ghost use Rattle.template_machine.specs.Environment.{host_of};
@@ -181,6 +181,32 @@ impl<'env, O: Parties> StateOf<'env, O> {
         let called = self.kept.call_named(alloc, &self.rendering, &hashed, args)?;
         let value = self.value_of(called)?;
         to_text(alloc, &value, &self.kept)
+    }
+
+    /// The text of the block of a name, which runs where the state stands, in a scope of its own. UnknownBlock where
+    /// there is none, InvalidOperation where it is required and nothing fills it or its scope would lie deeper than the
+    /// limit, and the fault of its run; OutOfMemory. However it ends, the state stands where it stood, and what the run
+    /// kept is kept.
+    pub fn render_block(&mut self, name: &str) -> Result<String, Error>
+        ensures called { IsEmitted result (as_text (called_value O.stated self.old.template
+            (enter_block (host_of O.stated self.old.template) name.now self.old.world)))
+            self.new.world }
+        ensures template { self.new.template ≡ self.old.template }
+        ensures stays { StaysInPlace self.old.world self.new.world }
+        ensures kept { KeepsFixed self.old.world self.new.world }
+    {
+        let alloc = self.rendering.allocator();
+        let hashed = Name::new(alloc, name)?;
+        let called = self.kept.call_block(alloc, &self.rendering, &hashed)?;
+        let value = self.value_of(called)?;
+        to_text(alloc, &value, &self.kept)
+    }
+
+    /// The name of the block that runs, where one does.
+    pub fn current_block(&self) -> Option<&str>
+        ensures { IsLent result self.now.world.block }
+    {
+        self.kept.current_block()
     }
 
     /// What a call came to, as a value: the run that it needs is run, and what that replaced is put back behind it.
