@@ -2,7 +2,7 @@
 ghost use Rattle.std.specs.Prelude.{◌≡◌, ◌+◌, ◌-◌, ◌^◌, ◌<◌, List, [], ◌∷◌, Some, None, OnOk, IfErr, MatchOption, not, MatchResult, drop};
 ghost use Rattle.tm_values.specs.Answer.{OrStays};
 ghost use Rattle.tm_values.specs.Val.{Val, boolean};
-ghost use Rattle.tm_parts.specs.Operate.{Operates, TakesMember};
+ghost use Rattle.tm_parts.specs.Operate.{Doubles, Operates, TakesMember, TestsUndefined};
 ghost use Rattle.tm_meaning.specs.Meaning.{none_waits};
 ghost use Rattle.tm_meaning.specs.Steps.{is_empty};
 ghost use Rattle.tm_meaning.specs.Instructions.{used};
@@ -337,6 +337,28 @@ impl Activation {
         ensures rest { self.new ≡ record self.old { operands = self.new.operands } }
     {
         self.operands.replace_by_member(name)
+    }
+
+    /// Puts whether the topmost operand is undefined in its place, where there is one. Else all stays as it was, and
+    /// the answer is false.
+    #[inline(always)]
+    pub(crate) fn test_undefined(&mut self) -> bool
+        ensures operands { OrStays result self.old.operands self.new.operands
+            (TestsUndefined self.old.operands self.new.operands) }
+        ensures rest { self.new ≡ record self.old { operands = self.new.operands } }
+    {
+        self.operands.test_undefined()
+    }
+
+    /// Puts a second owner of the topmost operand on top, where there is one and room for it. Else all stays as it
+    /// was, and the answer is false.
+    #[inline(always)]
+    pub(crate) fn double_top(&mut self) -> bool
+        ensures operands { OrStays result self.old.operands self.new.operands
+            (Doubles self.old.operands self.new.operands) }
+        ensures rest { self.new ≡ record self.old { operands = self.new.operands } }
+    {
+        self.operands.double_top()
     }
 
     /// Takes the truth value on top, where one is. Else all stays as it was.

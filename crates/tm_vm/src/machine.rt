@@ -222,8 +222,9 @@ impl<'env> Machine<'env> {
         let Some((_mode, text)) = self.captures.end() else {
             return Err(Halt::Stuck);
         };
-        let value = run_value(alloc, kind, text.as_str(), self.state.escape())?;
-        self.run.push(value)?;
+        let value = run_value(alloc, kind, text.as_str(), self.state.escape());
+        self.captures.keep_room(text);
+        self.run.push(value?)?;
         Ok(())
     }
 

@@ -249,7 +249,9 @@ impl Machine<'_> {
     {
         match self.attempt_next(host, base, code, writer) {
             Attempt::Done => Ok(Flow::GoOn),
+            Attempt::DoneFree => Ok(Flow::GoOn),
             Attempt::WriterFailed => Err(Halt::Writer),
+            Attempt::NoMemory => Err(Halt::Fault(Error::from(ErrorKind::OutOfMemory))),
             Attempt::Left => self.step_by_method(alloc, host, base, code, writer),
         }
     }
