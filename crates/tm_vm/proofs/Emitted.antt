@@ -104,8 +104,8 @@ goes_in host f old v rest text some heard top known =
     ∙ (ap (λ t. More t (record (on rest old) { captures = put_in old.captures text })) (nothing_out old.captures text some)
     ∙ ap (λ (vs : List Val). More [] (record (on (drop 1 vs) old) { captures = put_in old.captures text })) (sym top))))
 
-kept_behind : (ks : List Capture) (old new : Config) → new ≡ behind ks old → KeepsFixed old.world new.world
-kept_behind ks old new moved = subst (λ (w : World). KeepsFixed old.world w) (sym (ap (λ (c : Config). c.world) moved))
+kept_behind : (ks : List Capture) (old new : Config) → new ≡ behind ks old → KeepsFixedAndLists old.world new.world
+kept_behind ks old new moved = subst (λ (w : World). KeepsFixedAndLists old.world w) (sym (ap (λ (c : Config). c.world) moved))
     (record { same_id = refl; same_fuel_set = refl; no_more_fuel = omega arith; same_blocks = refl; same_loaded = refl })
 
 pub captured_at_once : (host : HostValue) (f : Base) (old new : Config) (v : Val) (rest : List Val)
@@ -144,7 +144,7 @@ quiet : (n : Config → Next) (old new : Config) → n (paid old) ≡ More [] ne
     new.run.stream ≡ old.run.stream → IsAtOnce true n old new
 quiet n old new did same stream = record {
   did = did;
-  kept = subst (λ (w : World). KeepsFixed (paid old).world w) (sym same) (kept_same (paid old).world);
+  kept = subst (λ (w : World). KeepsFixedAndLists (paid old).world w) (sym same) (kept_same (paid old).world);
   same_scopes = subst (λ (w : World). SameScopes (paid old).world w) (sym same) (refl, refl);
   same_stream = stream;
 }
