@@ -121,7 +121,7 @@ abbrev pub ended : Page → Option ℕ → Option Final
 ended p fuel =
     let w = world_of p fuel in
     let f = base_of true [] w in
-    run_for 200 (program_of p) f [] (begins (program_of p) f (whole w.stream) [] w)
+    run_for 1000 (program_of p) f [] (begins (program_of p) f (whole w.stream) [] w)
 
 abbrev pub ran : Page → Option ℕ → Said
 ran p fuel = said_by (ended p fuel)

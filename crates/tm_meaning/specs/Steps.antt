@@ -103,6 +103,11 @@ closed f c =
     nat_eq f.captures (length c.captures) && nat_eq f.scopes
     (length c.world.scopes.frames) && is_empty c.run.escapes && is_empty c.run.loops
 
+-- Where no parent waits a stream's run is over, and else it restarts there.
+abbrev pub parent_next : Option TemplateId → Config → Next
+parent_next None c = Over (Finished c.captures c.world)
+parent_next (Some t) c = Restart (restarted t c)
+
 -- A macro's run is over, with all closed that it opened; a parent that waits there runs nowhere.
 abbrev pub return_of : Base → Config → Next
 return_of f c = choose (closed f c) (λ _. Over (Finished c.captures c.world)) (λ _. stuck c.world)
@@ -173,11 +178,6 @@ effect p f (i.BeginCapture mode) c = begin_capture_of mode c
 effect p f i.EndCapture c = end_capture_of c
 effect p f i.PushAutoEscape c = push_auto_escape_of f c
 effect p f i.PopAutoEscape c = pop_auto_escape_of c
-
--- where no parent waits the run is over, and else it goes on there
-abbrev pub parent_next : Option TemplateId → Config → Next
-parent_next None c = Over (Finished c.captures c.world)
-parent_next (Some t) c = Restart (restarted t c)
 
 -- Behind the last instruction, with all closed that the run opened, it is over, or restarts in the parent that waits.
 abbrev pub finish : ℕ → Base → Config → Next

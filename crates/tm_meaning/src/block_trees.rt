@@ -110,8 +110,8 @@ pub fn loaded_rows()
 
 /// Templates in a row, each of which extends the next, and blocks that run the next one under a limit of depth.
 pub fn parent_chain_rows()
-    ensures parents { Charges (of_chain 40) (codes "x") 42 }
-    ensures supers { Charges (of_supers 8) (codes "x") 27 }
-    ensures within { Shows (with_limit 10 (of_supers 8)) (codes "x") }
-    ensures too_deep { Fails (with_limit 4 (of_supers 8)) [] (EvalBlock ∷ EvalBlock ∷ InvalidOperation ∷ []) }
+    ensures parents { Charges (of_chain 100) (codes "x") 102 }
+    ensures supers { Charges (of_supers 40) (codes "x") 123 }
+    ensures within { Shows (with_limit 42 (of_supers 40)) (codes "x") }
+    ensures too_deep { Fails (with_limit 4 (of_supers 40)) [] (EvalBlock ∷ EvalBlock ∷ InvalidOperation ∷ []) }
 {}
