@@ -12,7 +12,7 @@ use Rattle.tm_syntax.specs.declared.tree.Application.{Application}
 use Rattle.tm_syntax.specs.declared.tree.Application.TheVariants as applications
 use Rattle.tm_definitions.specs.Maps.{dict_of, namespace_of}
 use Rattle.tm_definitions.specs.Emitted.{text_answer}
-use Rattle.tm_meaning.specs.World.{unpacked_items, emitted, escape_for, view_of, find, same_name, block_of, World, HostValue, Scope, Loop}
+use Rattle.tm_meaning.specs.World.{choose, unpacked_items, emitted, escape_for, view_of, find, same_name, block_of, World, HostValue, Scope, Loop}
 use Rattle.tm_meaning.specs.World.{innermost}
 use Rattle.tm_meaning.specs.World.{items_over, Res, Good, Bad}
 use Rattle.tm_meaning.specs.World.{need, check, answered, depth, lookup, Function, callers, languages, records_of}
@@ -28,6 +28,7 @@ use Rattle.tm_meaning.specs.Calls.{as_truth, applied, MakesFurther, object_call,
 use Rattle.tm_meaning.specs.Calls.{depths_left, by_depths, function_call, value_call, as_printed, deeper, from_deeper}
 use Rattle.tm_meaning.specs.Calls.{enter_macro, bound_to, known_stream, macro_depth, macro_scopes}
 use Rattle.tm_meaning.specs.Calls.{loop_method, method_in, of_loop, record_at, given_by, replied, required_alone}
+use Rattle.tm_meaning.specs.Calls.{enter_super, no_values, call_super, call_looked_up}
 use Rattle.tm_meaning.specs.declared.function.GlobalFunction.{GlobalFunction}
 use Rattle.tm_meaning.specs.declared.function.GlobalFunction.TheVariants as own
 use Rattle.tm_meaning.specs.declared.stream.StreamId.{StreamId}
@@ -38,7 +39,7 @@ use Rattle.tm_simulation.proofs.Raised.{unpacked_raises, escape_raises, emitted_
 use Rattle.tm_simulation.proofs.Raised.{namespace_raises, name_raises, method_raises, text_raises}
 use Rattle.tm_simulation.proofs.Advances.{Advances, Kept, advances_then, lasts_by_namespaces, lasts_by_temps, advances_same}
 use Rattle.tm_simulation.proofs.Advances.{kept_same, kept_then, kept_lasting, undone_kept, in_stream, kept_depth, within, one_more}
-use Rattle.tm_simulation.proofs.Advances.{put_each_long, keeping_kept, undone_at, macro_undone_kept}
+use Rattle.tm_simulation.proofs.Advances.{put_each_long, keeping_kept, undone_at, super_undone_kept, macro_undone_kept}
 use Rattle.tm_simulation.proofs.Gives.{answered_gives, Gives, refused_arises, gives_bind, operation_gives}
 
 -- A value keeps the world; a run starts at least one level deeper, within the limit, and however it ends what is put back behind it keeps the world.
@@ -110,6 +111,19 @@ block_asks host b w =
       omega (arith, ltb-true (depth w.scopes) host.limit room),
       λ world2 l. undone_kept (plain_scope (undefined false)) stream (Some b) w world2 l,
     ))
+
+-- So does `super()`.
+pub super_asks : (host : HostValue) (w : World) → Asks host w (enter_super host w)
+super_asks host w =
+    ask_need host w w.block InvalidOperation _ refl (λ x _.
+    ask_need host w (find x w.blocks) InvalidOperation _ refl (λ l found.
+    ask_need host w (slice_get l.templates (l.place + 1)) InvalidOperation _ refl (λ t _.
+    push_asks (Asks host w) w (plain_scope (undefined false)) (nat_lt (depth w.scopes) host.limit) _
+    (asks_refused host w InvalidOperation refl) (λ room. (
+      omega arith,
+      omega (arith, ltb-true (depth w.scopes) host.limit room),
+      λ world2 h. super_undone_kept (plain_scope (undefined false)) (block_of t x) x l w world2 found h,
+    )))))
 
 -- ---------------------------------------------------------------- functions
 given_gives : (host : HostValue) (g : GlobalFunction) (args : List Val) (w : World) → Gives host w (given_by g args w)
@@ -329,7 +343,21 @@ found_call_asks host (loop state n) args w =
     ask_then host w (one_argument args w) _ (one_argument_gives host args w) (λ v world1. loop_call_asks host l v world1))
 found_call_asks host v args w = value_asks host v args w
 
-pub named_asks : (host : HostValue) (x : List ℕ) (args : List Val) (w : World) → Asks host w (call_named host x args w)
-named_asks host x args w =
+looked_up_asks : (host : HostValue) (x : List ℕ) (args : List Val) (w : World) → Asks host w (call_looked_up host x args w)
+looked_up_asks host x args w =
     ask_then host w (lookup host x w) _ (lookup_gives host x w) (λ found world1.
     ask_need host world1 found UnknownFunction (λ f world2. call_found host f args world2) refl (λ f e. found_call_asks host f args world1))
+
+super_call_asks : (host : HostValue) (args : List Val) (w : World) → Asks host w (call_super host args w)
+super_call_asks host args w =
+    check_asks (Asks host w) w (no_values args) InvalidOperation _ (asks_refused host w InvalidOperation refl) (super_asks host w)
+
+choose_asks : (host : HostValue) (w : World) (b : Bool) (p q : Asked) → Asks host w p → Asks host w q →
+    Asks host w (choose b (λ _. p) (λ _. q))
+choose_asks host w true p q h k = h
+choose_asks host w false p q h k = k
+
+pub named_asks : (host : HostValue) (x : List ℕ) (args : List Val) (w : World) → Asks host w (call_named host x args w)
+named_asks host x args w =
+    choose_asks host w (same_name x (codes "super")) (call_super host args w) (call_looked_up host x args w)
+    (super_call_asks host args w) (looked_up_asks host x args w)

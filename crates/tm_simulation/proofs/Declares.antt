@@ -55,7 +55,7 @@ caller_gives host n m row w =
 -- ---------------------------------------------------------------- parameters
 module _ (u : Under) (nest_ends : (k : Callee) (heard : Bool) (out : List ℕ) (w : World) → RunEnds u.host w (u.nests k heard out w))
     (again_ends : (n : ℕ) (items : List Val) (run : Run) (out : List ℕ) (w : World) →
-    OutcomeKeeps u.host w (u.again n items run out w)) where
+    OutcomeKeeps u.host run.parent w (u.again n items run out w)) where
   pub or_default_gives : (run : Run) (default : Option Expr) (v : Val) (w : World) → Gives u.host w (or_default u run default v w)
   or_default_gives run None v w = kept_same w
   or_default_gives run (Some e) v w =

@@ -1,6 +1,8 @@
+pub mod Parents
 pub mod Advances
 pub mod Raised
 pub mod Gives
+pub mod Loads
 pub mod Asks
 pub mod Evaluates
 pub mod Declares

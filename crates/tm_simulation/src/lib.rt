@@ -14,7 +14,7 @@ ghost use Rattle.tm_meaning.specs.Meaning.{Run, block_tag, chain_of, nests_of, r
 ghost use Rattle.tm_meaning.specs.Machine.{Program, Capture, Stuck};
 ghost use Rattle.tm_meaning.specs.Steps.{Final, final};
 ghost use Rattle.tm_meaning.specs.Compiled.{IsCompiled};
-ghost use Rattle.tm_simulation.specs.Kept.{Stays, Grows, PutsBack};
+ghost use Rattle.tm_simulation.specs.Kept.{Stays, Grows, EndsThere, PutsBack};
 ghost use Rattle.tm_simulation.specs.Chains.{Arises, IfAny, HasRaised, StatesOnly};
 ghost use Rattle.tm_simulation.specs.Chains.{StatesNoMemory, ends_in_memory, MayWrap, is_foreign, HasNoForeign};
 ghost use Rattle.tm_simulation.specs.Reached.{RunsTo, Renders, HasLevels};
@@ -78,10 +78,10 @@ pub fn a_render_loses_nothing()
     ensures { (host : HostValue) (trees : Trees) (w : World) → Grows w (rendered host trees w) }
 {}
 
-/// A render ends in the stream in which it began, also where it ends in a fault.
-pub fn a_render_ends_in_its_stream()
+/// A render ends in the stream in which it began, or in the root of a parent, also where it ends in a fault.
+pub fn a_render_ends_in_its_stream_or_a_root()
     ensures { (host : HostValue) (trees : Trees) (w : World) →
-        (rendered host trees w).world.stream ≡ w.stream }
+        EndsThere w.stream (rendered host trees w) }
 {}
 
 /// Whatever its run comes to, also a fault, a block's tag leaves the scopes, the stream, the block and the escape as they were before it.
