@@ -17,9 +17,10 @@ use Rattle.tm_meaning.specs.declared.mark.LoopMark.{LoopMark}
 use Rattle.tm_simulation.specs.Kept.{shape, shapes, GoesOn, bare, LieOver, BlocksGrow, NamesGrow}
 use Rattle.tm_simulation.proofs.Parents.{blocks_same, blocks_then, blocks_placed, blocks_behind, names_same, names_then, count_fewer}
 use Rattle.tm_meaning.specs.Inheritance.{one_on, placed_as, with_blocks, names_left}
-use Rattle.tm_meaning.specs.World.{HostValue, TemplateId, Template, entry, find}
+use Rattle.tm_meaning.specs.World.{HostValue, Template}
+use Rattle.tm_meaning.specs.declared.stream.TemplateId.TheVariants.{Entry as entry}
 use Rattle.tm_meaning.specs.declared.stream.StreamId.{StreamId}
-use Rattle.tm_syntax.specs.Named.{name_cmp, put, put_each}
+use Rattle.tm_syntax.specs.Named.{name_cmp, find, put, put_each}
 use Rattle.std.specs.Ordering.{match_ordering}
 use Rattle.std.specs.declared.cmp.Ordering.{Ordering}
 use Rattle.std.specs.declared.cmp.Ordering.TheVariants.{Less, Equal, Greater}

@@ -41,26 +41,23 @@ waiting (Some t) = 1
 abbrev pub parents_left : HostValue → Option TemplateId → World → ℕ
 parents_left host q w = waiting q + names_left host w
 
--- And statements that begin where this parent waits ask for a parent only where a name fewer is left. Sealed, so that a proof needs no
--- outcome spelled out.
-unfoldable pub OutcomeKeeps : HostValue → Option TemplateId → World → Outcome → Type 0
-OutcomeKeeps host q w o = EndingKeeps host w o.ending o.world × (parents_left host o.parent o.world ≤ parents_left host q w)
+-- And statements that begin where this parent waits ask for a parent only where a name fewer is left.
+pub record OutcomeKeeps (host : HostValue) (q : Option TemplateId) (w : World) (o : Outcome) : Type 0 where
+  pub keeps : EndingKeeps host w o.ending o.world
+  pub parents : parents_left host o.parent o.world ≤ parents_left host q w
 
 pub ends_as : (host : HostValue) {q : Option TemplateId} (w : World) (o : Outcome) → OutcomeKeeps host q w o →
     EndingKeeps host w o.ending o.world
-unfolding OutcomeKeeps
-ends_as host w o h = h.0
+ends_as host w o h = h.keeps
 
 pub ends_parents : (host : HostValue) {q : Option TemplateId} (w : World) (o : Outcome) → OutcomeKeeps host q w o →
     parents_left host o.parent o.world ≤ parents_left host q w
-unfolding OutcomeKeeps
-ends_parents host w o h = h.1
+ends_parents host w o h = h.parents
 
 -- by its parts
 pub ends_from : (host : HostValue) {q : Option TemplateId} (w : World) (o : Outcome) → EndingKeeps host w o.ending o.world →
     parents_left host o.parent o.world ≤ parents_left host q w → OutcomeKeeps host q w o
-unfolding OutcomeKeeps
-ends_from host w o h p = (h, p)
+ends_from host w o h p = record { keeps = h; parents = p }
 
 -- no more are left behind what keeps the world
 pub parents_advance : (host : HostValue) (q : Option TemplateId) {w world1 : World} → Advances w world1 →
@@ -252,10 +249,10 @@ module _ (host : HostValue) where
   ends_within w s false run out g h = ends_refused w run out InvalidOperation refl
 
   -- and behind it, whatever the ending
-  closed_parents : {q : Option TemplateId} (w v : World) (close : World → World) → Advances w v →
+  closed_parents : (q : Option TemplateId) (w v : World) (close : World → World) → Advances w v →
       ((x : World) → (close x).loaded ≡ x.loaded) → (parent : Option TemplateId) (world1 : World) →
       parents_left host parent world1 ≤ parents_left host q v → parents_left host parent (close world1) ≤ parents_left host q w
-  closed_parents {q = q} w v close l same parent world1 p =
+  closed_parents q w v close l same parent world1 p =
       let left : names_left host (close world1) ≡ names_left host world1 = ap (count_left host.templates) (same world1) in
       omega (arith, p, parents_advance host q l, left)
 
@@ -267,11 +264,11 @@ module _ (host : HostValue) where
   closing_by_ends {q = q} w v close l k same (fault chain) parent out world1 h p =
       ends_from host w _ (advances_then l h.0, h.1) (omega (arith, p, parents_advance host q l))
   closing_by_ends {q = q} w v close l k same done parent out world1 h p =
-      ends_from host w _ (k world1 h) (closed_parents w v close l same parent world1 p)
+      ends_from host w _ (k world1 h) (closed_parents q w v close l same parent world1 p)
   closing_by_ends {q = q} w v close l k same leave parent out world1 h p =
-      ends_from host w _ (k world1 h) (closed_parents w v close l same parent world1 p)
+      ends_from host w _ (k world1 h) (closed_parents q w v close l same parent world1 p)
   closing_by_ends {q = q} w v close l k same next parent out world1 h p =
-      ends_from host w _ (k world1 h) (closed_parents w v close l same parent world1 p)
+      ends_from host w _ (k world1 h) (closed_parents q w v close l same parent world1 p)
 
   pub closing_ends : {q : Option TemplateId} (w v : World) (close : World → World) → Advances w v →
       ((x : World) → Kept v x → Kept w (close x)) → ((x : World) → (close x).loaded ≡ x.loaded) →

@@ -14,6 +14,7 @@ pub mod Follow
 pub mod Forms
 mod Operands
 mod Levels
+mod BlockTags
 mod Arguments
 mod Expressions
 mod Targets

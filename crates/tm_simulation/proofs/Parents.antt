@@ -5,10 +5,11 @@ use Rattle.std.specs.Prelude.{◌||◌, option_map, if◌then◌else◌}
 use Rattle.std.specs.BTreeMap.{is_at}
 use Rattle.std.proofs.lemmas.List.{append-nil}
 use Rattle.std.proofs.lemmas.Slice.Eq.{bytes_eq-Decides}
-use Rattle.tm_syntax.specs.Named.{name_cmp, same_name}
+use Rattle.tm_syntax.specs.Named.{Named, name_cmp, same_name, find, put}
 use Rattle.tm_syntax.specs.Names.{is_among}
 use Rattle.tm_syntax.proofs.Named.{find_put, find_put_other, same_or_not, same_text}
-use Rattle.tm_meaning.specs.World.{TemplateId, Named, find, put, Card, Template, Layers}
+use Rattle.tm_meaning.specs.World.{Card, Template, Layers}
+use Rattle.tm_meaning.specs.declared.stream.TemplateId.{TemplateId}
 use Rattle.tm_meaning.specs.Inheritance.{one_on, at_place_of, put_list, placed_as, behind_all, with_blocks, count_left}
 use Rattle.tm_simulation.specs.Kept.{BlocksGrow, NamesGrow}
 
@@ -54,11 +55,12 @@ placed_by x l old new found grow y m there (inl same) =
     let is : Some l ≡ Some m = sym found ∙ ap (λ z. find z old) (sym same) ∙ there in
     let one : l ≡ m = cc in
     let grown : Layers = record l { templates = l.templates ++ at.0 } in
+    let moved : Layers = record (one_on l) { templates = l.templates ++ at.0 } in
     let placed : placed_as old x new ≡ put x grown new =
     ap (λ o. put_list x (option_map (at_place_of (find x old)) o) new) at.1
-    ∙ ap (λ o. put x (at_place_of o (record (one_on l) { templates = l.templates ++ at.0 })) new) found in
+    ∙ ap (λ o. put x (at_place_of o moved) new) found in
     (at.0, ap (λ z. find z (placed_as old x new)) same ∙ ap (find x) placed ∙ find_put x grown new
-    ∙ ap (λ k. Some (record k { templates = k.templates ++ at.0 })) one)
+    ∙ ap (λ (k : Layers). Some (record k { templates = k.templates ++ at.0 })) one)
 placed_by x l old new found grow y m there (inr apart) =
     let at = grow y m (find_put_other y x apart (one_on l) old ∙ there) in
     (at.0, other_placed x y apart (option_map (at_place_of (find x old)) (find x new)) new ∙ at.1)

@@ -28,8 +28,9 @@ use Rattle.tm_syntax.specs.declared.tree.Assignment.{Assignment}
 use Rattle.tm_syntax.specs.declared.tree.Parameter.{Parameter}
 use Rattle.tm_syntax.specs.declared.tree.CaptureUse.{CaptureUse}
 use Rattle.tm_syntax.specs.declared.tree.CaptureUse.TheVariants as uses
-use Rattle.tm_syntax.specs.declared.tree.Stmt.{Stmt, EmitRaw, EmitExpr, EmitLoop, If', For', Break, Continue, Block', Set, CaptureBlock'}
-use Rattle.tm_syntax.specs.declared.tree.Stmt.{With', Do, AutoEscape', Macro', CallBlock', Row_of-Stmt, end_of-Stmt as no_statement}
+use Rattle.tm_syntax.specs.declared.tree.Stmt.{Stmt, EmitRaw, EmitExpr, EmitLoop, EmitBlock, EmitSuper, If', For', Break, Continue, Block'}
+use Rattle.tm_syntax.specs.declared.tree.Stmt.{Extends, Set, CaptureBlock', With', Do, AutoEscape', Macro', CallBlock', Row_of-Stmt}
+use Rattle.tm_syntax.specs.declared.tree.Stmt.{end_of-Stmt as no_statement}
 use Rattle.tm_syntax.specs.declared.tree.Stmt.{more_of-Stmt as statement, Held-Stmt-If-2 as Otherwise, None' as no_else}
 use Rattle.tm_syntax.specs.declared.tree.Stmt.{Some' as otherwise}
 use Rattle.tm_syntax.specs.declared.opened.Opened.{Opened}
@@ -104,6 +105,7 @@ mutual
             (lists_loopless 0 given _ _ by_name),
         (refl, tt),
       )
+  expr_loopless (SelfBlock x) = (refl, (refl, (refl, tt)))
   expr_loopless (unary op a) = (expr_loopless a, unary_loopless op)
   expr_loopless (chained a _ ss) = (expr_loopless a, steps_loopless ss)
   expr_loopless (conditional a _ cs) = conditions_loopless cs (expr_code a) (expr_loopless a)
@@ -347,7 +349,10 @@ mutual
       other)
   statement_begins os at Break = none_begin at (statement_code os Break) (closed_loopless os, tt)
   statement_begins os at Continue = none_begin at (statement_code os Continue) (closed_loopless os, tt)
-  statement_begins os at (Block' x _ body) = none_begin at (straight (i.CallBlock x ∷ [])) (refl, tt)
+  statement_begins os at (Block' x required _ body) = none_begin at (straight (i.CallBlock x ∷ [])) (refl, tt)
+  statement_begins os at (EmitBlock x) = none_begin at (statement_code os (EmitBlock x)) (refl, tt)
+  statement_begins os at EmitSuper = none_begin at (statement_code os EmitSuper) (refl, tt)
+  statement_begins os at (Extends e) = none_begin at (statement_code os (Extends e)) (expr_loopless e, (refl, tt))
   statement_begins os at (Set t e) = none_begin at (set_code t e) (expr_loopless e, target_loopless t)
   statement_begins os at (CaptureBlock' u filters _ body) =
       after_none (straight _) (refl, tt) (before_none (straight (i.EndCapture ∷ []) ⨾ filters_code filters ⨾ use_code u)
