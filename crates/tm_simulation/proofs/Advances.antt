@@ -10,13 +10,13 @@ use Rattle.tm_values.specs.declared.error.ErrorKind.TheVariants.{InvalidOperatio
 use Rattle.tm_syntax.specs.declared.instruction.LoopFlags.{LoopFlags}
 use Rattle.tm_meaning.specs.World.{Bindings, choose, with_frames, World, Scopes, Scope, Loop, loop_scope, new_loop, turned_at, turned_of}
 use Rattle.tm_meaning.specs.World.{top_mark, next_turn, without_locals, cleared, Res, Good, Bad, pop, depth, without_first, stored_in}
-use Rattle.tm_meaning.specs.World.{own_closure, put_at, put_in, put_enclosed, store, with_escape, Named, Layers, with_own, one_closure_more}
+use Rattle.tm_meaning.specs.World.{own_closure, put_at, put_in, put_enclosed, store, with_escape, Layers, with_own, one_closure_more}
 use Rattle.tm_meaning.specs.World.{closing_over, is_there, with_stream}
 use Rattle.tm_meaning.specs.Calls.{keeping_at, is_changed, outermost, undone, of_block, of_super, of_macro}
 use Rattle.tm_meaning.specs.declared.mark.LoopMark.{LoopMark}
 use Rattle.tm_simulation.specs.Kept.{shape, shapes, GoesOn, bare, LieOver, BlocksGrow, NamesGrow}
 use Rattle.tm_simulation.proofs.Parents.{blocks_same, blocks_then, blocks_placed, blocks_behind, names_same, names_then, count_fewer}
-use Rattle.tm_meaning.specs.Inheritance.{one_on, placed_as, with_blocks, names_left}
+use Rattle.tm_meaning.specs.Inheritance.{one_on, with_blocks, names_left}
 use Rattle.tm_meaning.specs.World.{HostValue, Template}
 use Rattle.tm_meaning.specs.declared.stream.TemplateId.TheVariants.{Entry as entry}
 use Rattle.tm_meaning.specs.declared.stream.StreamId.{StreamId}
@@ -448,6 +448,13 @@ pub undone_scopes : (s : Scope) (stream : StreamId) (block : Option (List ℕ)) 
     Advances (in_stream v.stream (record (within s w) { stream = stream; block = block })) v → (undone (of_block w) v).scopes ≡ w.scopes
 undone_scopes s stream block w v l = undone_scopes_at w.scopes.outer s stream block w v l
 
+-- the very scopes are there behind a `super()` too
+pub super_undone_scopes : (s : Scope) (stream : StreamId) (x : List ℕ) (l : Layers) (w v : World) →
+    Advances (in_stream v.stream (record (within s w) { stream = stream; blocks = put x (one_on l) w.blocks })) v →
+    (undone (of_super x w) v).scopes ≡ w.scopes
+super_undone_scopes s stream x l w v h =
+    ap (λ frames. record { frames = frames; outer = w.scopes.outer }) (outermost_below s w.scopes.frames v.scopes.frames h.scopes)
+
 pub undone_kept : (s : Scope) (stream : StreamId) (block : Option (List ℕ)) (w v : World) →
     Advances (in_stream v.stream (record (within s w) { stream = stream; block = block })) v → Kept w (undone (of_block w) v)
 undone_kept s stream block w v l = undone_at w.scopes.outer s stream block w v l
@@ -458,7 +465,6 @@ pub super_undone_kept : (s : Scope) (stream : StreamId) (x : List ℕ) (l : Laye
     Kept w (undone (of_super x w) v)
 super_undone_kept s stream x l w v found h =
     let k = h.lasts in
-    let back = outermost_below s w.scopes.frames v.scopes.frames h.scopes in
     kept_lasting (record {
       same_id = k.same_id;
       same_fuel_set = k.same_fuel_set;
@@ -470,7 +476,7 @@ super_undone_kept s stream x l w v found h =
       temps = k.temps;
       loaded = k.loaded;
       blocks = blocks_placed x l w.blocks v.blocks found k.blocks;
-    }) (ap (λ frames. record { frames = frames; outer = w.scopes.outer }) back) refl refl refl
+    }) (super_undone_scopes s stream x l w v h) refl refl refl
 
 -- A parent is loaded.
 pub loading_kept : (x : List ℕ) (t : Template) (w : World) →

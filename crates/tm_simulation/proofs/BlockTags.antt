@@ -1,12 +1,12 @@
 -- What a block's tag does in place, and its text as a value.
-use Rattle.std.proofs.Common.{◌≡◌, ℕ, suc, ◌+◌, ◌<◌, ◌≤◌, List, [], ◌∷◌, length, Option, Some, None, Bool, true, false, refl, sym, ap, subst, arith, lt-ltb}
-use Rattle.std.specs.Prelude.{slice_get, ◌&&◌, nat_lt}
+use Rattle.std.proofs.Common.{◌≡◌, ℕ, suc, ◌+◌, ◌<◌, List, [], ◌∷◌, length, Option, Some, Bool, true, false, refl, sym, ap, subst, arith, lt-ltb}
+use Rattle.std.specs.Prelude.{slice_get, ◌&&◌}
 use Rattle.tm_values.specs.Val.{Val, text}
 use Rattle.tm_values.specs.declared.escape.AutoEscape.{AutoEscape}
 use Rattle.tm_syntax.specs.declared.instruction.CaptureMode.TheVariants.{Capture}
 use Rattle.tm_syntax.specs.declared.instruction.Instruction.TheVariants as i
 use Rattle.tm_meaning.specs.World.{choose, World, Res, Good, Bad, bind, tick, ticked, captured_text, is_safe}
-use Rattle.tm_meaning.specs.Calls.{NestedCall, enter_block, block_call}
+use Rattle.tm_meaning.specs.Calls.{whole, NestedCall, enter_block, block_call}
 use Rattle.tm_meaning.specs.Meaning.{Run, Outcome, Ending, done, leave, next, fault, Under, so_far, use_it, behind, in_place_of, block_tag}
 use Rattle.tm_meaning.specs.Meaning.{audible as heard_here, none_waits, capturing, text_behind}
 use Rattle.tm_meaning.specs.Machine.{goes, asked_in_place, stuck}
@@ -15,7 +15,7 @@ use Rattle.tm_syntax.proofs.Standing.{HasAt}
 use Rattle.tm_simulation.proofs.Advances.{Kept}
 use Rattle.tm_simulation.proofs.Gives.{tick_gives}
 use Rattle.tm_simulation.proofs.Asks.{in_block, block_asks, block_asks_by}
-use Rattle.tm_simulation.proofs.Follow.{LeadsToEnd, captured_in, captures_of, told_by, Spot, told, cfg, later, Follows, Then, Ends, whole_of}
+use Rattle.tm_simulation.proofs.Follow.{LeadsToEnd, captured_in, captures_of, Spot, told, cfg, later, Follows, Then, Ends, whole_of}
 use Rattle.tm_simulation.proofs.Follow.{bind_then, use_then, so_far_then, choose_ends, Go, silent, at, after_then}
 use Rattle.tm_simulation.proofs.Forms.{Stands, fits_captured, audible_is}
 use Rattle.tm_meaning.specs.declared.stream.TemplateId.{TemplateId}
@@ -36,7 +36,7 @@ tag_parent : (u : Under) (run : Run) (b : List ℕ) (out : List ℕ) (w : World)
 tag_parent u run b out w =
     choose_parent (none_waits run.parent && heard_here run) (in_place_of u run out (enter_block u.host b w)) (so_far run out w) run.parent
     (block_asks_by (λ q. (in_place_of u run out q).parent ≡ run.parent) u.host b w (λ kind e. refl) (λ stream room.
-    let o = u.nests (Rattle.tm_meaning.specs.Calls.whole stream) (heard_here run) out (in_block stream b w) in
+    let o = u.nests (whole stream) (heard_here run) out (in_block stream b w) in
     behind_parent o.ending (block_call stream w) run o)) refl
 
 module _ (setting : Setting) where

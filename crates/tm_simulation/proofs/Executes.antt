@@ -15,7 +15,7 @@ use Rattle.tm_syntax.specs.Loops.{Numbers, passes, within_loop, past, pasts, Fou
 use Rattle.tm_meaning.specs.World.{World, answered, tick, pop, depth, emitted, escape_for, with_escape, captured_text}
 use Rattle.tm_meaning.specs.World.{plain_scope}
 use Rattle.tm_meaning.specs.Calls.{Callee}
-use Rattle.tm_meaning.specs.Meaning.{again_in, turn_of, Run, Outcome, Under, use_it, say, block_tag, eval, loop_items, assign}
+use Rattle.tm_meaning.specs.Meaning.{again_in, turn_of, Run, Outcome, Under, use_it, say, eval, loop_items, assign}
 use Rattle.tm_meaning.specs.Operators.{truth}
 use Rattle.tm_meaning.specs.Meaning.{set_to, set_each, capturing, loop_over, has_none, exec_behind_loop, emit, filtered, use_text}
 use Rattle.tm_meaning.specs.Meaning.{behind_first, exec, exec_all, exec_else, declared, take_parameters, macro_body, call, with_caller}

@@ -8,7 +8,7 @@ use Rattle.tm_meaning.specs.Meaning.{Run, Outcome, Ending, done, leave, next, fa
 use Rattle.tm_meaning.specs.Meaning.{value_behind, value_of, capturing}
 use Rattle.tm_meaning.specs.Machine.{Activation, Finished, Failed, Back, More, Program, audible, put_in, put_out, writes, back_to}
 use Rattle.tm_meaning.specs.Machine.{Capture, base_of, first_run, nested, new_capture, waiting, pushed, nested_in_place, nested_as_value}
-use Rattle.tm_meaning.specs.Steps.{begun, begins, step, Final, final, Leads, over, more, nest}
+use Rattle.tm_meaning.specs.Steps.{begun, begins, Final, final, Leads, over, more, nest}
 use Rattle.tm_meaning.proofs.Ends.{one_end}
 use Rattle.tm_simulation.proofs.Follow.{RunContext, LeadsToEnd, Bed, air, inside, captured_in, captures_of, told_by, Spot, told, cfg, later}
 use Rattle.tm_simulation.proofs.Follow.{Follows, Then, Ends, whole_of, so_far_then, fault_then, Go, silent}

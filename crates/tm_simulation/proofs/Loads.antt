@@ -1,5 +1,5 @@
 -- A parent that is loaded keeps the world, and leaves a name fewer.
-use Rattle.std.proofs.Common.{◌≡◌, ℕ, suc, ◌+◌, ◌≤◌, List, [], ◌∷◌, ◌++◌, Option, Some, None, Bool, true, false, Ok, Err, refl, arith}
+use Rattle.std.proofs.Common.{◌≡◌, ℕ, ◌≤◌, List, [], ◌∷◌, Option, Some, None, Bool, true, false, Ok, Err, refl, arith}
 use Rattle.std.specs.Prelude.{not, is_none}
 use Rattle.tm_values.specs.Answer.{Answer}
 use Rattle.tm_values.specs.Val.{Val, text_in}
@@ -10,7 +10,7 @@ use Rattle.tm_meaning.specs.World.{World, HostValue, Res, Good, Bad, bind, need,
 use Rattle.tm_meaning.specs.Inheritance.{load}
 use Rattle.tm_meaning.specs.Meaning.{Run, so_far, use_it}
 use Rattle.tm_meaning.specs.declared.stream.TemplateId.{TemplateId}
-use Rattle.tm_simulation.specs.Chains.{is_raised, Arises, by_join}
+use Rattle.tm_simulation.specs.Chains.{Arises, by_join}
 use Rattle.tm_simulation.proofs.Parents.{count_loaded}
 use Rattle.tm_simulation.proofs.Advances.{Advances, Kept, advances_same, loading_kept}
 use Rattle.tm_simulation.proofs.Gives.{Gives, OutcomeKeeps, parents_left, ends_from, ends_fault, refused_arises}

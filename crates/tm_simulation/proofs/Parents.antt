@@ -1,6 +1,6 @@
 -- Lists of blocks grow, and fewer names are left to be loaded.
 use Rattle.std.proofs.Common.{◌≡◌, ◌≢◌, ◌⊎◌, inl, inr, ℕ, suc, ◌+◌, ◌≤◌, List, [], ◌∷◌, ◌++◌, Option, Some, None, Bool, true, false, refl, sym}
-use Rattle.std.proofs.Common.{subst, ap, ◌∙◌, arith, append_assoc, cond}
+use Rattle.std.proofs.Common.{ap, ◌∙◌, arith, append_assoc, cond}
 use Rattle.std.specs.Prelude.{◌||◌, option_map, if◌then◌else◌}
 use Rattle.std.specs.BTreeMap.{is_at}
 use Rattle.std.proofs.lemmas.List.{append-nil}
@@ -58,9 +58,11 @@ placed_by x l old new found grow y m there (inl same) =
     let moved : Layers = record (one_on l) { templates = l.templates ++ at.0 } in
     let placed : placed_as old x new ≡ put x grown new =
     ap (λ o. put_list x (option_map (at_place_of (find x old)) o) new) at.1
-    ∙ ap (λ o. put x (at_place_of o moved) new) found in
-    (at.0, ap (λ z. find z (placed_as old x new)) same ∙ ap (find x) placed ∙ find_put x grown new
-    ∙ ap (λ (k : Layers). Some (record k { templates = k.templates ++ at.0 })) one)
+    ∙ ap (λ o. put x (at_place_of o moved) new) found in (
+      at.0,
+      ap (λ z. find z (placed_as old x new)) same ∙ ap (find x) placed ∙ find_put x grown new
+          ∙ ap (λ (k : Layers). Some (record k { templates = k.templates ++ at.0 })) one,
+    )
 placed_by x l old new found grow y m there (inr apart) =
     let at = grow y m (find_put_other y x apart (one_on l) old ∙ there) in
     (at.0, other_placed x y apart (option_map (at_place_of (find x old)) (find x new)) new ∙ at.1)

@@ -20,7 +20,7 @@ use Rattle.tm_meaning.specs.Meaning.{done_by, exec_all, macro_body, macro_run, t
 use Rattle.tm_meaning.specs.Meaning.{new_run, at_end, failed, nests_of, rendered, Run, Outcome, stream_run, restarting, run_of}
 use Rattle.tm_meaning.specs.Inheritance.{names_left}
 use Rattle.tm_meaning.specs.Machine.{new_capture, recursion, Capture as OpenCapture, Finished}
-use Rattle.tm_meaning.specs.Machine.{Stuck, Failed, Over, Program, base_of, run_from, run_of_macro, onto, restarted}
+use Rattle.tm_meaning.specs.Machine.{Stuck, Over, Program, base_of, run_from, run_of_macro, onto, restarted}
 use Rattle.tm_meaning.specs.Steps.{act, begun, finish, parent_next, return_of, step, Final, final, Leads, over as is_over, restart as restarts}
 use Rattle.tm_meaning.specs.Compiled.{IsCompiled, code_of}
 use Rattle.tm_meaning.proofs.Ends.{one_end}

@@ -1,6 +1,6 @@
 -- The code of statements does what they mean.
 use Rattle.std.proofs.Common.{◌≡◌, ℕ, ◌+◌, List, [], ◌∷◌, length, Option, Some, None}
-use Rattle.std.proofs.Common.{true, false, refl, sym, ap, ◌∙◌, subst, arith}
+use Rattle.std.proofs.Common.{true, false, refl, sym, subst, arith}
 use Rattle.std.specs.Prelude.{slice_get, nat_lt, codes}
 use Rattle.tm_values.specs.Val.{Val, undefined, boolean}
 use Rattle.tm_syntax.specs.declared.tree.Stmt.{Stmt, EmitRaw, EmitExpr, EmitLoop, EmitBlock, EmitSuper, If', For', Break, Continue, Block'}

@@ -23,17 +23,15 @@ use Rattle.tm_syntax.specs.declared.opened.Opened.TheVariants.{Scope as a_scope,
 use Rattle.tm_meaning.specs.World.{choose, World}
 use Rattle.tm_meaning.specs.World.{top_mark, tick, pop, plain_scope}
 use Rattle.tm_meaning.specs.World.{unpacked_items, set_member, emitted, with_escape, captured_text}
-use Rattle.tm_meaning.specs.Calls.{enter_block}
 use Rattle.tm_meaning.specs.Meaning.{Run, Outcome}
-use Rattle.tm_meaning.specs.Meaning.{Under, so_far, say, use_it, in_place_of, block_tag}
+use Rattle.tm_meaning.specs.Meaning.{Under, say, use_it}
 use Rattle.tm_meaning.specs.Operators.{truth}
-use Rattle.tm_meaning.specs.Meaning.{audible as heard_here}
-use Rattle.tm_meaning.specs.Meaning.{none_waits, eval, eval_step, filtered, use_text}
-use Rattle.tm_meaning.specs.Meaning.{assign, assign_all, set_to, set_each, capturing}
+use Rattle.tm_meaning.specs.Meaning.{eval, eval_step, filtered, use_text}
+use Rattle.tm_meaning.specs.Meaning.{assign, assign_all, set_to, set_each}
 use Rattle.tm_meaning.specs.Meaning.{emit, exec_all}
-use Rattle.tm_meaning.specs.Machine.{goes, asked_in_place}
+use Rattle.tm_meaning.specs.Machine.{goes}
 use Rattle.tm_meaning.specs.Machine.{stuck}
-use Rattle.tm_meaning.specs.Instructions.{end_capture_of, is_no_loop}
+use Rattle.tm_meaning.specs.Instructions.{is_no_loop}
 use Rattle.tm_syntax.proofs.Standing.{HasAt}
 use Rattle.tm_syntax.specs.Loops.{Numbers}
 use Rattle.tm_simulation.proofs.Counts.{Counts}
@@ -41,7 +39,7 @@ use Rattle.tm_simulation.proofs.Advances.{Kept, kept_top, kept_frames, kept_then
 use Rattle.tm_simulation.proofs.Advances.{within}
 use Rattle.tm_simulation.proofs.Advances.{kept_unescaped}
 use Rattle.tm_simulation.proofs.Gives.{tick_gives}
-use Rattle.tm_simulation.proofs.Asks.{unpacked_gives, emitted_gives, block_asks}
+use Rattle.tm_simulation.proofs.Asks.{unpacked_gives, emitted_gives}
 use Rattle.tm_simulation.proofs.Evaluates.{eval_gives, step_gives}
 use Rattle.tm_simulation.proofs.Evaluates.{assign_gives, set_gives, truth_gives}
 use Rattle.tm_simulation.proofs.Follow.{LeadsToEnd, follows_map_kept}
@@ -49,10 +47,10 @@ use Rattle.tm_simulation.proofs.Follow.{captures_of, told_by, Spot, told, cfg}
 use Rattle.tm_simulation.proofs.Follow.{later, Follows, Then, Ends, follows_map, bind_then, use_then, so_far_then}
 use Rattle.tm_simulation.proofs.Follow.{Closed, captured_in, Dropped}
 use Rattle.tm_simulation.proofs.Follow.{Go, silent, at, after_then, choose_ends}
-use Rattle.tm_simulation.proofs.Forms.{Stands, fits_captured, audible_is, writes_then}
+use Rattle.tm_simulation.proofs.Forms.{Stands, writes_then}
 use Rattle.tm_meaning.specs.declared.stream.TemplateId.{TemplateId}
 use Rattle.tm_simulation.proofs.Operands.{bind_long, items_long}
-use Rattle.tm_simulation.proofs.Levels.{Deep, Here, Setting, as_at, deep_kept, here, here_kept, meaning, nest_ends, placed_then}
+use Rattle.tm_simulation.proofs.Levels.{Deep, Here, Setting, as_at, here, here_kept, meaning, nest_ends}
 use Rattle.tm_simulation.proofs.Arguments.{In}
 use Rattle.tm_simulation.proofs.BlockTags.{ended_then}
 use Rattle.tm_simulation.proofs.Expressions.{expr_runs, step_runs}

@@ -38,13 +38,13 @@ use Rattle.tm_syntax.specs.declared.opened.Opened.TheVariants.{Scope as a_scope,
 use Rattle.tm_syntax.specs.Forms.{unary, chained, conditional, with_condition, with_comparison, with_pair, plain, spread, keyword}
 use Rattle.tm_syntax.specs.Forms.{spread_keywords, item, slice, binary, compare, and_then, or_else}
 use Rattle.tm_syntax.specs.Code.{unary_code, binary_code, application_code, passed_count, merging, passing_by, close_all, for_flags}
-use Rattle.tm_syntax.specs.Code.{RowEnd, row_end, caller_end, passing_code, step_call_code, steps_call_code, call_code, called_alone}
+use Rattle.tm_syntax.specs.Code.{row_end, caller_end, passing_code, step_call_code, steps_call_code, call_code, called_alone}
 use Rattle.tm_syntax.specs.Code.{together}
 use Rattle.tm_syntax.specs.Code.{list_of_row, map_of_row, merged_code, has_spread, has_spread_keyword, row_behind, keywords_behind}
 use Rattle.tm_syntax.specs.Blocks.{body_of}
 use Rattle.tm_syntax.specs.Loops.{Numbers, FoundLoop, FoundMacro, with_pass, within_loop, within_macro, passes, past, pasts, past_else}
 use Rattle.tm_syntax.specs.Loops.{loops_of, loops_in, loops_else, macros_of, macros_in, macros_else}
-use Rattle.tm_syntax.specs.Fragments.{Fragment, straight, ◌⨾◌, looped, declares, Labels, beyond}
+use Rattle.tm_syntax.specs.Fragments.{Fragment, straight, ◌⨾◌, looped, Labels, beyond}
 use Rattle.tm_syntax.specs.Names.{parameter_names}
 use Rattle.tm_syntax.specs.declared.jump.JumpKind.TheVariants.{IfFalse}
 use Rattle.tm_syntax.specs.Code.{expr_code, conditions_code, exprs_code, pairs_code, argument_code}

@@ -71,9 +71,10 @@ pub record Grows (old : World) (o : Outcome) : Type 0 where
 abbrev pub EndsThere : StreamId → Outcome → Type 0
 EndsThere stream o = (o.world.stream ≡ stream) ⊎ ((t : TemplateId) × (o.world.stream ≡ root_of t))
 
--- What a call replaced is put back: the scopes, the stream, the block and the escape.
+-- What a call replaced is put back: the scopes, the stream, the block and the escape, and each list of blocks is at its place.
 pub record PutsBack (old new : World) : Type 0 where
   pub same_scopes : new.scopes ≡ old.scopes
   pub same_stream : new.stream ≡ old.stream
   pub same_block : new.block ≡ old.block
   pub same_escape : new.escape ≡ old.escape
+  pub same_places : BlocksGrow old.blocks new.blocks

@@ -8,9 +8,9 @@ ghost use Rattle.tm_values.specs.declared.error.ErrorKind.TheVariants as kinds;
 ghost use Rattle.std.specs.List.{All};
 ghost use Rattle.tm_meaning.specs.Memory.{is_want_of_memory};
 ghost use Rattle.tm_meaning.specs.World.{HostValue, World};
-ghost use Rattle.tm_meaning.specs.Calls.{Callee};
+ghost use Rattle.tm_meaning.specs.Calls.{Callee, enter_super};
 ghost use Rattle.tm_meaning.specs.Tree.{Body, Trees};
-ghost use Rattle.tm_meaning.specs.Meaning.{Run, block_tag, chain_of, nests_of, rendered, under};
+ghost use Rattle.tm_meaning.specs.Meaning.{Run, block_tag, chain_of, in_place_of, nests_of, rendered, under};
 ghost use Rattle.tm_meaning.specs.Machine.{Program, Capture, Stuck};
 ghost use Rattle.tm_meaning.specs.Steps.{Final, final};
 ghost use Rattle.tm_meaning.specs.Compiled.{IsCompiled};
@@ -84,11 +84,19 @@ pub fn a_render_ends_in_its_stream_or_a_root()
         EndsThere w.stream (rendered host trees w) }
 {}
 
-/// Whatever its run comes to, also a fault, a block's tag leaves the scopes, the stream, the block and the escape as they were before it.
+/// Whatever its run comes to, also a fault, a block's tag leaves the scopes, the stream, the block and the escape as they were before it,
+/// and each list of blocks at its place.
 pub fn a_block_puts_back_what_it_replaced()
     ensures { (host : HostValue) (trees : Trees) (n : ℕ) (body : Body) (run : Run) (b : List ℕ)
         (out : List ℕ) (w : World) →
         PutsBack w (block_tag (under host (nests_of host trees n) body) run b out w).world }
+{}
+
+/// So does `super()`.
+pub fn a_super_puts_back_what_it_replaced()
+    ensures { (host : HostValue) (trees : Trees) (n : ℕ) (body : Body) (run : Run) (out : List ℕ)
+        (w : World) →
+        PutsBack w (in_place_of (under host (nests_of host trees n) body) run out (enter_super host w)).world }
 {}
 
 /// The chain of a render's fault arises in it: what ends it is a kind that renders raise, or a chain that an object of the caller states,
