@@ -1,5 +1,5 @@
 -- A parent that is loaded keeps the world, and leaves a name fewer.
-use Rattle.std.proofs.Common.{◌≡◌, ℕ, ◌≤◌, List, [], ◌∷◌, Option, Some, None, Bool, true, false, Ok, Err, refl, arith}
+use Rattle.std.proofs.Common.{◌≡◌, ℕ, ◌≤◌, List, [], ◌∷◌, Option, Some, None, Bool, true, false, Ok, Err, refl, subst, arith}
 use Rattle.std.specs.Prelude.{not, is_none}
 use Rattle.tm_values.specs.Answer.{Answer}
 use Rattle.tm_values.specs.Val.{Val, text_in}
@@ -7,7 +7,7 @@ use Rattle.tm_values.specs.declared.error.ErrorKind.{ErrorKind}
 use Rattle.tm_values.specs.declared.error.ErrorKind.TheVariants.{InvalidOperation, TemplateNotFound}
 use Rattle.tm_syntax.specs.Names.{is_among}
 use Rattle.tm_meaning.specs.World.{World, HostValue, Res, Good, Bad, bind, need, check, answered, find, name_of}
-use Rattle.tm_meaning.specs.Inheritance.{load}
+use Rattle.tm_meaning.specs.Inheritance.{load, names_left}
 use Rattle.tm_meaning.specs.Meaning.{Run, so_far, use_it}
 use Rattle.tm_meaning.specs.declared.stream.TemplateId.{TemplateId}
 use Rattle.tm_simulation.specs.Chains.{Arises, by_join}
@@ -63,3 +63,16 @@ pub waits_ends : (host : HostValue) (w : World) (run : Run) (out : List ℕ) (m 
     OutcomeKeeps host run.parent w (use_it m run out (λ t world1. so_far (record run { parent = Some t }) out world1))
 waits_ends host w run out (Good t world1) h = ends_from host w (so_far (record run { parent = Some t }) out world1) h.0 h.1
 waits_ends host w run out (Bad chain world1) h = ends_fault host w world1 run out chain h.0 h.1
+
+fewer_by : (host : HostValue) (q : Option TemplateId) (w world1 : World) (t : TemplateId) (m : Res TemplateId) → LoadGives host q w m →
+    m ≡ Good t world1 → parents_left host (Some t) world1 ≤ parents_left host q w
+fewer_by host q w world1 t (Good t1 world2) h e =
+    let one : world2 ≡ world1 = cc in
+    subst (λ (v : World). parents_left host (Some t) v ≤ parents_left host q w) one h.1
+fewer_by host q w world1 t (Bad chain world2) h e = absurd (cc e)
+
+-- a parent that waits leaves a name fewer
+pub load_leaves_fewer : (host : HostValue) (v : Val) (inside : Bool) (w world1 : World) (t : TemplateId) →
+    load host v None inside w ≡ Good t world1 → suc (names_left host world1) ≤ names_left host w
+load_leaves_fewer host v inside w world1 t e =
+    omega (arith, fewer_by host None w world1 t (load host v None inside w) (load_does host v None inside w) e)

@@ -534,6 +534,21 @@ same_with_levels host trees n m k heard out w enough also =
     one_end (nested_comes_to_meaning trees p n k heard [] out w compiled enough)
     (nested_comes_to_meaning trees p m k heard [] out w compiled also)
 
+-- A stream and its parents come to one end, over as many names as there are left or more.
+pub same_with_names : (host : HostValue) (trees : Trees) (n m k : ℕ) (s : StreamId) (heard : Bool) (out : List ℕ) (w : World) →
+    HasLevels host (suc n) w → names_left host w ≤ m → names_left host w ≤ k →
+    let nests = nests_of host trees n in
+    final_of (run_of host nests trees m s (new_run heard w) out w) ≡ final_of (run_of host nests trees k s (new_run heard w) out w)
+same_with_names host trees n m k s heard out w enough left also =
+    let p : Program = record { host = host; code = λ r. unnumbered_code (trees r).row } in
+    let nests = nests_of host trees n in
+    let o = run_of host nests trees m s (new_run heard w) out w in
+    let q = run_of host nests trees k s (new_run heard w) out w in
+    sym (unheard_end o.ending o.text o.world)
+    ∙ one_end (chain_runs p trees (λ r. refl) n (nests_run p trees (λ r. refl) n) m s heard air out w enough left)
+    (chain_runs p trees (λ r. refl) n (nests_run p trees (λ r. refl) n) k s heard air out w enough also)
+    ∙ unheard_end q.ending q.text q.world
+
 -- ---------------------------------------------------------------- renders
 -- A render's run comes to what its trees mean, heard by the writer or by captures.
 pub render_runs : (p : Program) (trees : Trees) → IsCompiled trees p → (b : Bed) (w : World) →

@@ -2,15 +2,17 @@
 //! nothing, and their contracts say what is proved.
 #![tactic(auto)]
 
-ghost use Rattle.std.specs.Prelude.{◌≡◌, ◌++◌, ℕ, suc, List, [], ◌∷◌, Bool, true, false};
+ghost use Rattle.std.specs.Prelude.{◌≡◌, ◌≤◌, ◌++◌, ℕ, None, suc, List, [], ◌∷◌, Bool, true, false};
 ghost use Rattle.tm_values.specs.declared.error.ErrorKind.{ErrorKind};
 ghost use Rattle.tm_values.specs.declared.error.ErrorKind.TheVariants as kinds;
 ghost use Rattle.std.specs.List.{All};
 ghost use Rattle.tm_meaning.specs.Memory.{is_want_of_memory};
-ghost use Rattle.tm_meaning.specs.World.{HostValue, World};
+ghost use Rattle.tm_values.specs.Val.{Val};
+ghost use Rattle.tm_meaning.specs.World.{Good, HostValue, StreamId, TemplateId, World};
+ghost use Rattle.tm_meaning.specs.Inheritance.{load, names_left};
 ghost use Rattle.tm_meaning.specs.Calls.{Callee, enter_super};
 ghost use Rattle.tm_meaning.specs.Tree.{Body, Trees};
-ghost use Rattle.tm_meaning.specs.Meaning.{Run, block_tag, chain_of, in_place_of, nests_of, rendered, under};
+ghost use Rattle.tm_meaning.specs.Meaning.{Run, block_tag, chain_of, in_place_of, nests_of, new_run, rendered, run_of, under};
 ghost use Rattle.tm_meaning.specs.Machine.{Program, Capture, Stuck};
 ghost use Rattle.tm_meaning.specs.Steps.{Final, final};
 ghost use Rattle.tm_meaning.specs.Compiled.{IsCompiled};
@@ -52,6 +54,22 @@ pub fn levels_change_no_meaning()
         (w : World) → HasLevels host (suc n) w → HasLevels host (suc m) w →
         final_of (nests_of host trees (suc n) k heard out w) ≡
         final_of (nests_of host trees (suc m) k heard out w) }
+{}
+
+/// Nor does it matter how many parents a stream may ask for, where that is as many as there are names left to be loaded.
+pub fn names_change_no_meaning()
+    ensures { (host : HostValue) (trees : Trees) (n m k : ℕ) (s : StreamId) (heard : Bool)
+        (out : List ℕ) (w : World) → HasLevels host (suc n) w →
+        names_left host w ≤ m → names_left host w ≤ k →
+        let nests = nests_of host trees n in
+        final_of (run_of host nests trees m s (new_run heard w) out w) ≡
+        final_of (run_of host nests trees k s (new_run heard w) out w) }
+{}
+
+/// A parent that is given leaves a name fewer to be loaded, so every run ends.
+pub fn a_parent_leaves_a_name_fewer()
+    ensures { (host : HostValue) (v : Val) (inside : Bool) (w left : World) (t : TemplateId) →
+        load host v None inside w ≡ Good t left → suc (names_left host left) ≤ names_left host w }
 {}
 
 /// The code of trees is never stuck.
