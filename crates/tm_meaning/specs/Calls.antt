@@ -73,6 +73,7 @@ outermost n frames = drop (length frames - n) frames
 abbrev pub cut_to : ℕ → ℕ → World → World
 cut_to n outer w = record w { scopes = record { frames = outermost n w.scopes.frames; outer = outer } }
 
+-- the scopes, stream, block and escape of a world before, in one behind
 abbrev pub block_undone : World → World → World
 block_undone b w = record (cut_to (length b.scopes.frames) b.scopes.outer w) { stream = b.stream; block = b.block; escape = b.escape }
 
@@ -123,7 +124,7 @@ enter_block host b w =
     runs (block_call (block_of t b) w)
     (record world4 { stream = block_of t b; block = Some b })))))
 
--- the run of a block behind another one, whose fault is one of that, needed in this world
+-- the run of the next block of a name, needed in this world; before its fault stands EvalBlock
 abbrev pub super_call : StreamId → List ℕ → World → NestedCall
 super_call s x w = record { callee = whole s; undo = of_super x w; wrap = Some EvalBlock; text = texts.Captured }
 
