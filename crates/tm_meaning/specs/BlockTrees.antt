@@ -15,11 +15,13 @@ use Rattle.tm_syntax.specs.declared.tree.Stmt.{Stmt, EmitExpr, EmitBlock, EmitSu
 use Rattle.tm_syntax.specs.declared.tree.Stmt.{end_of-Stmt as no_statement, more_of-Stmt as statement, None' as no_else}
 use Rattle.tm_syntax.specs.Forms.{plain, binary}
 use Rattle.tm_meaning.specs.Tree.{Body, TemplateTree}
-use Rattle.tm_meaning.specs.World.{Named, Object, World, callers, name_of}
+use Rattle.tm_meaning.specs.World.{Named, Object, World, callers, depth, name_of}
 use Rattle.tm_meaning.specs.declared.reply.Reply.TheVariants.{Further as asks_for, Value as gives}
 use Rattle.tm_meaning.specs.declared.reply.Call.TheVariants as further
-use Rattle.tm_meaning.specs.Rows.{Page, Says, Behind, host_of, nothing, raw, named, one, two, literal, literal_number, and_one, if_one, else_one, x}
-use Rattle.tm_meaning.specs.LoopRows.{numbers}
+use Rattle.tm_meaning.specs.Rows.{Page, Says, Behind, host_of, trees, world_of, nothing, raw, named, one, two, literal, literal_number}
+use Rattle.tm_meaning.specs.Rows.{literal_truth, and_one, if_one, else_one, x}
+use Rattle.tm_meaning.specs.Meaning.{Outcome, rendered, rendered_block, chain_of}
+use Rattle.tm_meaning.specs.LoopRows.{numbers, alone_in_list}
 use Rattle.tm_meaning.specs.CallRows.{answers, call_none}
 use Rattle.tm_meaning.specs.MacroTrees.{called, macro_one, macro_two, paged, sets, three, four, with_one, writes}
 
@@ -100,6 +102,12 @@ places w = each (λ b. b.1.place) w.blocks
 -- every list of blocks is at its child's place, of so many
 abbrev pub AtChildren : Page → List ℕ → Type 0
 AtChildren p zeros = Behind (λ w. places w ≡ zeros) p
+
+-- It is this text and chain, and leaves one scope, the template of a name, no block, and every list of blocks at its child's place.
+abbrev pub GivesIn : Page → Outcome → List ℕ → List ErrorKind → List ℕ → List ℕ → Type 0
+GivesIn p o t chain name zeros =
+    (o.text ≡ t) × (chain_of o ≡ chain) × (depth o.world.scopes ≡ 1) × (name_of (host_of p) o.world ≡ name) × (o.world.block ≡ None)
+    × (places o.world ≡ zeros)
 
 -- ---------------------------------------------------------------- layouts
 -- {% extends "base" %}{% set y = 1 %}ignored{% block a %}[{{ super() }}{{ y }}]{% endblock %}
@@ -285,6 +293,21 @@ abbrev pub escaped_by_child : AutoEscape → AutoEscape → Page
 escaped_by_child of_parent of_child =
     record (among (template_under of_parent (codes "p") (two emits_tag (block_none a)) ∷ [])
     (two (extends (codes "p")) (block_one a emits_tag))) { escape = of_child }
+
+-- ---------------------------------------------------------------- blocks that a state is asked for
+-- {% if false %}{% block b %}{% for x in [1] %}{{ y.z }}{% endfor %}{% endblock %}{% endif %}ok
+abbrev pub fault_in_hidden : Page
+fault_in_hidden =
+    let rounds = For' (To (codes "x")) (alone_in_list (literal_number 1)) None false (tt ∷ []) (statement fault no_statement) no_else in
+    paged (two (if_one (literal_truth false) (block_one (codes "b") rounds) no_else) (raw (codes "ok")))
+
+-- The state behind the page gives this for the block of a name, and then again, and stands in the same template.
+abbrev pub GivesTwice : Page → List ℕ → List ℕ → List ErrorKind → List ℕ → List ℕ → Type 0
+GivesTwice p b t chain name zeros =
+    let w = (rendered (host_of p) (trees p) (world_of p None)).world in
+    let first = rendered_block (host_of p) (trees p) b w in
+    let last = rendered_block (host_of p) (trees p) b first.world in
+    GivesIn p first t chain name zeros × GivesIn p last t chain name zeros
 
 -- ---------------------------------------------------------------- blocks by further calls
 -- asks for the block that its argument names

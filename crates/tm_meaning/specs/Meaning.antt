@@ -41,7 +41,7 @@ use Rattle.tm_meaning.specs.Calls.{Callee, whole, macro_of, NestedCall, Asked, h
 use Rattle.tm_meaning.specs.Inheritance.{load, names_left}
 use Rattle.tm_meaning.specs.Calls.{enter_block, enter_super, call_named}
 use Rattle.tm_meaning.specs.Calls.{applied, call_callee, call_innermost, own_blocks}
-use Rattle.tm_meaning.specs.Tree.{Body, Trees}
+use Rattle.tm_meaning.specs.Tree.{Body, empty, Trees}
 use Rattle.tm_meaning.specs.Operators.{truth, applied_unary, operated, applied_binary, attribute, item_at, slice_of}
 use Rattle.tm_meaning.specs.Operators.{list_of_values, map_of_pairs, listed, mapped, passed, turned, is_undefined}
 
@@ -619,6 +619,10 @@ first_world host t id fuel context = record {
 -- What a render means, from a world: the stream that it names, heard.
 abbrev pub rendered : HostValue → Trees → World → Outcome
 rendered host trees w = nests_of host trees (host.limit + 1) (whole w.stream) true [] w
+
+-- What the block of a name means that a state is asked for, from its world: its tag, heard and where no parent waits.
+abbrev pub rendered_block : HostValue → Trees → List ℕ → World → Outcome
+rendered_block host trees b w = block_tag (under host (nests_of host trees (host.limit + 1)) empty) (new_run true w) b [] w
 
 -- the chain of kinds, which is empty where all was done
 abbrev pub chain_in : Ending → List ErrorKind

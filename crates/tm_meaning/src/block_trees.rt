@@ -14,7 +14,7 @@ ghost use Rattle.tm_meaning.specs.BlockTrees.{in_capture, extends_itself, of_cha
 ghost use Rattle.tm_meaning.specs.BlockTrees.{super_member, self_of_one, self_as_value, self_while_waiting, super_as_value};
 ghost use Rattle.tm_meaning.specs.BlockTrees.{fault_in_super, while_waiting, divides_by_zero, required_itself, required_by_parent};
 ghost use Rattle.tm_meaning.specs.BlockTrees.{required_given, set_before_parent, in_scope_of_parent, in_loop_of_parent};
-ghost use Rattle.tm_meaning.specs.BlockTrees.{macro_of_child, escaped_by_child, calls_block, extends};
+ghost use Rattle.tm_meaning.specs.BlockTrees.{macro_of_child, escaped_by_child, calls_block, extends, GivesTwice, fault_in_hidden};
 
 /// Blocks of a child in the layout of its parents, at their charges and with too little fuel; the state behind has the last parent's name.
 pub fn layout_rows()
@@ -91,6 +91,16 @@ pub fn parent_scope_rows()
     ensures of_child { Charges macro_of_child (codes "MM") 13 }
     ensures child_escapes { Charges (escaped_by_child escapes.None escapes.Html) (codes "&lt;&lt;") 7 }
     ensures parent_escapes { Charges (escaped_by_child escapes.Html escapes.None) (codes "<<") 7 }
+{}
+
+/// Blocks that a state is asked for, twice: a fault within, a block of the child, and one that isn't there.
+pub fn state_block_rows()
+    ensures shown { Shows fault_in_hidden (codes "ok") }
+    ensures fault { GivesTwice fault_in_hidden (codes "b") [] (UndefinedError ∷ []) (codes "page") (0 ∷ []) }
+    ensures missing { GivesTwice fault_in_hidden (codes "no") [] (UnknownBlock ∷ []) (codes "page") (0 ∷ []) }
+    ensures child { GivesTwice over_mid (codes "a") (codes "cmx") [] (codes "base") (0 ∷ []) }
+    ensures fault_in_next { GivesTwice fault_in_super (codes "a") (codes "12")
+        (EvalBlock ∷ UndefinedError ∷ []) (codes "q") (0 ∷ []) }
 {}
 
 /// Blocks by further calls, whose text is not safe.
