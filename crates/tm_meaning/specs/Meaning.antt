@@ -571,8 +571,8 @@ abbrev pub restarting : Ending → Outcome → (TemplateId → Outcome) → Outc
 restarting (fault chain) o f = o
 restarting e o f = to_parent o.parent o f
 
--- A stream, and behind it the root of the parent that it asks for, in the scopes that are left and heard as the run was at its start; over so
--- many names that were not loaded before. Each parent's name was not, so with none left no parent is asked for.
+-- A stream, and behind it the root of the parent that it asks for, in the scopes that are left and heard as the run was at its start; over
+-- so many names that were not loaded before. Each parent's name was not, so with none left no parent is asked for.
 abbrev pub run_of : HostValue → Nests → Trees → ℕ → StreamId → Run → List ℕ → World → Outcome
 run_of host nests trees zero s run out w =
     let o = stream_run (under host nests (trees s)) (trees s) run out w in

@@ -1,4 +1,5 @@
-//! Worked renders of pages with blocks, which extend templates: through the meaning and through code and machine.
+//! Worked renders of pages with blocks, which extend templates: through the meaning, and through
+//! code and machine.
 ghost use Rattle.std.specs.Prelude.{[], ◌∷◌, ◌++◌, codes};
 ghost use Rattle.std.specs.Fmt.{decimal};
 ghost use Rattle.tm_values.specs.declared.escape.AutoEscape.TheVariants as escapes;
@@ -16,7 +17,8 @@ ghost use Rattle.tm_meaning.specs.BlockTrees.{fault_in_super, while_waiting, div
 ghost use Rattle.tm_meaning.specs.BlockTrees.{required_given, set_before_parent, in_scope_of_parent, in_loop_of_parent};
 ghost use Rattle.tm_meaning.specs.BlockTrees.{macro_of_child, escaped_by_child, calls_block, extends, GivesTwice, fault_in_hidden};
 
-/// Blocks of a child in the layout of its parents, at their charges and with too little fuel; the state behind has the last parent's name.
+/// Blocks of a child in the layout of its parents, at their charges and with too little fuel; the
+/// state behind has the last parent's name.
 pub fn layout_rows()
     ensures base { Charges of_base (codes "B:[x" ++ decimal 1 ++ codes "]") 13 }
     ensures twelve { Says of_base 12 (codes "B:[x") 0 (OutOfFuel ∷ []) }
@@ -27,7 +29,8 @@ pub fn layout_rows()
     ensures joined { Charges over_mid_joined (codes "B:cmx!") 14 }
     ensures twice { Charges (of_mid EmitSuper EmitSuper) (codes "B:mxmx") 14 }
     ensures within { Shows (with_limit 4 over_mid) (codes "B:cmx") }
-    ensures too_deep { Fails (with_limit 3 over_mid) (codes "B:cm") (EvalBlock ∷ InvalidOperation ∷ []) }
+    ensures too_deep { Fails (with_limit 3 over_mid) (codes "B:cm")
+        (EvalBlock ∷ InvalidOperation ∷ []) }
 {}
 
 /// `extends` under a condition, in a loop, in a block and in a macro, whose end asks for no parent.
@@ -38,13 +41,16 @@ pub fn extends_rows()
     ensures macro_end { Charges in_macro (codes "[]") 10 }
 {}
 
-/// What `extends` refuses: no text, a second parent, inside a capture, a name loaded before, and then one that isn't there.
+/// What `extends` refuses: no text, a second parent, inside a capture, a name loaded before, and
+/// then one that isn't there.
 pub fn refused_extends_rows()
     ensures twice { FailsAfter two_parents [] (InvalidOperation ∷ []) 2 }
     ensures number { FailsAfter (extends_only (literal_number 1)) [] (InvalidOperation ∷ []) 1 }
     ensures undefined { FailsAfter (extends_only x) [] (InvalidOperation ∷ []) 1 }
-    ensures missing { FailsAfter (extends_only (literal (codes "no"))) [] (TemplateNotFound ∷ []) 1 }
-    ensures second_missing { FailsAfter (while_waiting (extends (codes "no"))) [] (InvalidOperation ∷ []) 2 }
+    ensures missing { FailsAfter (extends_only (literal (codes "no"))) []
+        (TemplateNotFound ∷ []) 1 }
+    ensures second_missing { FailsAfter (while_waiting (extends (codes "no"))) []
+        (InvalidOperation ∷ []) 2 }
     ensures capture { FailsAfter (in_capture (codes "no")) [] (InvalidOperation ∷ []) 1 }
     ensures itself { FailsAfter extends_itself [] (InvalidOperation ∷ []) 3 }
 {}
@@ -72,7 +78,8 @@ pub fn block_fault_rows()
     ensures fault { FailsAfter fault_in_super (codes "12") (EvalBlock ∷ UndefinedError ∷ []) 8 }
     ensures places { AtChildren fault_in_super (0 ∷ []) }
     ensures places_behind { AtChildren over_mid (0 ∷ []) }
-    ensures unknown { FailsAfter (while_waiting (called (codes "nope"))) [] (UnknownFunction ∷ []) 2 }
+    ensures unknown { FailsAfter (while_waiting (called (codes "nope"))) []
+        (UnknownFunction ∷ []) 2 }
     ensures zero { FailsAfter (while_waiting divides_by_zero) [] (InvalidOperation ∷ []) 4 }
 {}
 
@@ -89,15 +96,19 @@ pub fn parent_scope_rows()
     ensures scope { Charges in_scope_of_parent (decimal 4 ++ decimal 5) 13 }
     ensures round { Charges in_loop_of_parent (decimal 1 ++ decimal 2) 18 }
     ensures of_child { Charges macro_of_child (codes "MM") 13 }
-    ensures child_escapes { Charges (escaped_by_child escapes.None escapes.Html) (codes "&lt;&lt;") 7 }
+    ensures child_escapes { Charges (escaped_by_child escapes.None escapes.Html)
+        (codes "&lt;&lt;") 7 }
     ensures parent_escapes { Charges (escaped_by_child escapes.Html escapes.None) (codes "<<") 7 }
 {}
 
-/// Blocks that a state is asked for, twice: a fault within, a block of the child, and one that isn't there.
+/// Blocks that a state is asked for, twice: a fault within, a block of the child, and one that
+/// isn't there.
 pub fn state_block_rows()
     ensures shown { Shows fault_in_hidden (codes "ok") }
-    ensures fault { GivesTwice fault_in_hidden (codes "b") [] (UndefinedError ∷ []) (codes "page") (0 ∷ []) }
-    ensures missing { GivesTwice fault_in_hidden (codes "no") [] (UnknownBlock ∷ []) (codes "page") (0 ∷ []) }
+    ensures fault { GivesTwice fault_in_hidden (codes "b") [] (UndefinedError ∷ [])
+        (codes "page") (0 ∷ []) }
+    ensures missing { GivesTwice fault_in_hidden (codes "no") [] (UnknownBlock ∷ [])
+        (codes "page") (0 ∷ []) }
     ensures child { GivesTwice over_mid (codes "a") (codes "cmx") [] (codes "base") (0 ∷ []) }
     ensures fault_in_next { GivesTwice fault_in_super (codes "a") (codes "12")
         (EvalBlock ∷ UndefinedError ∷ []) (codes "q") (0 ∷ []) }
@@ -115,13 +126,16 @@ pub fn loaded_rows()
     ensures again { Shows (behind_macro (called m)) [] }
     ensures parent { Shows (behind_macro (extends (codes "base"))) (codes "B:x") }
     ensures no_block { Fails (behind_macro (EmitBlock (codes "a"))) [] (UnknownBlock ∷ []) }
-    ensures block { Fails (in_block_before (EmitBlock (codes "a"))) (codes "P") (InvalidOperation ∷ []) }
+    ensures block { Fails (in_block_before (EmitBlock (codes "a"))) (codes "P")
+        (InvalidOperation ∷ []) }
 {}
 
-/// Templates in a row, each of which extends the next, and blocks that run the next one under a limit of depth.
+/// Templates in a row, each of which extends the next, and blocks that run the next one under a
+/// limit of depth.
 pub fn parent_chain_rows()
     ensures parents { Charges (of_chain 100) (codes "x") 102 }
     ensures supers { Charges (of_supers 40) (codes "x") 123 }
     ensures within { Shows (with_limit 42 (of_supers 40)) (codes "x") }
-    ensures too_deep { Fails (with_limit 4 (of_supers 40)) [] (EvalBlock ∷ EvalBlock ∷ InvalidOperation ∷ []) }
+    ensures too_deep { Fails (with_limit 4 (of_supers 40)) []
+        (EvalBlock ∷ EvalBlock ∷ InvalidOperation ∷ []) }
 {}

@@ -48,8 +48,8 @@ with_caches fs ts r = record r { filters = fs; tests = ts }
 abbrev pub cached : Caches → Caches → Config → Config
 cached fs ts c = record c { run = with_caches fs ts c.run }
 
--- A step goes on in a stream, and this one with these caches; or both do the same. A run of its own begins with empty caches, and so does one
--- that restarts.
+-- A step goes on in a stream, and this one with these caches; or both do the same. A run of its own begins with empty caches, and so does
+-- one that restarts.
 abbrev pub Alike : StreamId → Caches → Caches → Next → Next → Type 0
 Alike s fs ts (More t c) n = (c.run.stream ≡ s) × (n ≡ More t (cached fs ts c))
 Alike s fs ts (Over e) n = n ≡ Over e
@@ -520,7 +520,8 @@ module _ (host : HostValue) (plain coded : StreamId → List Instruction) (each 
           tests = ts;
           hold = hold;
           alike = subst (λ n. Alike s fs ts (finish (length (plain s)) f c) (finish n f (cached fs ts c))) (sym size)
-              (choose_same s fs ts (nat_eq c.run.place (length (plain s)) && closed f c) _ _ _ _ (parent_same s fs ts c refl c.run.parent) refl);
+              (choose_same s fs ts (nat_eq c.run.place (length (plain s)) && closed f c) _ _ _ _
+              (parent_same s fs ts c refl c.run.parent) refl);
         }
     act_goes (Some x) (Some y) is = instruction_goes x y is
     act_goes None (Some y) is = absurd is

@@ -58,7 +58,8 @@ pub fn levels_change_no_meaning()
         final_of (nests_of host trees (suc m) k heard out w) }
 {}
 
-/// Nor does it matter how many parents a stream may ask for, where that is as many as there are names left to be loaded.
+/// Nor does it matter how many parents a stream may ask for, where that is as many as there are
+/// names left to be loaded.
 pub fn names_change_no_meaning()
     ensures { (host : HostValue) (trees : Trees) (n m k : ℕ) (s : StreamId) (heard : Bool)
         (out : List ℕ) (w : World) → HasLevels host (suc n) w →
@@ -98,7 +99,8 @@ pub fn a_render_loses_nothing()
     ensures { (host : HostValue) (trees : Trees) (w : World) → Grows w (rendered host trees w) }
 {}
 
-/// A render ends in the stream in which it began, or in the root of a parent, also where it ends in a fault.
+/// A render ends in the stream in which it began, or in the root of a parent, also where it ends in
+/// a fault.
 pub fn a_render_ends_in_its_stream_or_a_root()
     ensures { (host : HostValue) (trees : Trees) (w : World) →
         EndsThere w.stream (rendered host trees w) }
@@ -116,7 +118,8 @@ pub fn a_block_puts_back_what_it_replaced()
 pub fn a_super_puts_back_what_it_replaced()
     ensures { (host : HostValue) (trees : Trees) (n : ℕ) (body : Body) (run : Run) (out : List ℕ)
         (w : World) →
-        PutsBack w (in_place_of (under host (nests_of host trees n) body) run out (enter_super host w)).world }
+        let u = under host (nests_of host trees n) body in
+        PutsBack w (in_place_of u run out (enter_super host w)).world }
 {}
 
 /// The chain of a render's fault arises in it: what ends it is a kind that renders raise, or a chain that an object of the caller states,
