@@ -16,6 +16,7 @@ pub mod FurtherRows
 pub mod MacroRows
 pub mod MacroTrees
 pub mod BlockTrees
+pub mod BlockRows
 pub mod SpreadRows
 pub mod ObjectRows
 pub mod OperatorRows

@@ -1,12 +1,15 @@
 //! Worked renders of pages with blocks, which extend templates: through the meaning, and through
 //! code and machine.
-ghost use Rattle.std.specs.Prelude.{[], ◌∷◌, ◌++◌, codes};
+ghost use Rattle.std.specs.Prelude.{◌≡◌, [], ◌∷◌, ◌++◌, codes};
 ghost use Rattle.std.specs.Fmt.{decimal};
 ghost use Rattle.tm_values.specs.declared.escape.AutoEscape.TheVariants as escapes;
 ghost use Rattle.tm_values.specs.declared.error.ErrorKind.TheVariants.{EvalBlock, InvalidOperation, OutOfFuel, TemplateNotFound};
-ghost use Rattle.tm_values.specs.declared.error.ErrorKind.TheVariants.{UndefinedError, UnknownBlock, UnknownFunction, UnknownMethod};
+ghost use Rattle.tm_values.specs.declared.error.ErrorKind.TheVariants.{BadStream, UndefinedError, UnknownBlock, UnknownFunction, UnknownMethod};
 ghost use Rattle.tm_syntax.specs.declared.tree.Stmt.{EmitBlock, EmitSuper};
-ghost use Rattle.tm_meaning.specs.Rows.{Charges, Fails, Says, Shows, literal, literal_number, raw, one, x};
+ghost use Rattle.tm_syntax.specs.declared.instruction.CaptureMode.TheVariants.{Capture};
+ghost use Rattle.tm_syntax.specs.declared.instruction.Instruction.TheVariants as i;
+ghost use Rattle.tm_meaning.specs.BlockRows.{run_before, extending, capital, one_left};
+ghost use Rattle.tm_meaning.specs.Rows.{Charges, Fails, Says, Shows, said, literal, literal_number, raw, one, x};
 ghost use Rattle.tm_meaning.specs.FilterRows.{with_limit};
 ghost use Rattle.tm_meaning.specs.MacroTrees.{called, m, paged};
 ghost use Rattle.tm_meaning.specs.BlockTrees.{FailsAfter, EndsIn, AtChildren, of_base, of_mid, over_mid, over_mid_joined, mid_alone};
@@ -112,6 +115,22 @@ pub fn state_block_rows()
     ensures child { GivesTwice over_mid (codes "a") (codes "cmx") [] (codes "base") (0 ∷ []) }
     ensures fault_in_next { GivesTwice fault_in_super (codes "a") (codes "12")
         (EvalBlock ∷ UndefinedError ∷ []) (codes "q") (0 ∷ []) }
+{}
+
+/// Streams that restart in their parent: with nothing open, without the operands and the caches of
+/// before; what ends by a return doesn't.
+pub fn restart_rows()
+    ensures writes { run_before (extending []) (i.EmitRaw (codes "x") ∷ []) ≡ said (codes "x") 998 [] }
+    ensures no_name { run_before (i.LoadBlocks ∷ []) [] ≡ said [] 1000 (BadStream ∷ []) }
+    ensures scope { run_before (extending (i.PushWith ∷ [])) [] ≡ said [] 999 (BadStream ∷ []) }
+    ensures capture { run_before (extending (i.BeginCapture Capture ∷ [])) []
+        ≡ said [] 999 (BadStream ∷ []) }
+    ensures past { run_before (extending (i.Jump 9 ∷ [])) [] ≡ said [] 998 (BadStream ∷ []) }
+    ensures operands { run_before (one_left (extending [])) (i.Emit ∷ [])
+        ≡ said [] 997 (BadStream ∷ []) }
+    ensures caches { run_before (capital (codes "upper") i.DiscardTop (extending []))
+        (capital (codes "other") i.Emit []) ≡ said (codes "A") 994 [] }
+    ensures over { run_before (extending (i.Return ∷ [])) (i.EmitRaw (codes "x") ∷ []) ≡ said [] 999 [] }
 {}
 
 /// Blocks by further calls, whose text is not safe.

@@ -28,7 +28,7 @@ pub use base::Base;
 pub use block_trees::{
     block_fault_rows, block_value_rows, extends_rows, further_block_call_rows, layout_rows,
     loaded_rows, parent_chain_rows, parent_scope_rows, refused_extends_rows, required_rows,
-    state_block_rows, super_rows,
+    restart_rows, state_block_rows, super_rows,
 };
 pub use function::GlobalFunction;
 pub use guards::{
