@@ -33,7 +33,7 @@ fn works_on(captured: &mut CapturedOf<Left<'_>>) -> Result<bool, Error> {
     Ok(before.is_none() && kept(captured.state()) == Some(3) && captured.output().is_empty())
 }
 
-/// Whether a state has the filter and the test `second`, and no others.
+/// Whether a state has the filter and the test `second`, and no others, and no block.
 fn applies(alloc: Global, state: &mut Left<'_>) -> Result<bool, Error> {
     let mut values = Vec::new(alloc);
     values.push(Value::number(1))?;
@@ -44,7 +44,12 @@ fn applies(alloc: Global, state: &mut Left<'_>) -> Result<bool, Error> {
         Ok(_) => false,
         Err(error) => error.kind() == ErrorKind::UnknownFilter,
     };
-    Ok(filtered.as_whole() == Some(0) && !holds && unknown)
+    let no_block = match state.render_block("no") {
+        Ok(_) => false,
+        Err(error) => error.kind() == ErrorKind::UnknownBlock,
+    };
+    let none_runs = state.current_block().is_none();
+    Ok(filtered.as_whole() == Some(0) && !holds && unknown && no_block && none_runs)
 }
 
 /// Whether a filter gives a text in capitals.

@@ -6,8 +6,8 @@ ghost use Rattle.tm_syntax.specs.Named.{find, name_cmp, texts_of};
 ghost use Rattle.tm_values.specs.Answer.{IsAnswer, IsLent, OkOrOutOfMemory};
 ghost use Rattle.tm_meaning.specs.World.{emitted, find_name, fuel_levels, name_of, records_of, view_of};
 ghost use Rattle.tm_tables.specs.Known.{AreFound, NamingFails};
-ghost use Rattle.tm_meaning.specs.Calls.{apply_filter, perform_test};
-ghost use Rattle.tm_state.specs.Answers.{Becomes, CallLies, IsEmitted, KeepsFixed, NeedsRun, OneDeeper, StaysInPlace};
+ghost use Rattle.tm_meaning.specs.Calls.{apply_filter, enter_block, perform_test};
+ghost use Rattle.tm_state.specs.Answers.{Becomes, CallLies, IsEmitted, KeepsFixed, KeepsFixedAndLists, NeedsRun, OneDeeper, StaysInPlace};
 ghost use Rattle.tm_state.specs.State.{callee_of, exported};
 ghost use Rattle.template_machine.specs.Environment.{host_of};
 ghost use Rattle.template_machine.specs.Renders.{as_text, call_by_name, called_value, callee_run, with_temp, with_world, IsCalled, IsCaptured, IsTested, RanApart};
@@ -183,6 +183,32 @@ impl<'env, O: Parties> StateOf<'env, O> {
         to_text(alloc, &value, &self.kept)
     }
 
+    /// The text of the block of a name, which runs where the state stands, in a scope of its own. UnknownBlock where
+    /// there is none, InvalidOperation where it is required and nothing fills it or its scope would lie deeper than the
+    /// limit, and the fault of its run; OutOfMemory. However it ends, the state stands where it stood, and what the run
+    /// kept is kept.
+    pub fn render_block(&mut self, name: &str) -> Result<String, Error>
+        ensures called { IsEmitted result (as_text (called_value O.stated self.old.template
+            (enter_block (host_of O.stated self.old.template) name.now self.old.world)))
+            self.new.world }
+        ensures template { self.new.template ≡ self.old.template }
+        ensures stays { StaysInPlace self.old.world self.new.world }
+        ensures kept { KeepsFixed self.old.world self.new.world }
+    {
+        let alloc = self.rendering.allocator();
+        let hashed = Name::new(alloc, name)?;
+        let called = self.kept.call_block(alloc, &self.rendering, &hashed)?;
+        let value = self.value_of(called)?;
+        to_text(alloc, &value, &self.kept)
+    }
+
+    /// The name of the block that runs, where one does.
+    pub fn current_block(&self) -> Option<&str>
+        ensures { IsLent result self.now.world.block }
+    {
+        self.kept.current_block()
+    }
+
     /// What a call came to, as a value: the run that it needs is run, and what that replaced is put back behind it.
     /// The run's fault; InvalidOperation for a loop, since none is open; OutOfMemory.
     fn value_of(&mut self, called: CallResult) -> Result<Value, Error>
@@ -191,7 +217,7 @@ impl<'env, O: Parties> StateOf<'env, O> {
         ensures template { self.new.template ≡ self.old.template }
         ensures stays { (limit : _) (before : _) → CallLies limit (Ok called) before self.old.world →
             StaysInPlace before self.new.world }
-        ensures kept { KeepsFixed self.old.world self.new.world }
+        ensures kept { KeepsFixedAndLists self.old.world self.new.world }
     {
         match called {
             CallResult::Value(value) => Ok(value),
@@ -207,7 +233,7 @@ impl<'env, O: Parties> StateOf<'env, O> {
         ensures template { self.new.template ≡ self.old.template }
         ensures stays { (limit : _) (before : _) → OneDeeper limit run.saved before self.old.world →
             StaysInPlace before self.new.world }
-        ensures kept { KeepsFixed self.old.world self.new.world }
+        ensures kept { KeepsFixedAndLists self.old.world self.new.world }
     {
         let alloc = self.rendering.allocator();
         let NestedRun {
@@ -229,7 +255,7 @@ impl<'env, O: Parties> StateOf<'env, O> {
             (callee_of run) self.old.world) self.new.world }
         ensures template { self.new.template ≡ self.old.template }
         ensures no_fewer { length self.old.world.scopes.frames ≤ length self.new.world.scopes.frames }
-        ensures kept { KeepsFixed self.old.world self.new.world }
+        ensures kept { KeepsFixedAndLists self.old.world self.new.world }
     {
         let alloc = self.rendering.allocator();
         let mut captures = Captures::new(alloc);
@@ -249,7 +275,7 @@ impl<'env, O: Parties> StateOf<'env, O> {
             (callee_of run) self.old.world) self.new.world }
         ensures template { self.new.template ≡ self.old.template }
         ensures no_fewer { length self.old.world.scopes.frames ≤ length self.new.world.scopes.frames }
-        ensures kept { KeepsFixed self.old.world self.new.world }
+        ensures kept { KeepsFixedAndLists self.old.world self.new.world }
     {
         let alloc = self.rendering.allocator();
         let state = self.kept.take(alloc);

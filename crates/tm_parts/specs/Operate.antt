@@ -1,11 +1,11 @@
 -- What is done at once on the operands: it needs no memory and no records, and can't fail.
 use Rattle.std.specs.Prelude.{◌≡◌, ℕ, List, ◌∷◌, Ok}
-use Rattle.tm_values.specs.Val.{Val}
+use Rattle.tm_values.specs.Val.{Val, boolean}
 use Rattle.tm_values.specs.Records.{RecordData}
 use Rattle.tm_values.specs.declared.undefined.UndefinedBehavior.{UndefinedBehavior}
 use Rattle.tm_syntax.specs.declared.tree.BinaryOperator.{BinaryOperator}
 use Rattle.tm_definitions.specs.Members.{attribute_of}
-use Rattle.tm_meaning.specs.Operators.{result_of}
+use Rattle.tm_meaning.specs.Operators.{is_undefined, result_of}
 
 -- The operator gives this value, however undefined values behave and whatever the records are.
 abbrev pub Gives : BinaryOperator → Val → Val → Val → Type 0
@@ -22,3 +22,11 @@ Has m x v = (b : UndefinedBehavior) (r : RecordData) → attribute_of b r m x �
 -- The topmost's attribute stands in its place.
 abbrev pub TakesMember : List ℕ → List Val → List Val → Type 0
 TakesMember x old new = (m : Val) × (v : Val) × (rest : List Val) × (old ≡ m ∷ rest) × (new ≡ v ∷ rest) × Has m x v
+
+-- Whether the topmost is undefined stands in its place.
+abbrev pub TestsUndefined : List Val → List Val → Type 0
+TestsUndefined old new = (v : Val) × (rest : List Val) × (old ≡ v ∷ rest) × (new ≡ boolean (is_undefined v) ∷ rest)
+
+-- The topmost stands there twice.
+abbrev pub Doubles : List Val → List Val → Type 0
+Doubles old new = (v : Val) × (rest : List Val) × (old ≡ v ∷ rest) × (new ≡ v ∷ v ∷ rest)

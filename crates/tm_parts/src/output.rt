@@ -9,17 +9,19 @@ ghost use Rattle.tm_meaning.specs.Machine.{first_heard, new_capture, put_in, put
 ghost use Rattle.tm_output.specs.Counts.{saturating_increment, AppendsBeginning};
 ghost use Rattle.tm_definitions.specs.Emitted.{emitted_text};
 ghost use Rattle.tm_parts.specs.Halts.{failures_after, EmitHalts, PutHalts};
-ghost use Rattle.tm_parts.specs.Outgoing.{ended_value};
+ghost use Rattle.tm_parts.specs.Outgoing.{ended_value, IsPut, IsPutInPart};
+ghost use Rattle.tm_printing.specs.Emits.{Emits};
+ghost use Rattle.tm_values.specs.Records.{RecordData};
 ghost use Rattle.tm_meaning.specs.World.{is_safe, without_first};
-ghost use Rattle.tm_values.specs.Answer.{OkOrOutOfMemory};
+ghost use Rattle.tm_values.specs.Answer.{OkOrOutOfMemory, OrStays};
 ghost use Rattle.tm_values.specs.Val.{text};
 
 use crate::halt::Halt;
 use std::alloc::Global;
 use std::io;
 use std::marker::Model;
-use tm_output::{Sink, put_text, write_text};
-use tm_printing::{Unwritten, emit};
+use tm_output::{Sink, TargetFailed, put_text, write_text};
+use tm_printing::{Unwritten, emit, emit_at_once};
 use tm_syntax::CaptureMode;
 use tm_values::{AutoEscape, Error, ErrorKind, Records, Value};
 
@@ -40,10 +42,11 @@ impl Model for Capture {
     ghost view = { λ capture. record { heard = is_heard capture.mode; text = string_bytes capture.text } };
 }
 
-/// The open captures. A contract sees them innermost first.
+/// The open captures, and texts whose room the next ones take. A contract sees the open ones, innermost first.
 #[derive(Drop)]
 pub struct Captures {
     open: Vec<Capture>,
+    spare: Vec<String>,
 }
 
 impl Model for Captures {
@@ -62,6 +65,7 @@ impl Captures {
     {
         Captures {
             open: Vec::new(alloc),
+            spare: Vec::new(alloc),
         }
     }
 
@@ -102,11 +106,31 @@ impl Captures {
         ensures kind { IfErr result (λ e. e ≡ OutOfMemory ∷ []) }
         ensures err { OnErr result (self.new ≡ self.old) }
     {
-        self.open.push(Capture {
-            mode,
-            text: String::new(alloc),
-        })?;
+        let text = self.room(alloc);
+        self.open.push(Capture { mode, text })?;
         Ok(())
+    }
+
+    /// A text without bytes, in a room that was handed back where one is left.
+    fn room(&mut self, alloc: Global) -> String
+        ensures empty { string_bytes result ≡ [] }
+        ensures same { self.new ≡ self.old }
+    {
+        match self.spare.pop() {
+            Some(mut text) => {
+                text.clear();
+                text
+            }
+            None => String::new(alloc),
+        }
+    }
+
+    /// Takes back the room of a closed capture's text, for the next one.
+    pub fn keep_room(&mut self, text: String)
+        ensures { self.new ≡ self.old }
+    {
+        // Where no memory is left for it, it is dropped.
+        let _kept = self.spare.push(text).is_ok();
     }
 
     /// Closes the innermost capture and gives its text, and what becomes of that, where one is
@@ -193,6 +217,42 @@ impl Captures {
     }
 }
 
+impl Captures {
+    /// Puts a text into the innermost capture, where one is open and there is memory. Else all stays as it was, and the
+    /// answer is false.
+    #[inline(always)]
+    pub fn put_at_once(&mut self, text: &str) -> bool
+        ensures { OrStays result self.old self.new
+            ((self.old ≢ []) × (self.new ≡ put_in self.old text.now)) }
+    {
+        let count = self.open.len();
+        if count == 0 {
+            return false;
+        }
+        self.open[count - 1].text.push_str(text).is_ok()
+    }
+
+    /// Puts what is emitted for a number or a text into the innermost capture, where one is open, under an escape that
+    /// refuses neither; of other values and escapes it puts nothing and answers none. TargetFailed where there is no
+    /// memory; then a beginning of it was put.
+    #[inline(always)]
+    pub fn emit_at_once(
+        &mut self,
+        value: &Value,
+        escape: AutoEscape,
+    ) -> Option<Result<(), TargetFailed>>
+        ensures { MatchOption result (self.new ≡ self.old)
+            (λ answer. (self.old ≢ []) × ((r : RecordData) →
+            Emits IsPut IsPutInPart answer escape r value.now self.old self.new)) }
+    {
+        let count = self.open.len();
+        if count == 0 {
+            return None;
+        }
+        emit_at_once(value, escape, &mut self.open[count - 1].text)
+    }
+}
+
 /// A captured text as a value, safe where there is an escape. Fails by OutOfMemory alone.
 pub fn captured_value(alloc: Global, content: &str, escape: AutoEscape) -> Result<Value, Error>
     ensures { OkOrOutOfMemory result (λ v. v ≡ text content.now (is_safe escape)) }
@@ -276,10 +336,12 @@ impl<W: Sink> Output<W> {
         let Some((mode, text)) = self.captures.end() else {
             return Ok(Value::undefined());
         };
-        match mode {
+        let value = match mode {
             CaptureMode::Capture => captured_value(alloc, text.as_str(), escape),
             CaptureMode::Discard => Ok(Value::undefined()),
-        }
+        };
+        self.captures.keep_room(text);
+        value
     }
 
     /// Whether the innermost capture drops what is written.

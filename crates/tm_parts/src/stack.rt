@@ -3,8 +3,9 @@ ghost use Rattle.std.specs.Prelude.{◌++◌, ◌≡◌, [], ◌∷◌, List, So
 ghost use Rattle.std.specs.Prelude.{IfSome, MatchOption, MatchResult};
 ghost use Rattle.tm_values.specs.Val.{Val, boolean};
 ghost use Rattle.tm_values.specs.Answer.{OrStays};
-ghost use Rattle.tm_parts.specs.Operate.{Has, Operates, TakesMember};
+ghost use Rattle.tm_parts.specs.Operate.{Doubles, Has, Operates, TakesMember, TestsUndefined};
 ghost use Rattle.tm_meaning.specs.Machine.{onto, taken};
+ghost use Rattle.tm_meaning.specs.Operators.{is_undefined};
 
 use crate::operators::binary_at_once;
 use std::alloc::Global;
@@ -42,6 +43,13 @@ fn member_at_once(value: &Value, name: &str) -> Option<Value>
     value.member(name)?.share().ok()
 }
 
+#[inline(always)]
+fn is_undefined(value: &Value) -> bool
+    ensures { result ≡ is_undefined value.now }
+{
+    matches!(&value.node, Node::Undefined(_))
+}
+
 impl Stack {
     /// No operands.
     pub fn new(alloc: Global) -> Stack
@@ -57,6 +65,12 @@ impl Stack {
         ensures { result ≡ onto values.items [] }
     {
         Stack { values }
+    }
+
+    /// The operands, in whose room there may be others.
+    pub fn into_values(self) -> Vec<Value> {
+        let Stack { values } = self;
+        values
     }
 
     /// How many operands there are.
@@ -192,6 +206,43 @@ impl Stack {
                 self.values.push_reserved(top);
                 None
             }
+        }
+    }
+
+    /// Puts whether the topmost value is undefined in its place, where there is one. Else all stays as it was, and
+    /// the answer is false.
+    #[inline(always)]
+    pub fn test_undefined(&mut self) -> bool
+        ensures { OrStays result self.old self.new (TestsUndefined self.old self.new) }
+    {
+        if self.values.is_empty() {
+            return false;
+        }
+        let top = self.values.take_last();
+        // There is room where it was taken from.
+        self.values
+            .push_reserved(Value::boolean(is_undefined(&top)));
+        true
+    }
+
+    /// Puts a second owner of the topmost value on top, where there is one and room for it. Else all stays as it
+    /// was, and the answer is false.
+    #[inline(always)]
+    pub fn double_top(&mut self) -> bool
+        ensures { OrStays result self.old self.new (Doubles self.old self.new) }
+    {
+        if self.values.len() >= self.values.capacity() {
+            return false;
+        }
+        let Some(top) = self.values.last() else {
+            return false;
+        };
+        match top.share() {
+            Ok(second) => {
+                self.values.push_reserved(second);
+                true
+            }
+            Err(_) => false,
         }
     }
 

@@ -44,13 +44,22 @@ HasMore (saved.Macro s) old new = (length new.scopes.frames ≡ 2) × (depth old
 abbrev pub OneDeeper : ℕ → Saved → World → World → Type 0
 OneDeeper limit kept old new = IsSaved kept old × HasMore kept old new × (depth new.scopes ≤ limit)
 
--- What every answer keeps, also where it is a halt.
+-- What every answer keeps, also where it is a halt: the id, the fuel that was set, and no more of it is left than was.
 pub record KeepsFixed (old new : World) : Type 0 where
+  pub same_id : new.id ≡ old.id
+  pub same_fuel_set : new.fuel_set ≡ old.fuel_set
+  pub no_more_fuel : new.fuel ≤ old.fuel
+
+-- The same, and the lists of blocks and of loaded names, so long as no template is extended.
+pub record KeepsFixedAndLists (old new : World) : Type 0 where
   pub same_id : new.id ≡ old.id
   pub same_fuel_set : new.fuel_set ≡ old.fuel_set
   pub no_more_fuel : new.fuel ≤ old.fuel
   pub same_blocks : new.blocks ≡ old.blocks
   pub same_loaded : new.loaded ≡ old.loaded
+
+pub fixed_of : {old new : World} → KeepsFixedAndLists old new → KeepsFixed old new
+fixed_of k = record { same_id = k.same_id; same_fuel_set = k.same_fuel_set; no_more_fuel = k.no_more_fuel }
 
 -- A value can be emitted as this text, or it can't be.
 abbrev pub CanBeEmitted : Result (Unit {0}) (List ErrorKind) → Res (List ℕ) → List ℕ → World → Type 0
@@ -116,7 +125,7 @@ CallLies limit _ old new = StaysInPlace old new
 
 -- What a call leaves, whatever it came to.
 pub record Leaves (limit : ℕ) (result : Result CallResult (List ErrorKind)) (old new : World) : Type 0 where
-  pub kept : KeepsFixed old new
+  pub kept : KeepsFixedAndLists old new
   pub lies : CallLies limit result old new
 
 -- ---------------------------------------------------------------- further calls
@@ -158,7 +167,7 @@ PrintedComes make test result asked w = FurtherComes make test (calls.Macro [] [
 
 -- How the scopes lie behind it.
 abbrev pub FurtherLies : ℕ → Result Further (List ErrorKind) → World → World → Type 0
-FurtherLies limit (Ok (further.Run e)) old new = OneDeeper limit e.value.saved old new × KeepsFixed old new
+FurtherLies limit (Ok (further.Run e)) old new = OneDeeper limit e.value.saved old new × KeepsFixedAndLists old new
 FurtherLies limit _ old new = new ≡ record old { namespaces = new.namespaces }
 
 -- InvalidOperation for this cause, unless it is want of memory

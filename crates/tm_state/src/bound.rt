@@ -1,5 +1,5 @@
 //! What the arguments of macros are bound to.
-ghost use Rattle.std.specs.Prelude.{◌≡◌, IfOk, codes, false, map as each};
+ghost use Rattle.std.specs.Prelude.{◌≡◌, [], IfOk, codes, false, map as each};
 ghost use Rattle.std.specs.Option.{option_copied};
 ghost use Rattle.std.specs.Rc.{rc_str_bytes};
 ghost use Rattle.tm_definitions.specs.Maps.{keywords_of, plain_of};
@@ -16,31 +16,40 @@ use std::rc::RcStr;
 use tm_values::{Error, ErrorKind, Macro, Node, Value};
 
 /// The arguments of a macro that is called with these values, of which a keyword map that stands last gives some by
-/// their names. TooManyArguments where there are too many, one is given twice, or one isn't used; OutOfMemory.
-pub(crate) fn bind(alloc: Global, declared: &Macro, args: &[Value]) -> Result<Vec<Value>, Error>
+/// their names, in this room. TooManyArguments where there are too many, one is given twice, or one isn't used;
+/// OutOfMemory.
+pub(crate) fn bind(
+    alloc: Global,
+    declared: &Macro,
+    args: &[Value],
+    room: Vec<Value>,
+) -> Result<Vec<Value>, Error>
+    requires { room.items ≡ [] }
     ensures { BindsTo result (bound_to declared.now args.now) }
 {
     let (plain, keywords) = split_keywords(args);
     if !all_used(alloc, declared, keywords)? {
         return Err(Error::from(ErrorKind::TooManyArguments));
     }
-    bind_each(alloc, declared.arguments(), plain, keywords)
+    bind_each(declared.arguments(), plain, keywords, room)
 }
 
-/// What each of these names is bound to.
+/// What each of these names is bound to, in this room.
 fn bind_each(
-    alloc: Global,
     names: &[RcStr],
     plain: &[Value],
     keywords: Option<&Value>,
+    room: Vec<Value>,
 ) -> Result<Vec<Value>, Error>
+    requires { room.items ≡ [] }
     ensures { BindsTo result
         (bound (each rc_str_bytes names.now) plain.now (given_in keywords.entry)) }
 {
     if plain.len() > names.len() {
         return Err(Error::from(ErrorKind::TooManyArguments));
     }
-    let mut given = Vec::with_capacity(alloc, names.len())?;
+    let mut given = room;
+    given.reserve(names.len())?;
     let mut place = 0;
     while place < names.len() {
         let value = argument(names[place].as_str(), plain.get(place), keywords)?;

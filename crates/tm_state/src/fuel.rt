@@ -3,7 +3,7 @@ ghost use Rattle.std.specs.Prelude.{◌≡◌, ◌+◌, ◌-◌, ◌<◌, [], �
 ghost use Rattle.tm_values.specs.declared.error.ErrorKind.TheVariants.{OutOfFuel};
 ghost use Rattle.tm_meaning.specs.World.{fuel_levels, Good, Bad};
 ghost use Rattle.tm_meaning.specs.Steps.{charge_of, pay};
-ghost use Rattle.tm_state.specs.Answers.{KeepsFixed};
+ghost use Rattle.tm_state.specs.Answers.{KeepsFixedAndLists};
 
 use crate::state::StateData;
 use tm_syntax::Instruction;
@@ -30,7 +30,7 @@ impl StateData<'_> {
             (pay instruction.now self.old ≡ Bad (OutOfFuel ∷ []) self.new) }
         ensures spent { OnOk result
             (self.new.fuel + charge_of instruction.now ≡ self.old.fuel) }
-        ensures kept { KeepsFixed self.old self.new }
+        ensures kept { KeepsFixedAndLists self.old self.new }
         ensures rest { self.new ≡ record self.old { fuel = self.new.fuel } }
     {
         self.fuel.pay(instruction)

@@ -10,6 +10,7 @@ mod further;
 mod macros;
 mod nested;
 mod records;
+mod rooms;
 mod runs;
 mod saved;
 mod state;

@@ -4,7 +4,7 @@ ghost use Rattle.std.specs.Rc.{rc_str_bytes};
 ghost use Rattle.tm_meaning.specs.Calls.{enter_macro, known_stream, macro_scopes, refused};
 ghost use Rattle.tm_meaning.specs.Memory.{is_want_of_memory};
 ghost use Rattle.tm_meaning.specs.World.{Bad, Good, closing_over, depth, enclose, make_macro, own_closure, put_enclosed};
-ghost use Rattle.tm_state.specs.Answers.{KeepsFixed, NeedsMacro, OneDeeper};
+ghost use Rattle.tm_state.specs.Answers.{KeepsFixedAndLists, NeedsMacro, OneDeeper};
 ghost use Rattle.tm_state.specs.State.{runs_macro, saved_scopes};
 ghost use Rattle.tm_values.specs.Answer.{OkOrOutOfMemory};
 
@@ -16,7 +16,7 @@ use std::alloc::Global;
 use std::rc::RcStr;
 use tm_meaning::{RunText, StreamId};
 use tm_syntax::Name;
-use tm_tables::{Context, Frame, Host};
+use tm_tables::{Context, Host};
 use tm_values::{Error, ErrorKind, Macro, Value};
 
 /// How deep the outer scope of a macro lies above the call.
@@ -129,7 +129,7 @@ impl StateData<'_> {
         ensures err { IfErr result (λ e. is_want_of_memory e ≡ false → enter_macro levels
             (H.meaning host.now) declared.now args.now self.old ≡ refused e self.old) }
         ensures unchanged { OnErr result (self.new ≡ self.old) }
-        ensures kept { KeepsFixed self.old self.new }
+        ensures kept { KeepsFixedAndLists self.old self.new }
     {
         let (stream, given, saved) = self.enter_macro(alloc, host, declared, args, levels)?;
         let run = NestedRun {
@@ -171,7 +171,8 @@ impl StateData<'_> {
         if declared.state() != self.id() {
             return Err(Error::from(ErrorKind::InvalidOperation));
         }
-        let given = bind(alloc, declared, args)?;
+        let room = self.rooms.take_operands(alloc);
+        let given = bind(alloc, declared, args, room)?;
         let stream = self.macro_stream(declared)?;
         let outer = levels
             .saturating_add(self.context.depth())
@@ -206,19 +207,22 @@ impl StateData<'_> {
     /// The scopes in which a macro runs that is called with these values, which stand at a depth. Fails by OutOfMemory
     /// alone.
     fn macro_scopes(
-        &self,
+        &mut self,
         alloc: Global,
         declared: &Macro,
         args: &[Value],
         outer: usize,
     ) -> Result<Context, Error>
-        ensures { OkOrOutOfMemory result (λ c.
-            c ≡ macro_scopes declared.now args.now self.now.scopes.frames outer) }
+        ensures scopes { OkOrOutOfMemory result (λ c.
+            c ≡ macro_scopes declared.now args.now self.old.scopes.frames outer) }
+        ensures unchanged { self.new ≡ self.old }
     {
-        let mut frame = Frame::of_macro(alloc, declared.closure());
+        let root = self.context.root_context()?;
+        let room = self.rooms.take_scopes(alloc);
+        let mut context = room.into_macro(alloc, root, declared.closure(), outer)?;
         if takes_caller(declared) {
-            frame.store(Name::new(alloc, "caller")?, given_caller(args)?)?;
+            context.store(Name::new(alloc, "caller")?, given_caller(args)?)?;
         }
-        Context::of_macro(alloc, self.context.root_context()?, frame, outer)
+        Ok(context)
     }
 }

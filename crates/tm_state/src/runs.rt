@@ -3,19 +3,21 @@ ghost use Rattle.std.specs.Prelude.{◌≡◌, ◌+◌, ◌≤◌, ◌∷◌, []
 ghost use Rattle.tm_meaning.specs.Calls.{deeper, enter_block, refused};
 ghost use Rattle.tm_meaning.specs.Memory.{is_want_of_memory};
 ghost use Rattle.tm_meaning.specs.World.{depth};
-ghost use Rattle.tm_state.specs.Answers.{KeepsFixed};
+ghost use Rattle.tm_state.specs.Answers.{Becomes, KeepsFixedAndLists, Leaves};
 ghost use Rattle.tm_state.specs.State.{IsBlockOf, behind_block, behind_macro, put_back, runs_block, saved_of, saved_scopes};
 ghost use Rattle.tm_syntax.specs.Named.{find};
+ghost use Rattle.tm_values.specs.Answer.{IsLent};
 
-use crate::nested::NestedRun;
+use crate::calls::CallResult;
+use crate::nested::{NestedRun, RunOf};
 use crate::saved::{Saved, SavedBlock, SavedMacro};
 use crate::state::StateData;
 use std::alloc::Global;
 use std::mem;
-use tm_meaning::StreamId;
+use tm_meaning::{RunText, StreamId};
 use tm_syntax::Name;
 use tm_tables::{Context, Host};
-use tm_values::{Error, ErrorKind};
+use tm_values::{Error, ErrorKind, Value};
 
 impl StateData<'_> {
     /// Lets the scopes stand so many levels deeper, within the limit, and gives the depth at which the outermost one stood.
@@ -58,7 +60,7 @@ impl StateData<'_> {
         ensures err { IfErr result (λ e. is_want_of_memory e ≡ false →
             enter_block (H.meaning host.now) name.now self.old ≡ refused e self.old) }
         ensures unchanged { OnErr result (self.new ≡ self.old) }
-        ensures kept { KeepsFixed self.old self.new }
+        ensures kept { KeepsFixedAndLists self.old self.new }
     {
         let stream = self.block_stream(name)?;
         if host.is_required(&stream) {
@@ -70,6 +72,39 @@ impl StateData<'_> {
         self.push_scope(alloc, host.recursion_limit())?;
         let saved = self.run_block(running, block, scopes);
         Ok((stream, saved))
+    }
+
+    /// The run of the block of a name, whose text is the value of the call. As `enter_block`.
+    pub fn call_block<H: Host>(
+        &mut self,
+        alloc: Global,
+        host: &H,
+        name: &Name,
+    ) -> Result<CallResult, Error>
+        ensures called { Becomes result
+            (enter_block (H.meaning host.now) name.now self.old) self.new }
+        ensures leaves { Leaves (H.meaning host.now).limit result self.old self.new }
+    {
+        let (stream, saved) = self.enter_block(alloc, host, name)?;
+        let run = NestedRun {
+            run: RunOf::Stream(stream),
+            heard: true,
+            value: true,
+            text: RunText::Captured,
+            wrap: None,
+            saved: Saved::Block(saved),
+        };
+        Ok(CallResult::Run(self.boxed(alloc, run)?))
+    }
+
+    /// The name of the block that runs, where one does.
+    pub fn current_block(&self) -> Option<&str>
+        ensures { IsLent result self.now.block }
+    {
+        match &self.block {
+            Some(name) => Some(name.as_str()),
+            None => None,
+        }
     }
 
     /// The stream of the block of a name. UnknownBlock where there is none, OutOfMemory where the owners of a name can't be counted.
@@ -169,9 +204,25 @@ impl StateData<'_> {
             block,
             escape,
         } = saved;
-        self.context = context;
+        let left = mem::replace(&mut self.context, context);
+        self.rooms.keep_scopes(left);
         self.stream = stream;
         self.block = block;
         self.escape = escape;
+    }
+
+    /// Room for a run's operands, of which there are none.
+    pub fn take_operands(&mut self, alloc: Global) -> Vec<Value>
+        ensures empty { result.items ≡ [] }
+        ensures unchanged { self.new ≡ self.old }
+    {
+        self.rooms.take_operands(alloc)
+    }
+
+    /// Keeps the room of a run's operands for another one.
+    pub fn keep_operands(&mut self, operands: Vec<Value>)
+        ensures { self.new ≡ self.old }
+    {
+        self.rooms.keep_operands(operands);
     }
 }

@@ -13,10 +13,11 @@ ghost use Rattle.tm_meaning.specs.Calls.{enter_block, given_by, refused, of_loop
 ghost use Rattle.tm_definitions.specs.Emitted.{emitted_text};
 ghost use Rattle.tm_tables.specs.Known.{AreFound, NamingFails};
 ghost use Rattle.tm_tables.specs.Scopes.{PushFails};
-ghost use Rattle.tm_state.specs.Answers.{KeepsFixed, CanBeEmitted, Comes};
+ghost use Rattle.tm_state.specs.Answers.{KeepsFixedAndLists, CanBeEmitted, Comes};
 ghost use Rattle.tm_state.specs.State.{with_open_loop, exported, started, put_back, saved_of, runs_block, IsBlockOf, scoped};
 
 use crate::records::{add_loop, changed_at, keep_each, set_in, turn_at};
+use crate::rooms::Rooms;
 use crate::streams::Streams;
 use std::alloc::Global;
 use std::marker::Model;
@@ -52,6 +53,7 @@ pub struct StateData<'env> {
     pub(crate) stream: StreamId,
     pub(crate) fuel: FuelTracker,
     pub(crate) fuel_is_set: bool,
+    pub(crate) rooms: Rooms,
 }
 
 impl<'env> Model for StateData<'env> {
@@ -115,6 +117,7 @@ impl<'env> StateData<'env> {
             stream,
             fuel: FuelTracker::new(fuel.unwrap_or(u64::MAX)),
             fuel_is_set: fuel.is_some(),
+            rooms: Rooms::new(alloc),
         })
     }
 
@@ -304,6 +307,7 @@ impl<'env> StateData<'env> {
                 stream: StreamId::root(TemplateId::Own),
                 fuel: FuelTracker::new(0),
                 fuel_is_set: false,
+                rooms: Rooms::new(alloc),
             },
         )
     }

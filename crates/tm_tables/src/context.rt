@@ -4,6 +4,7 @@ ghost use Rattle.std.specs.Prelude.{◌≡◌, ◌<◌, ◌^◌, ◌-◌, [], �
 ghost use Rattle.std.specs.Prelude.{Ok, OnErr, OnOk, IfErr, IfOk, IfSome, MatchOption, Some};
 ghost use Rattle.tm_syntax.specs.Named.{name_cmp, texts_of};
 ghost use Rattle.tm_values.specs.Answer.{OkOrOutOfMemory, OrStays};
+ghost use Rattle.tm_values.specs.Val.{undefined};
 ghost use Rattle.tm_values.specs.declared.error.ErrorKind.TheVariants.{OutOfMemory};
 ghost use Rattle.tm_meaning.specs.World.{View, plain_scope, depth, in_frames, innermost, own_closure, put_at, stored_in, top_mark};
 ghost use Rattle.tm_meaning.specs.World.{with_own, without_first, without_locals};
@@ -61,23 +62,41 @@ impl Context {
         Ok(Context { frames, outer: 0 })
     }
 
-    /// Two scopes, whose depth isn't tested: one over a context value, and another over it; they stand at a depth. Fails
-    /// by OutOfMemory alone.
-    pub fn of_macro(
+    /// Two scopes in the room of these, whose depth isn't tested: one over a context value, and another over it that
+    /// reads a closure where one is given; they stand at a depth. Fails by OutOfMemory alone.
+    pub fn into_macro(
+        self,
         alloc: Global,
         root: Value,
-        frame: Frame,
+        reads: Option<usize>,
         outer: usize,
     ) -> Result<Context, Error>
         ensures { OkOrOutOfMemory result (λ c. c ≡ record {
-          frames = frame ∷ plain_scope root ∷ [];
+          frames = record (plain_scope (undefined false)) { reads = reads } ∷ plain_scope root ∷ [];
           outer = outer;
         }) }
     {
-        let mut frames = Vec::with_capacity(alloc, 2)?;
-        frames.push(Frame::new(alloc, root))?;
-        frames.push(frame)?;
+        let Context { mut frames, .. } = self;
+        frames.truncate(2);
+        if frames.len() < 2 {
+            frames.clear();
+            frames.push(Frame::new(alloc, root))?;
+            frames.push(Frame::of_macro(alloc, reads))?;
+        } else {
+            frames[0].renew(root, None);
+            frames[1].renew(Value::undefined(), reads);
+        }
         Ok(Context { frames, outer })
+    }
+
+    /// The room of these scopes for those of a macro: their names stand for nothing any more.
+    pub fn into_room(self) -> Context {
+        let Context { mut frames, .. } = self;
+        frames.truncate(2);
+        for frame in &mut frames {
+            frame.clear();
+        }
+        Context { frames, outer: 0 }
     }
 
     /// The allocator of the scopes.

@@ -105,7 +105,7 @@ impl Frame {
     }
 
     /// A macro's scope, which reads a closure, without names of its own.
-    pub fn of_macro(alloc: Global, reads: Option<usize>) -> Frame
+    pub(crate) fn of_macro(alloc: Global, reads: Option<usize>) -> Frame
         ensures { result ≡ record (plain_scope (undefined false)) { reads = reads } }
     {
         Frame {
@@ -115,6 +115,18 @@ impl Frame {
             own_closure: None,
             reads,
         }
+    }
+
+    /// A scope over a context value, which reads a closure where one is given, without names of its own. It keeps the
+    /// room of its names.
+    pub(crate) fn renew(&mut self, context: Value, reads: Option<usize>)
+        ensures { self.new ≡ record (plain_scope context) { reads = reads } }
+    {
+        self.locals.clear();
+        self.context = context;
+        self.mark = None;
+        self.own_closure = None;
+        self.reads = reads;
     }
 
     /// Whether its loop has a name here, and then the loop's number.
@@ -147,8 +159,10 @@ impl Frame {
         if let Some(number) = self.named_loop(name.as_str()) {
             return Ok(Some(Found::Loop(number)));
         }
-        if let Some(enclosed) = closures.get(self.reads, name) {
-            return Ok(Some(Found::Value(enclosed)));
+        if self.reads.is_some() {
+            if let Some(enclosed) = closures.get(self.reads, name) {
+                return Ok(Some(Found::Value(enclosed)));
+            }
         }
         match self.context_member(name.as_str(), records)? {
             Some(member) => Ok(Some(Found::Value(member))),
@@ -165,6 +179,7 @@ impl Frame {
         ensures { IsHeld result (context_member (R.records records.now) name.now self.now.context) }
     {
         match &self.context.node {
+            Node::Undefined(_) => Ok(None),
             Node::Namespace(state, index) => match find_namespace(records, *state, *index) {
                 Some(pairs) => Ok(pairs.member(name)),
                 None => Err(Error::from(ErrorKind::InvalidOperation)),

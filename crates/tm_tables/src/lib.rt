@@ -1,6 +1,7 @@
 //! Scopes, loops, fuel, what objects of the caller see and answer, and what the machine asks of the environment.
 #![tactic(auto)]
 
+mod block_stack;
 mod callable;
 mod closures;
 mod context;
@@ -18,6 +19,7 @@ mod objects;
 mod plain;
 mod view;
 
+pub use block_stack::BlockStack;
 pub use callable::{Callable, CallableAnswer, Called};
 pub use closures::Closures;
 pub use context::Context;

@@ -22,7 +22,7 @@ use Rattle.tm_state.specs.declared.saved.Saved.TheVariants as saved
 use Rattle.tm_state.specs.declared.saved.SavedBlock.{SavedBlock}
 use Rattle.tm_state.specs.declared.saved.SavedMacro.{SavedMacro}
 use Rattle.tm_state.specs.declared.nested.NestedRun.{NestedRun}
-use Rattle.tm_state.specs.Answers.{Becomes, IsBefore, KeepsFixed, Leaves, NeedsRun, OneDeeper, SameScopes, StaysInPlace, call_of}
+use Rattle.tm_state.specs.Answers.{Becomes, IsBefore, KeepsFixedAndLists, Leaves, NeedsRun, OneDeeper, SameScopes, StaysInPlace, call_of}
 use Rattle.tm_state.specs.State.{callee_of, put_back}
 use Rattle.tm_vm.specs.declared.flow.Flow.{Flow}
 use Rattle.tm_vm.specs.declared.flow.Flow.TheVariants as flow
@@ -42,7 +42,7 @@ fewer_then : (a b c : World) → StaysInPlace a b → NoFewer b c → NoFewer a 
 fewer_then a b c stays more = (omega (arith, stays.0.0, more.0), more.1 ∙ stays.0.1)
 
 -- behind a call that left the scopes as they were
-opens_behind : (p : Program) (n : Next) (old new : Config) (before : World) (result : Result Flow Halt) → KeepsFixed before old.world →
+opens_behind : (p : Program) (n : Next) (old new : Config) (before : World) (result : Result Flow Halt) → KeepsFixedAndLists before old.world →
     StaysInPlace before old.world → Opens n old new result → Needs p n (record old { world = before }) new result
 opens_behind p n old new before (Ok flow.GoOn) kept stays h = record {
   did = h.did;
@@ -101,7 +101,7 @@ put_back_fewer limit (saved.Macro s) before w deep =
     (omega (arith, frames), ap (λ (s : Scopes). s.outer) same)
 
 -- and what a run keeps is kept then
-pub put_back_keeps : (s : Saved) (before w : World) → KeepsFixed before w → KeepsFixed before (put_back s w)
+pub put_back_keeps : (s : Saved) (before w : World) → KeepsFixedAndLists before w → KeepsFixedAndLists before (put_back s w)
 put_back_keeps (saved.Block s) before w kept = record {
   same_id = kept.same_id;
   same_fuel_set = kept.same_fuel_set;
@@ -146,7 +146,7 @@ run_goes_on p e count old new (Ok (flow.Enter b)) h q before needs leaves =
     let world : new.world ≡ old.world = ap (λ (c : Config). c.world) h.1 in record {
       did = subst (λ r. Enters p r new (asked p (record old { world = before }) vs q)) (sym h.0)
           (enters_it p e.value vs old new before q needs h.1);
-      kept = subst (λ w. KeepsFixed before w) (sym world) leaves.kept;
+      kept = subst (λ w. KeepsFixedAndLists before w) (sym world) leaves.kept;
       deepens = subst (λ r. OneDeeper p.host.limit r before new.world) (sym (ap (λ (r : NestedRun). r.saved) h.0))
           (subst (λ w. OneDeeper p.host.limit e.value.saved before w) (sym world) leaves.lies);
       same_stream = ap (λ (c : Config). c.run.stream) h.1;
@@ -155,7 +155,7 @@ run_goes_on p e count old new (Err halt.Writer) h q before needs leaves = absurd
 run_goes_on p e count old new (Err halt.Stuck) h q before needs leaves = absurd h
 run_goes_on p e count old new (Err (halt.Fault chain)) h q before needs leaves = record {
   did = λ m. absurd (let w : true ≡ false = sym h.0 ∙ m in cc w);
-  kept = subst (λ w. KeepsFixed before w) (sym h.1) (put_back_keeps e.value.saved before old.world leaves.kept);
+  kept = subst (λ w. KeepsFixedAndLists before w) (sym h.1) (put_back_keeps e.value.saved before old.world leaves.kept);
   deepens = subst (λ w. NoFewer before w) (sym h.1) (put_back_fewer p.host.limit e.value.saved before old.world leaves.lies);
   same_stream = h.2;
 }

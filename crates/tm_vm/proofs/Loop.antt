@@ -24,7 +24,7 @@ use Rattle.tm_state.specs.declared.nested.NestedRun.{NestedRun}
 use Rattle.tm_vm.specs.declared.flow.Flow.{Flow}
 use Rattle.tm_vm.specs.declared.flow.Flow.TheVariants as flow
 use Rattle.tm_vm.specs.Answers.{Begins, ComesTo, Did, Enters, HaltsAs, ReachesEnd, KeepsBaseScopes, output}
-use Rattle.tm_state.specs.Answers.{IsBefore, KeepsFixed, OneDeeper, SameScopes, call_of}
+use Rattle.tm_state.specs.Answers.{IsBefore, KeepsFixedAndLists, OneDeeper, SameScopes, call_of}
 use Rattle.tm_state.specs.declared.saved.Saved.{Saved}
 use Rattle.tm_state.specs.declared.saved.Saved.TheVariants as saved
 use Rattle.tm_state.specs.declared.saved.SavedBlock.{SavedBlock}
@@ -33,10 +33,10 @@ use Rattle.tm_vm.specs.Nested.{IsCaptured, RanNested, Went, EndsIn, WroteBeginni
 use Rattle.tm_state.specs.State.{callee_of, put_back, saved_scopes, undo_of}
 use Rattle.tm_vm.proofs.Shift.{alone, behind_text}
 
-pub kept_same : (w : World) → KeepsFixed w w
+pub kept_same : (w : World) → KeepsFixedAndLists w w
 kept_same w = record { same_id = refl; same_fuel_set = refl; no_more_fuel = omega arith; same_blocks = refl; same_loaded = refl }
 
-pub kept_then : {a b c : World} → KeepsFixed a b → KeepsFixed b c → KeepsFixed a c
+pub kept_then : {a b c : World} → KeepsFixedAndLists a b → KeepsFixedAndLists b c → KeepsFixedAndLists a c
 kept_then h k = record {
   same_id = k.same_id ∙ h.same_id;
   same_fuel_set = k.same_fuel_set ∙ h.same_fuel_set;
@@ -322,7 +322,7 @@ wrapped_as p e old told now (halt.Fault chain) tells w keeps (inr is) h =
 
 -- A run that has begun, and has come to another configuration.
 module _ (p : Program) (e : NestedRun) (waits : Activation) (old begun_at ran : Config) (told now : Option (List ℕ))
-    (begins : Begins (first_of p e old) (Some waits) old begun_at) (kept : KeepsFixed begun_at.world ran.world) where
+    (begins : Begins (first_of p e old) (Some waits) old begun_at) (kept : KeepsFixedAndLists begun_at.world ran.world) where
   abbrev Stands : Base
   Stands = base_of e.heard begun_at.captures begun_at.world
 

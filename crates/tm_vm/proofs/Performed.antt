@@ -14,7 +14,7 @@ use Rattle.std.proofs.Common.{◌-◌, nat_lt}
 use Rattle.std.proofs.lemmas.Bool.Decides.{nat_tests}
 use Rattle.tm_meaning.specs.Steps.{act, charge_of, effect, pay, step}
 use Rattle.tm_syntax.specs.declared.instruction.Instruction.{Instruction}
-use Rattle.tm_state.specs.Answers.{IsBefore, KeepsFixed, OneDeeper, SameScopes}
+use Rattle.tm_state.specs.Answers.{IsBefore, KeepsFixedAndLists, OneDeeper, SameScopes}
 use Rattle.tm_vm.proofs.Loop.{kept_same, kept_then}
 use Rattle.tm_meaning.specs.declared.base.Base.{Base}
 use Rattle.tm_output.specs.Pieces.{appends_nothing, beginning_nothing}
@@ -27,14 +27,16 @@ use Rattle.tm_state.specs.declared.saved.Saved.TheVariants as saved
 use Rattle.tm_state.specs.declared.nested.RunOf.TheVariants as run_of
 use Rattle.tm_vm.specs.Answers.{Depths, Did, Enters, entered, Performs, Writes, Silently, Opens, Shifts, Needs, Finishes}
 use Rattle.tm_vm.specs.Answers.{NoFewer, KeepsBaseScopes, output}
-use Rattle.tm_vm.specs.AtOnce.{Attempted, IsAtOnce, IsPaid, attempt_of, paid}
+use Rattle.tm_vm.specs.AtOnce.{Attempted, IsAtOnce, IsCharged, IsFree, IsPaid, attempt_of, captured_of, free_attempt_of, paid}
+use Rattle.tm_vm.specs.AtOnce.{written_of}
+use Rattle.tm_output.specs.declared.target.TargetFailed.{TargetFailed}
 use Rattle.tm_vm.specs.declared.at_once.Attempt.{Attempt}
-use Rattle.tm_vm.specs.declared.at_once.Attempt.TheVariants.{Done, Left, WriterFailed}
+use Rattle.tm_vm.specs.declared.at_once.Attempt.TheVariants.{Done, DoneFree, Left, WriterFailed, NoMemory}
 use Rattle.tm_state.specs.declared.nested.NestedRun.{NestedRun}
 use Rattle.tm_vm.specs.declared.flow.Flow.{Flow}
 use Rattle.tm_vm.specs.declared.flow.Flow.TheVariants as flow
 
-nothing_written : {n : Next} {c : Config} (told : Option (List ℕ)) → n ≡ More [] c → (n ≡ More (output n) c) × Appends told told (output n)
+pub nothing_written : {n : Next} {c : Config} (told : Option (List ℕ)) → n ≡ More [] c → (n ≡ More (output n) c) × Appends told told (output n)
 nothing_written {c = c} told at =
     (at ∙ ap (λ t. More t c) (sym (ap output at)), subst (λ t. Appends told told t) (sym (ap output at)) (appends_nothing told))
 
@@ -188,7 +190,7 @@ needed {f = f} {n = n} {old = old} {new = new} {told = told} (Err (halt.Fault ch
 
 -- one that needs a run, which is boxed
 pub boxed : {p : Program} {n : Next} {old new : Config} (e : NestedRun) (b : Box NestedRun) → b.value ≡ e → Enters p e new n →
-    KeepsFixed old.world new.world → OneDeeper p.host.limit e.saved old.world new.world
+    KeepsFixedAndLists old.world new.world → OneDeeper p.host.limit e.saved old.world new.world
     → new.run.stream ≡ old.run.stream → Needs p n old new (Ok (flow.Enter b))
 boxed {p = p} {n = n} {old = old} {new = new} e b same enters kept deeper stream = record {
   did = subst (λ x. Enters p x new n) (sym same) enters;
@@ -205,6 +207,10 @@ same_entry p e d b c same is n at = subst (λ x. Enters p x c n) (sym same) (b, 
 pub chosen : (b : Bool) (x y : Unit {0} → Next) → b ≡ true → choose b x y ≡ x tt
 chosen true x y e = refl
 chosen false x y e = absurd cc
+
+pub not_chosen : (b : Bool) (x y : Unit {0} → Next) → b ≡ false → choose b x y ≡ y tt
+not_chosen true x y e = absurd cc
+not_chosen false x y e = refl
 
 both : (a b : Bool) → a ≡ true → b ≡ true → a && b ≡ true
 both true b d e = e
@@ -225,7 +231,7 @@ pub block_entered : (p : Program) (f : Base) (old : Config) (x : List ℕ) (s : 
     none_waits old.run.parent ≡ true → audible f old ≡ true
     → enter_block p.host x old.world ≡ runs_block s old.world w →
     new ≡ record { run = record old.run { place = old.run.place + 1 }; captures = old.captures; world = w }
-    → e ≡ block_run s old.world → KeepsFixed old.world w
+    → e ≡ block_run s old.world → KeepsFixedAndLists old.world w
     → Enters p e new (call_block_of p f x old)
 block_entered p f old x s e new w waits heard enters moved is kept =
     let d : NestedRun = block_run s old.world in
@@ -252,10 +258,40 @@ at_once n old new told failures true s = record {
 }
 at_once n old new told failures false same = (same, refl, refl)
 
-pub is_paid : (x : Instruction) (fuel : ℕ) (attempt : Attempt) → charge_of x ≡ 1 → 1 < fuel → IsPaid attempt x fuel
-is_paid x fuel Done one more = (one, more)
-is_paid x fuel WriterFailed one more = (one, more)
-is_paid x fuel Left one more = tt
+-- one that is free was done at once or left
+pub free_at_once : (n : Config → Next) (old new : Config) (told : Option (List ℕ)) (failures : ℕ) (done : Bool) → IsFree done n old new →
+    Attempted (free_attempt_of done) n old new told told failures failures
+free_at_once n old new told failures true s = record {
+  did = nothing_written told s.did;
+  counted = refl;
+  kept = s.kept;
+  same_scopes = s.same_scopes;
+  same_stream = s.same_stream;
+}
+free_at_once n old new told failures false same = (same, refl, refl)
+
+pub of_charged : (done : Bool) → IsCharged (attempt_of done)
+of_charged true = tt
+of_charged false = tt
+
+pub written_charged : (answer : Result (Unit {0}) TargetFailed) → IsCharged (written_of answer)
+written_charged (Ok u) = tt
+written_charged (Err e) = tt
+
+pub captured_charged : (answer : Result (Unit {0}) TargetFailed) → IsCharged (captured_of answer)
+captured_charged (Ok u) = tt
+captured_charged (Err e) = tt
+
+pub is_paid : (x : Instruction) (fuel : ℕ) (attempt : Attempt) → charge_of x ≡ 1 → 1 < fuel → IsCharged attempt → IsPaid attempt x fuel
+is_paid x fuel Done one more charged = (one, more)
+is_paid x fuel DoneFree one more charged = absurd charged
+is_paid x fuel WriterFailed one more charged = (one, more)
+is_paid x fuel NoMemory one more charged = (one, more)
+is_paid x fuel Left one more charged = tt
+
+pub ruleset charged = (of_charged, written_charged, captured_charged)
+
+pub ruleset attempts = (at_once, free_at_once, is_paid, of_charged)
 
 -- one that ends the run
 pub finished : {p : Program} {f : Base} {n : Next} {c : Config} {told : Option (List ℕ)} {failures : ℕ} (result : Result Flow Halt) →
@@ -295,7 +331,7 @@ paid_for c left = record c { world = record c.world { fuel = left } }
 step_paid : {told now : Option (List ℕ)} {failures count : ℕ} (p : Program) (f : Base) (x : Instruction) (old new : Config)
     (result : Result Flow Halt) (left : ℕ)
     → slice_get (p.code old.run.stream) old.run.place ≡ Some x → pay x old.world ≡ Good tt (paid_for old left).world →
-    KeepsFixed old.world (paid_for old left).world
+    KeepsFixedAndLists old.world (paid_for old left).world
     → Performs p f (effect p f x (paid_for old left)) (paid_for old left) new told now failures count result →
     Performs p f (step p f old) old new told now failures count result
 step_paid {told = told} {now = now} p f x old new result left found paid kept h =
@@ -312,13 +348,13 @@ step_paid {told = told} {now = now} p f x old new result left found paid kept h 
 -- an instruction did its part, behind its charge
 pub step_done : {told now : Option (List ℕ)} {failures count : ℕ} (p : Program) (f : Base) (x : Instruction)
     (old mid new : Config) (result : Result Flow Halt)
-    → slice_get (p.code old.run.stream) old.run.place ≡ Some x → pay x old.world ≡ Good tt mid.world → KeepsFixed old.world mid.world →
+    → slice_get (p.code old.run.stream) old.run.place ≡ Some x → pay x old.world ≡ Good tt mid.world → KeepsFixedAndLists old.world mid.world →
     mid ≡ record old { world = record old.world { fuel = mid.world.fuel } }
     → Performs p f (effect p f x mid) mid new told now failures count result →
     Performs p f (step p f old) old new told now failures count result
 step_done {told = told} {now = now} {failures = failures} {count = count} p f x old mid new result found paid kept rest h =
     step_paid p f x old new result mid.world.fuel found (paid
-    ∙ ap (λ (c : Config). Good tt c.world) rest) (subst (λ (c : Config). KeepsFixed old.world c.world) rest kept)
+    ∙ ap (λ (c : Config). Good tt c.world) rest) (subst (λ (c : Config). KeepsFixedAndLists old.world c.world) rest kept)
     (subst (λ (c : Config). Performs p f (effect p f x c) c new told now failures count result) rest h)
 
 -- what stands at a place of a list
@@ -331,7 +367,7 @@ read_at (y ∷ ys) (suc n) x within read = read_at ys n x (omega (arith, within)
 pays_one : (x : Instruction) (w : World) → charge_of x ≡ 1 → 1 < w.fuel → pay x w ≡ Good tt (record w { fuel = w.fuel - 1 })
 pays_one x w one more = let enough : nat_lt 1 w.fuel ≡ true = grind (arith, nat_tests) in rw (one, enough) refl
 
-paid_keeps : (w : World) → KeepsFixed w (record w { fuel = w.fuel - 1 })
+paid_keeps : (w : World) → KeepsFixedAndLists w (record w { fuel = w.fuel - 1 })
 paid_keeps w = record { same_id = refl; same_fuel_set = refl; no_more_fuel = omega arith; same_blocks = refl; same_loaded = refl }
 
 -- the instruction at the place was paid for and did its part at once
@@ -342,6 +378,18 @@ pub done_at_once : {told now : Option (List ℕ)} {failures count : ℕ} (p : Pr
     Performs p f (step p f old) old new told now failures count result
 done_at_once p f x old new result found one more h =
     step_done p f x old (paid old) new result found (pays_one x old.world one more) (paid_keeps old.world) refl h
+
+pays_nothing : (x : Instruction) (w : World) → charge_of x ≡ 0 → pay x w ≡ Good tt w
+pays_nothing x w free = rw free refl
+
+-- the instruction at the place is free and did its part at once
+pub done_free : {told now : Option (List ℕ)} {failures count : ℕ} (p : Program) (f : Base) (x : Instruction)
+    (old new : Config) (result : Result Flow Halt)
+    → slice_get (p.code old.run.stream) old.run.place ≡ Some x → charge_of x ≡ 0 →
+    Performs p f (effect p f x old) old new told now failures count result →
+    Performs p f (step p f old) old new told now failures count result
+done_free p f x old new result found free h =
+    step_done p f x old old new result found (pays_nothing x old.world free) (kept_same old.world) refl h
 
 -- a step that is done behind an attempt that left all as it was
 pub left : {p : Program} {f : Base} {now : Option (List ℕ)} {count : ℕ} {result : Result Flow Halt} (n : Config → Next) (old mid new : Config)

@@ -23,7 +23,7 @@ use Rattle.tm_output.specs.Counts.{AppendsBeginning}
 use Rattle.tm_parts.specs.Halts.{failures_after}
 use Rattle.tm_parts.specs.declared.halt.Halt.{Halt}
 use Rattle.tm_parts.specs.declared.halt.Halt.TheVariants as halt
-use Rattle.tm_state.specs.Answers.{IsBefore, KeepsFixed, SameScopes, OneDeeper, Becomes, Leaves, call_of}
+use Rattle.tm_state.specs.Answers.{IsBefore, KeepsFixedAndLists, SameScopes, OneDeeper, Becomes, Leaves, call_of}
 use Rattle.tm_state.specs.State.{callee_of, put_back}
 use Rattle.tm_state.specs.declared.calls.CallResult.{CallResult}
 use Rattle.tm_state.specs.declared.nested.NestedRun.{NestedRun}
@@ -101,7 +101,7 @@ pub record Performs (p : Program) (f : Base) (n : Next) (old new : Config) (told
     (result : Result Flow Halt) : Type 0 where
   pub did : Did p result told now new n
   pub counted : count ≡ failures_after result failures
-  pub kept : KeepsFixed old.world new.world
+  pub kept : KeepsFixedAndLists old.world new.world
   pub depths : Depths p.host.limit f result old.world new.world
   pub same_stream : new.run.stream ≡ old.run.stream
 
@@ -137,7 +137,7 @@ Wrote (Err why) told now c n = HaltsAs why c.world (λ e. n ≡ Over e) × Appen
 pub record Writes (n : Next) (old new : Config) (told now : Option (List ℕ)) (failures count : ℕ) (result : Result Flow Halt) : Type 0 where
   pub did : Wrote result told now new n
   pub counted : count ≡ failures_after result failures
-  pub kept : KeepsFixed old.world new.world
+  pub kept : KeepsFixedAndLists old.world new.world
   pub same_scopes : SameScopes old.world new.world
   pub same_stream : new.run.stream ≡ old.run.stream
 
@@ -152,21 +152,21 @@ Quietly (Err (halt.Fault chain)) c n = is_want_of_memory chain ≡ false → n �
 
 pub record Silently (n : Next) (old new : Config) (result : Result Flow Halt) : Type 0 where
   pub did : Quietly result new n
-  pub kept : KeepsFixed old.world new.world
+  pub kept : KeepsFixedAndLists old.world new.world
   pub same_scopes : SameScopes old.world new.world
   pub same_stream : new.run.stream ≡ old.run.stream
 
 -- And of one that may open a scope, and leaves none.
 pub record Opens (n : Next) (old new : Config) (result : Result Flow Halt) : Type 0 where
   pub did : Quietly result new n
-  pub kept : KeepsFixed old.world new.world
+  pub kept : KeepsFixedAndLists old.world new.world
   pub no_fewer : NoFewer old.world new.world
   pub same_stream : new.run.stream ≡ old.run.stream
 
 -- And of one that may leave a scope that the run opened.
 pub record Shifts (f : Base) (n : Next) (old new : Config) (result : Result Flow Halt) : Type 0 where
   pub did : Quietly result new n
-  pub kept : KeepsFixed old.world new.world
+  pub kept : KeepsFixedAndLists old.world new.world
   pub stays : KeepsBaseScopes f old.world new.world
   pub same_stream : new.run.stream ≡ old.run.stream
 
@@ -186,7 +186,7 @@ Deepens limit _ old new = NoFewer old new
 
 pub record Needs (p : Program) (n : Next) (old new : Config) (result : Result Flow Halt) : Type 0 where
   pub did : Needed p result new n
-  pub kept : KeepsFixed old.world new.world
+  pub kept : KeepsFixedAndLists old.world new.world
   pub deepens : Deepens p.host.limit result old.world new.world
   pub same_stream : new.run.stream ≡ old.run.stream
 

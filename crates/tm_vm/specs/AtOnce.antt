@@ -1,23 +1,37 @@
 -- What comes of an instruction that is done at once where it can be.
-use Rattle.std.specs.Prelude.{◌≡◌, ◌<◌, ◌-◌, ℕ, List, Option, Result, Ok, Err, Bool, true, false}
+use Rattle.std.specs.Prelude.{◌≡◌, ◌<◌, ◌-◌, ℕ, List, [], ◌∷◌, Option, Result, Ok, Err, Bool, true, false}
+use Rattle.tm_values.specs.declared.error.ErrorKind.TheVariants.{OutOfMemory}
 use Rattle.tm_syntax.specs.declared.instruction.Instruction.{Instruction}
 use Rattle.tm_meaning.specs.Steps.{charge_of, step}
 use Rattle.tm_meaning.specs.Machine.{Config, Next, Program}
 use Rattle.tm_meaning.specs.declared.base.Base.{Base}
+use Rattle.tm_parts.specs.declared.halt.Halt.{Halt}
 use Rattle.tm_parts.specs.declared.halt.Halt.TheVariants as halt
 use Rattle.tm_output.specs.declared.target.TargetFailed.{TargetFailed}
 use Rattle.tm_vm.specs.Answers.{Paid, Performs, Silently, Writes}
 use Rattle.tm_vm.specs.declared.at_once.Attempt.{Attempt}
-use Rattle.tm_vm.specs.declared.at_once.Attempt.TheVariants.{Done, Left, WriterFailed}
+use Rattle.tm_vm.specs.declared.at_once.Attempt.TheVariants.{Done, DoneFree, Left, WriterFailed, NoMemory}
 use Rattle.tm_vm.specs.declared.flow.Flow.TheVariants as flow
 
 abbrev pub attempt_of : Bool → Attempt
 attempt_of true = Done
 attempt_of false = Left
 
+abbrev pub free_attempt_of : Bool → Attempt
+free_attempt_of true = DoneFree
+free_attempt_of false = Left
+
 abbrev pub written_of : Result (Unit {0}) TargetFailed → Attempt
 written_of (Ok _) = Done
 written_of (Err _) = WriterFailed
+
+abbrev pub captured_of : Result (Unit {0}) TargetFailed → Attempt
+captured_of (Ok _) = Done
+captured_of (Err _) = NoMemory
+
+-- want of memory ends a run
+abbrev pub no_memory : Halt
+no_memory = halt.Fault (OutOfMemory ∷ [])
 
 -- a charge of one is paid
 abbrev pub paid : Config → Config
@@ -28,22 +42,44 @@ abbrev pub IsAtOnce : Bool → (Config → Next) → Config → Config → Type 
 IsAtOnce true n old new = Silently (n (paid old)) (paid old) new (Ok flow.GoOn)
 IsAtOnce false n old new = new ≡ old
 
--- The same of one that may write: by the writer it may have ended.
+-- It is free of charge and was done, and the run goes on; or all stayed as it was.
+abbrev pub IsFree : Bool → (Config → Next) → Config → Config → Type 0
+IsFree true n old new = Silently (n old) old new (Ok flow.GoOn)
+IsFree false n old new = new ≡ old
+
+-- The same of one that may write: by the writer, or for want of memory, it may have ended.
 abbrev pub Attempted : Attempt → (Config → Next) → Config → Config → Option (List ℕ) → Option (List ℕ) → ℕ → ℕ → Type 0
 Attempted Done n old new told now failures count = Writes (n (paid old)) (paid old) new told now failures count (Ok flow.GoOn)
 Attempted WriterFailed n old new told now failures count = Writes (n (paid old)) (paid old) new told now failures count (Err halt.Writer)
+Attempted DoneFree n old new told now failures count = Writes (n old) old new told now failures count (Ok flow.GoOn)
+Attempted NoMemory n old new told now failures count = Writes (n (paid old)) (paid old) new told now failures count (Err no_memory)
 Attempted Left n old new told now failures count = (new ≡ old) × (now ≡ told) × (count ≡ failures)
 
--- What was done is charged one, which there was.
+-- The same of one that told the writer nothing.
+abbrev pub AttemptedUntold : Attempt → (Config → Next) → Config → Config → Type 0
+AttemptedUntold attempt n old new = (told : Option (List ℕ)) (failures : ℕ) → Attempted attempt n old new told told failures failures
+
+-- It wasn't done free of charge.
+abbrev pub IsCharged : Attempt → Type 0
+IsCharged DoneFree = ⊥
+IsCharged _ = Unit {0}
+
+-- What was done is free of charge, or charged one, which there was.
 abbrev pub IsPaid : Attempt → Instruction → ℕ → Type 0
 IsPaid Left x fuel = Unit {0}
+IsPaid DoneFree x fuel = charge_of x ≡ 0
 IsPaid Done x fuel = (charge_of x ≡ 1) × (1 < fuel)
+IsPaid NoMemory x fuel = (charge_of x ≡ 1) × (1 < fuel)
 IsPaid WriterFailed x fuel = (charge_of x ≡ 1) × (1 < fuel)
 
--- The step was done at once, or ended by the writer; or all stayed as it was.
+-- The step was done at once, or ended by the writer or for want of memory; or all stayed as it was.
 abbrev pub StepAttempted : Attempt → Base → Program → ℕ → Config → Config → Option (List ℕ) → Option (List ℕ) → ℕ → ℕ → Type 0
 StepAttempted Done f p size old new told now failures count =
     Performs p f (step p f old) old new told now failures count (Ok flow.GoOn) × Paid p size (Ok flow.GoOn) old new
+StepAttempted DoneFree f p size old new told now failures count =
+    Performs p f (step p f old) old new told now failures count (Ok flow.GoOn) × Paid p size (Ok flow.GoOn) old new
+StepAttempted NoMemory f p size old new told now failures count =
+    Performs p f (step p f old) old new told now failures count (Err no_memory)
 StepAttempted WriterFailed f p size old new told now failures count =
     Performs p f (step p f old) old new told now failures count (Err halt.Writer)
 StepAttempted Left f p size old new told now failures count = (new ≡ old) × (now ≡ told) × (count ≡ failures)

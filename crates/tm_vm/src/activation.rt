@@ -2,7 +2,7 @@
 ghost use Rattle.std.specs.Prelude.{◌≡◌, ◌+◌, ◌-◌, ◌^◌, ◌<◌, List, [], ◌∷◌, Some, None, OnOk, IfErr, MatchOption, not, MatchResult, drop};
 ghost use Rattle.tm_values.specs.Answer.{OrStays};
 ghost use Rattle.tm_values.specs.Val.{Val, boolean};
-ghost use Rattle.tm_parts.specs.Operate.{Operates, TakesMember};
+ghost use Rattle.tm_parts.specs.Operate.{Doubles, Operates, TakesMember, TestsUndefined};
 ghost use Rattle.tm_meaning.specs.Meaning.{none_waits};
 ghost use Rattle.tm_meaning.specs.Steps.{is_empty};
 ghost use Rattle.tm_meaning.specs.Instructions.{used};
@@ -105,10 +105,26 @@ impl Activation {
     pub(crate) fn new(alloc: Global, stream: StreamId, floor: usize) -> Activation
         ensures { result ≡ run_from stream floor }
     {
+        Activation::over(alloc, stream, floor, 0, Vec::new(alloc))
+    }
+
+    /// A run of a stream from a place, over so many captures, with values as operands, the last of them on top.
+    pub(crate) fn over(
+        alloc: Global,
+        stream: StreamId,
+        floor: usize,
+        place: usize,
+        values: Vec<Value>,
+    ) -> Activation
+        ensures { result ≡ record (run_from stream floor) {
+          place = place;
+          operands = onto values.items [];
+        } }
+    {
         Activation {
             stream,
-            place: 0,
-            operands: Stack::new(alloc),
+            place,
+            operands: Stack::of(values),
             escapes: Vec::new(alloc),
             loops: Vec::new(alloc),
             floor,
@@ -117,23 +133,10 @@ impl Activation {
         }
     }
 
-    /// A run of a macro from its entry, over so many captures, with its arguments as operands, the last of them on top.
-    pub(crate) fn of_macro(
-        alloc: Global,
-        stream: StreamId,
-        floor: usize,
-        place: usize,
-        args: Vec<Value>,
-    ) -> Activation
-        ensures { result ≡ record (run_from stream floor) {
-          place = place;
-          operands = onto args.items [];
-        } }
-    {
-        let mut run = Activation::new(alloc, stream, floor);
-        run.place = place;
-        run.operands = Stack::of(args);
-        run
+    /// The operands that are left, in whose room there may be others.
+    pub(crate) fn into_operands(self) -> Vec<Value> {
+        let Activation { operands, .. } = self;
+        operands.into_values()
     }
 
     /// Uses a filter by its cache number, and gives where it stands. Stuck where it can't be used by that;
@@ -334,6 +337,28 @@ impl Activation {
         ensures rest { self.new ≡ record self.old { operands = self.new.operands } }
     {
         self.operands.replace_by_member(name)
+    }
+
+    /// Puts whether the topmost operand is undefined in its place, where there is one. Else all stays as it was, and
+    /// the answer is false.
+    #[inline(always)]
+    pub(crate) fn test_undefined(&mut self) -> bool
+        ensures operands { OrStays result self.old.operands self.new.operands
+            (TestsUndefined self.old.operands self.new.operands) }
+        ensures rest { self.new ≡ record self.old { operands = self.new.operands } }
+    {
+        self.operands.test_undefined()
+    }
+
+    /// Puts a second owner of the topmost operand on top, where there is one and room for it. Else all stays as it
+    /// was, and the answer is false.
+    #[inline(always)]
+    pub(crate) fn double_top(&mut self) -> bool
+        ensures operands { OrStays result self.old.operands self.new.operands
+            (Doubles self.old.operands self.new.operands) }
+        ensures rest { self.new ≡ record self.old { operands = self.new.operands } }
+    {
+        self.operands.double_top()
     }
 
     /// Takes the truth value on top, where one is. Else all stays as it was.

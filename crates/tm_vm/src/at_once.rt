@@ -1,11 +1,13 @@
-//! The instructions that are paid for and done at once where they can be: where they need no memory, run nothing,
-//! and fail only by the writer.
-ghost use Rattle.std.specs.Prelude.{◌≡◌, ◌<◌, ◌+◌};
-ghost use Rattle.tm_meaning.specs.Instructions.{binary_of, emit_of, emit_raw_of, get_attr_of, iterate_of, jump_if_false_of};
-ghost use Rattle.tm_meaning.specs.Instructions.{load_const_of, lookup_of, store_local_of};
+//! The instructions that are paid for and done at once where they can be: where they run nothing, and fail only by the
+//! writer or where a capture finds no memory.
+ghost use Rattle.std.specs.Prelude.{◌≡◌, ◌<◌, ◌+◌, None, true};
+ghost use Rattle.tm_meaning.specs.Machine.{audible};
+ghost use Rattle.tm_meaning.specs.Instructions.{binary_of, discard_top_of, dup_top_of, emit_of, emit_raw_of, get_attr_of, iterate_of, jump_if_false_of};
+ghost use Rattle.tm_meaning.specs.Instructions.{is_undefined_of, load_const_of, lookup_of, store_local_of};
 ghost use Rattle.tm_meaning.specs.Steps.{effect};
 ghost use Rattle.tm_vm.specs.Answers.{program, CanGoOn};
-ghost use Rattle.tm_vm.specs.AtOnce.{Attempted, IsAtOnce, IsPaid, attempt_of, paid, written_of};
+ghost use Rattle.tm_vm.specs.AtOnce.{Attempted, AttemptedUntold, IsAtOnce, IsCharged, IsFree, IsPaid, attempt_of};
+ghost use Rattle.tm_vm.specs.AtOnce.{captured_of, free_attempt_of, paid, written_of};
 
 use crate::machine::Machine;
 use tm_meaning::Base;
@@ -19,12 +21,16 @@ use tm_values::Value;
 /// What came of an instruction that is done at once where it can be.
 #[derive(Clone, Copy, PartialEq, Eq)]
 pub(crate) enum Attempt {
-    /// It was done, and the run goes on.
+    /// It was paid for and done, and the run goes on.
     Done,
+    /// It is free of charge and was done, and the run goes on.
+    DoneFree,
     /// Nothing was done.
     Left,
     /// The writer failed.
     WriterFailed,
+    /// The innermost capture found no memory.
+    NoMemory,
 }
 
 impl Attempt {
@@ -35,6 +41,18 @@ impl Attempt {
     {
         if is_done {
             Attempt::Done
+        } else {
+            Attempt::Left
+        }
+    }
+
+    /// Done free of charge, or left.
+    #[inline(always)]
+    fn free(is_done: bool) -> Attempt
+        ensures { result ≡ free_attempt_of is_done }
+    {
+        if is_done {
+            Attempt::DoneFree
         } else {
             Attempt::Left
         }
@@ -50,6 +68,17 @@ impl Attempt {
         match answer {
             Ok(()) => Attempt::Done,
             Err(_failed) => Attempt::WriterFailed,
+        }
+    }
+
+    /// Done, or ended for want of memory.
+    #[inline(always)]
+    fn captured(answer: Result<(), TargetFailed>) -> Attempt
+        ensures { result ≡ captured_of answer }
+    {
+        match answer {
+            Ok(()) => Attempt::Done,
+            Err(_failed) => Attempt::NoMemory,
         }
     }
 }
@@ -195,17 +224,74 @@ impl Machine<'_> {
         true
     }
 
-    /// Writes a text as it stands, where no capture is open and it is heard.
+    /// Replaces a value by whether it is undefined.
     #[inline(always)]
+    fn is_undefined_at_once(&mut self) -> bool
+        requires in_place { CanGoOn self.old.run }
+        requires can_pay { 1 < self.old.world.fuel }
+        ensures { IsAtOnce result is_undefined_of self.old self.new }
+    {
+        if !self.run.test_undefined() {
+            return false;
+        }
+        self.pay_and_advance();
+        true
+    }
+
+    /// Pushes the topmost value once more.
+    #[inline(always)]
+    fn dup_top_at_once(&mut self) -> bool
+        requires { CanGoOn self.old.run }
+        ensures { IsFree result dup_top_of self.old self.new }
+    {
+        if !self.run.double_top() {
+            return false;
+        }
+        self.run.advance();
+        true
+    }
+
+    /// Drops the topmost value.
+    #[inline(always)]
+    fn discard_top_at_once(&mut self) -> bool
+        requires { CanGoOn self.old.run }
+        ensures { IsFree result discard_top_of self.old self.new }
+    {
+        if self.run.top().is_none() {
+            return false;
+        }
+        self.run.drop_top();
+        self.run.advance();
+        true
+    }
+
+    /// Puts a text as it stands into the innermost capture, or drops it where it isn't heard.
+    #[inline(never)]
+    fn put_raw_at_once(&mut self, base: &Base, text: &RawText) -> bool
+        requires in_place { CanGoOn self.old.run }
+        requires can_pay { 1 < self.old.world.fuel }
+        ensures { IsAtOnce result (emit_raw_of base.now text.now) self.old self.new }
+    {
+        if self.is_audible(base) && !self.captures.put_at_once(text.as_str()) {
+            return false;
+        }
+        self.pay_and_advance();
+        true
+    }
+
+    /// Writes a text as it stands, or puts it into the innermost capture; drops it where it isn't heard.
+    #[inline(always)]
+    #[tactic(auto, using(crate::proofs::Performed::at_once, crate::proofs::Performed::charged))]
     fn emit_raw_at_once<W: Sink>(&mut self, base: &Base, text: &RawText, writer: &mut W) -> Attempt
         requires in_place { CanGoOn self.old.run }
         requires can_pay { 1 < self.old.world.fuel }
-        ensures { Attempted result (emit_raw_of base.now text.now) self.old self.new
+        ensures done { Attempted result (emit_raw_of base.now text.now) self.old self.new
             (W.written writer.old) (W.written writer.new)
             (W.failures writer.old) (W.failures writer.new) }
+        ensures charged { IsCharged result }
     {
         if !self.captures.is_empty() || !self.is_audible(base) {
-            return Attempt::Left;
+            return Attempt::of(self.put_raw_at_once(base, text));
         }
         self.pay_and_advance();
         match put_text(writer, text.as_str().as_bytes()) {
@@ -214,24 +300,51 @@ impl Machine<'_> {
         }
     }
 
-    /// Pops a number or a text and writes what it is emitted as, where there is no formatter, no capture is open and
-    /// it is heard.
+    /// Pops a number or a text and puts what it is emitted as, which is heard, into the innermost capture.
+    #[inline(never)]
+    #[tactic(auto, using(crate::proofs::Performed::charged))]
+    fn capture_at_once<H: Host>(&mut self, host: &H, base: &Base) -> Attempt
+        requires in_place { CanGoOn self.old.run }
+        requires can_pay { 1 < self.old.world.fuel }
+        requires unformatted { (H.meaning host.now).formatter ≡ None }
+        requires heard { audible base.now self.old ≡ true }
+        ensures done { AttemptedUntold result (emit_of (H.meaning host.now) base.now)
+            self.old self.new }
+        ensures charged { IsCharged result }
+    {
+        let _host = host;
+        let _base = base;
+        let Some(value) = self.run.top() else {
+            return Attempt::Left;
+        };
+        let Some(answer) = self.captures.emit_at_once(value, self.state.escape()) else {
+            return Attempt::Left;
+        };
+        self.run.drop_top();
+        self.pay_and_advance();
+        Attempt::captured(answer)
+    }
+
+    /// Pops a number or a text and writes what it is emitted as, or puts that into the innermost capture, where there
+    /// is no formatter and it is heard.
     #[inline(always)]
+    #[tactic(auto, using(crate::proofs::Performed::charged, crate::proofs::Emitted::no_formatter))]
     fn emit_at_once<H: Host, W: Sink>(&mut self, host: &H, base: &Base, writer: &mut W) -> Attempt
         requires in_place { CanGoOn self.old.run }
         requires can_pay { 1 < self.old.world.fuel }
-        ensures { Attempted result (emit_of (H.meaning host.now) base.now) self.old self.new
+        ensures done { Attempted result (emit_of (H.meaning host.now) base.now) self.old self.new
             (W.written writer.old) (W.written writer.new)
             (W.failures writer.old) (W.failures writer.new) }
+        ensures charged { IsCharged result }
     {
         if host.has_formatter() {
             return Attempt::Left;
         }
-        if !self.captures.is_empty() {
-            return Attempt::Left;
-        }
         if !self.is_audible(base) {
             return Attempt::Left;
+        }
+        if !self.captures.is_empty() {
+            return self.capture_at_once(host, base);
         }
         let Some(value) = self.run.top() else {
             return Attempt::Left;
@@ -246,7 +359,7 @@ impl Machine<'_> {
 
     /// Pays for an instruction and does it, where it can be done at once.
     #[inline(always)]
-    #[tactic(auto, using(crate::proofs::Performed::at_once, crate::proofs::Performed::is_paid))]
+    #[tactic(auto, using(crate::proofs::Performed::attempts))]
     pub(crate) fn attempt<H: Host, W: Sink>(
         &mut self,
         host: &H,
@@ -298,6 +411,9 @@ impl Machine<'_> {
             )),
             Instruction::StoreLocal(name) => Attempt::of(self.store_local_at_once(name)),
             Instruction::Iterate(place) => Attempt::of(self.iterate_at_once(*place)),
+            Instruction::IsUndefined => Attempt::of(self.is_undefined_at_once()),
+            Instruction::DupTop => Attempt::free(self.dup_top_at_once()),
+            Instruction::DiscardTop => Attempt::free(self.discard_top_at_once()),
             _ => Attempt::Left,
         }
     }

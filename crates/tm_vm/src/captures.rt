@@ -50,10 +50,11 @@ impl Machine<'_> {
             return Err(Halt::Stuck);
         };
         let value = match mode {
-            CaptureMode::Capture => self.captured(alloc, text.as_str())?,
-            CaptureMode::Discard => Value::undefined(),
+            CaptureMode::Capture => self.captured(alloc, text.as_str()),
+            CaptureMode::Discard => Ok(Value::undefined()),
         };
-        self.push_next(value)
+        self.captures.keep_room(text);
+        self.push_next(value?)
     }
 
     /// Pops a value, and escapes from here on as it says; InvalidOperation where it names no escape.

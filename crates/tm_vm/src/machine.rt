@@ -4,7 +4,7 @@ ghost use Rattle.tm_meaning.specs.Machine.{audible, base_of, first_run, run_from
 ghost use Rattle.tm_meaning.specs.Steps.{step};
 ghost use Rattle.tm_parts.specs.Halts.{failures_after};
 ghost use Rattle.tm_vm.specs.Answers.{program, Begins, EndsAs, IsAtFirst, ReachesEnd, NoFewer};
-ghost use Rattle.tm_state.specs.Answers.{KeepsFixed, SameScopes};
+ghost use Rattle.tm_state.specs.Answers.{KeepsFixedAndLists, SameScopes};
 ghost use Rattle.tm_state.specs.State.{callee_of, put_back};
 ghost use Rattle.tm_vm.specs.Nested.{RanNested, StandsOn, WroteBeginning, IsBack, IsWrapped, IsCaptured, base_in, begins_in};
 
@@ -40,20 +40,30 @@ fn wrapped(alloc: Global, wrap: Option<Wrapping>, halt: Halt) -> Halt
     }
 }
 
-/// The run of what is called, from its first place and over so many captures; none where its stream has no such macro,
-/// or one that takes other arguments.
-fn first_run<H: Host>(alloc: Global, host: &H, run: RunOf, floor: usize) -> Option<Activation>
-    ensures { result ≡ first_run (program (H.meaning host.now) (H.code host.now))
+/// The run of what is called, from its first place and over so many captures, in a room that the state keeps; none where
+/// its stream has no such macro, or one that takes other arguments.
+fn first_run<H: Host>(
+    alloc: Global,
+    host: &H,
+    state: &mut StateData<'_>,
+    run: RunOf,
+    floor: usize,
+) -> Option<Activation>
+    ensures first { result ≡ first_run (program (H.meaning host.now) (H.code host.now))
         (callee_of run) floor }
+    ensures unchanged { state.new ≡ state.old }
 {
     match run {
-        RunOf::Stream(stream) => Some(Activation::new(alloc, stream, floor)),
+        RunOf::Stream(stream) => {
+            let room = state.take_operands(alloc);
+            Some(Activation::over(alloc, stream, floor, 0, room))
+        }
         RunOf::Macro(stream, number, args) => {
             let (place, count) = host.instructions(&stream).entry(number)?;
             if count != args.len() {
                 return None;
             }
-            Some(Activation::of_macro(alloc, stream, floor, place, args))
+            Some(Activation::over(alloc, stream, floor, place, args))
         }
     }
 }
@@ -102,12 +112,12 @@ impl<'env> Machine<'env> {
         host: &H,
         run: RunOf,
         captures: Captures,
-        state: StateData<'env>,
+        mut state: StateData<'env>,
     ) -> Result<Machine<'env>, StateData<'env>>
         ensures { IsAtFirst (first_run (program (H.meaning host.now) (H.code host.now))
             (callee_of run) (length captures)) captures state.entry result }
     {
-        match first_run(alloc, host, run, captures.depth()) {
+        match first_run(alloc, host, &mut state, run, captures.depth()) {
             Some(run) => Ok(Machine {
                 run,
                 captures,
@@ -172,7 +182,7 @@ impl<'env> Machine<'env> {
             (begins_in (program (H.meaning host.now) (H.code host.now)) entry self.old)
             (W.written writer.old) (W.written writer.new) }
         ensures failures { W.failures writer.new ≡ failures_after result (W.failures writer.old) }
-        ensures kept { KeepsFixed self.old.world self.new.world }
+        ensures kept { KeepsFixedAndLists self.old.world self.new.world }
         ensures back { IsBack entry.saved self.new.world }
         ensures same_stream { self.new.run.stream ≡ self.old.run.stream }
         ensures same_loops { self.new.run.loops ≡ self.old.run.loops }
@@ -212,8 +222,9 @@ impl<'env> Machine<'env> {
         let Some((_mode, text)) = self.captures.end() else {
             return Err(Halt::Stuck);
         };
-        let value = run_value(alloc, kind, text.as_str(), self.state.escape())?;
-        self.run.push(value)?;
+        let value = run_value(alloc, kind, text.as_str(), self.state.escape());
+        self.captures.keep_room(text);
+        self.run.push(value?)?;
         Ok(())
     }
 
@@ -223,15 +234,17 @@ impl<'env> Machine<'env> {
         ensures { Begins (first_run (program (H.meaning host.now) (H.code host.now))
             (callee_of run) (length self.old.captures)) result self.old self.new }
     {
-        let first = first_run(alloc, host, run, self.captures.depth())?;
+        let floor = self.captures.depth();
+        let first = first_run(alloc, host, &mut self.state, run, floor)?;
         Some(mem::replace(&mut self.run, first))
     }
 
-    /// Goes on with a run that waited.
+    /// Goes on with a run that waited, and keeps the room of the one that is over.
     fn resume(&mut self, waiting: Activation)
         ensures { self.new ≡ record self.old { run = waiting } }
     {
-        self.run = waiting;
+        let over = mem::replace(&mut self.run, waiting);
+        self.state.keep_operands(over.into_operands());
     }
 
     /// Puts back in the state what a run replaced, and leaves the scopes that it opened.
@@ -267,7 +280,7 @@ impl<'env> Machine<'env> {
             (base_of heard self.old.captures self.old.world) self.old)
             (W.written writer.old) (W.written writer.new) }
         ensures failures { W.failures writer.new ≡ failures_after result (W.failures writer.old) }
-        ensures kept { KeepsFixed self.old.world self.new.world }
+        ensures kept { KeepsFixedAndLists self.old.world self.new.world }
         ensures no_fewer { NoFewer self.old.world self.new.world }
         ensures closed { OnOk result (SameScopes self.old.world self.new.world) }
     {

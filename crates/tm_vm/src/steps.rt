@@ -5,7 +5,7 @@ ghost use Rattle.tm_meaning.specs.World.{Good, Bad};
 ghost use Rattle.tm_meaning.specs.Steps.{charge_of, closed, pay, effect, finish, return_of, step};
 ghost use Rattle.tm_vm.specs.Answers.{program, CanGoOn, Performs, Finishes, Paid};
 ghost use Rattle.tm_vm.specs.AtOnce.{StepAttempted};
-ghost use Rattle.tm_state.specs.Answers.{KeepsFixed};
+ghost use Rattle.tm_state.specs.Answers.{KeepsFixedAndLists};
 
 use crate::at_once::Attempt;
 use crate::flow::Flow;
@@ -142,7 +142,7 @@ impl Machine<'_> {
             (pay instruction.now self.old.world ≡ Bad (OutOfFuel ∷ []) self.new.world) }
         ensures spent { OnOk result
             (self.new.world.fuel + charge_of instruction.now ≡ self.old.world.fuel) }
-        ensures kept { KeepsFixed self.old.world self.new.world }
+        ensures kept { KeepsFixedAndLists self.old.world self.new.world }
         ensures rest { self.new ≡ record self.old {
           world = record self.old.world { fuel = self.new.world.fuel };
         } }
@@ -249,7 +249,9 @@ impl Machine<'_> {
     {
         match self.attempt_next(host, base, code, writer) {
             Attempt::Done => Ok(Flow::GoOn),
+            Attempt::DoneFree => Ok(Flow::GoOn),
             Attempt::WriterFailed => Err(Halt::Writer),
+            Attempt::NoMemory => Err(Halt::Fault(Error::from(ErrorKind::OutOfMemory))),
             Attempt::Left => self.step_by_method(alloc, host, base, code, writer),
         }
     }

@@ -1,4 +1,4 @@
-use Rattle.std.proofs.Common.{◌≡◌, ◌∙◌, sym, ap, length, reverse, Some}
+use Rattle.std.proofs.Common.{◌≡◌, ◌∙◌, sym, length}
 use Rattle.tm_parts.proofs.Operands.{taken_split, taken_past}
 use Rattle.tm_parts.proofs.stack.Stack.take.Goals as goal
 

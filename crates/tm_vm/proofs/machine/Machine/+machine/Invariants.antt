@@ -1,7 +1,7 @@
 use Rattle.std.proofs.Common.{◌≡◌, ◌+◌, ◌-◌, ◌*◌, ◌≤◌, length}
 use Rattle.tm_meaning.specs.World.{depth}
 use Rattle.tm_meaning.specs.Machine.{base_of}
-use Rattle.tm_state.specs.Answers.{KeepsFixed}
+use Rattle.tm_state.specs.Answers.{KeepsFixedAndLists}
 use Rattle.tm_vm.specs.Answers.{weight, program}
 use Rattle.tm_vm.proofs.Loop.{RunsUpTo}
 use Rattle.tm_vm.proofs.machine.Machine.+machine.Given as goal
@@ -15,7 +15,7 @@ decreases-run g l = ((g.H.Host.meaning l.host.now).limit + 1 - depth l.self.now.
 abbrev pub invariant-run-loop-entry : goal.invariant-run-loop-entry
 invariant-run-loop-entry g l = record {
   failures : g.W.Sink.failures l.writer ≡ g.W.Sink.failures l.initial.writer;
-  kept : KeepsFixed l.initial.self.world l.self.world;
+  kept : KeepsFixedAndLists l.initial.self.world l.self.world;
   above : length l.initial.self.world.scopes.frames ≤ length l.self.world.scopes.frames;
   same_outer : l.self.world.scopes.outer ≡ l.initial.self.world.scopes.outer;
   same_stream : l.self.run.stream ≡ l.initial.self.run.stream;

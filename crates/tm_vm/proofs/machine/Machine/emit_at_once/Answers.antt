@@ -6,8 +6,8 @@ use Rattle.tm_meaning.specs.Machine.{Activation, Config, audible}
 use Rattle.tm_vm.proofs.Emitted.{emitted_at_once, no_formatter}
 use Rattle.tm_vm.proofs.machine.Machine.emit_at_once.Goals as goal
 
-pub returns : goal.returns
-returns g c =
+pub returns-clause-done : goal.returns-clause-done
+returns-clause-done g c =
     let host = g.H.Host.meaning c.args.host.now in
     let e = c.in-Some-emit_at_once.ensures (records_of c.self.inside.state) in
     let heard = sym (subst (λ (m : Config). true ≡ audible c.args.base.now m) (sym c.self.view_is) c.if-not-is_audible.ensures) in

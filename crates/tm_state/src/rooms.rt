@@ -1,0 +1,55 @@
+//! Rooms of what is over, which are used again.
+ghost use Rattle.std.specs.Prelude.{◌≡◌, []};
+
+use std::alloc::Global;
+use tm_tables::Context;
+use tm_values::Value;
+
+/// Rooms of what is over, which hold nothing. No contract sees them.
+#[derive(Drop)]
+pub(crate) struct Rooms {
+    scopes: Vec<Context>,
+    operands: Vec<Vec<Value>>,
+}
+
+impl Rooms {
+    /// No rooms.
+    pub(crate) fn new(alloc: Global) -> Rooms {
+        Rooms {
+            scopes: Vec::new(alloc),
+            operands: Vec::new(alloc),
+        }
+    }
+
+    /// The room of a macro's scopes, where one is there.
+    pub(crate) fn take_scopes(&mut self, alloc: Global) -> Context {
+        match self.scopes.pop() {
+            Some(room) => room,
+            None => Context::new(alloc),
+        }
+    }
+
+    /// Keeps the room of these scopes, where there is memory for that.
+    pub(crate) fn keep_scopes(&mut self, scopes: Context) {
+        let _kept = self.scopes.push(scopes.into_room());
+    }
+
+    /// Room for values, in which there are none.
+    pub(crate) fn take_operands(&mut self, alloc: Global) -> Vec<Value>
+        ensures { result.items ≡ [] }
+    {
+        match self.operands.pop() {
+            Some(mut room) => {
+                room.clear();
+                room
+            }
+            None => Vec::new(alloc),
+        }
+    }
+
+    /// Keeps the room of these values, where there is memory for that.
+    pub(crate) fn keep_operands(&mut self, mut values: Vec<Value>) {
+        values.clear();
+        let _kept = self.operands.push(values);
+    }
+}
