@@ -114,11 +114,16 @@ all_passed i = branch (first (is sign.CloseRound)) (λ _. pure (passed [] [])) (
   end ← token (is sign.CloseRound)
   pure given)
 
+-- the same inside one bracket more
+unfoldable pub in_brackets : Inside → Rule Passed
+in_brackets i = do
+  room ← i.room
+  all_passed i
+
 -- the call of a name, behind its opening bracket
 unfoldable pub called : Inside → List ℕ → Rule Expr
 called i name = do
-  room ← i.room
-  given ← all_passed i
+  given ← in_brackets i
   pure (exprs.Call name given.by_place given.by_name)
 
 -- a name, or the call of one
@@ -179,8 +184,7 @@ named_step i = do
   name ← token a_name
   branch (first (is sign.OpenRound))
       (λ _. do
-        room ← i.room
-        given ← all_passed i
+        given ← in_brackets i
         pure (steps.Apply applications.Method name given.by_place given.by_name))
       (pure (steps.Attribute name))
 
@@ -231,17 +235,12 @@ dotted = do
 
 -- the arguments in brackets, if they stand there
 unfoldable pub given : Inside → Rule Passed
-given i = branch (first (is sign.OpenRound))
-    (λ _. do
-      room ← i.room
-      all_passed i)
-    (pure (passed [] []))
+given i = branch (first (is sign.OpenRound)) (λ _. in_brackets i) (pure (passed [] []))
 
 -- the call of a value, behind its opening bracket
 unfoldable pub call_step : Inside → Rule Step
 call_step i = do
-  room ← i.room
-  xs ← all_passed i
+  xs ← in_brackets i
   pure (steps.Call xs.by_place xs.by_name)
 
 -- a filter, and its arguments behind the value

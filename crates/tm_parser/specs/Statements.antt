@@ -143,12 +143,23 @@ elif_tag i t looping = do
   other ← t.rest looping
   pure (Some (stmts.If condition body other ∷ []))
 
+-- a body and this end tag
+unfoldable pub ended_body : Inner → Tag → Bool → Rule (List Stmt)
+ended_body t end looping = do
+  body ← t.body looping
+  last ← lone end
+  pure body
+
+-- the end of a tag, a body and this end tag
+unfoldable pub body_behind : Inner → Tag → Bool → Rule (List Stmt)
+body_behind t end looping = do
+  close ← block_end
+  ended_body t end looping
+
 -- what stands behind `else`, up to this end tag
 unfoldable pub else_tag : Inner → Tag → Bool → Rule (Option (List Stmt))
 else_tag t end looping = do
-  close ← block_end
-  body ← t.body looping
-  last ← lone end
+  body ← body_behind t end looping
   pure (Some body)
 
 -- an else part or none, up to this end tag
@@ -279,18 +290,16 @@ set_value i to = do
 unfoldable pub more_filters : Inside → List Step → Rule (List Step)
 more_filters i xs = many_from (first (is sign.Bar)) (λ _. i.filter) xs
 
--- what a body writes is filtered and used
+-- what a body behind its tag writes is filtered and used
 unfoldable pub captured : Inner → Tag → Bool → CaptureUse → List Step → Rule Stmt
 captured t end looping becomes filters = do
-  body ← t.body looping
-  last ← lone end
+  body ← body_behind t end looping
   pure (stmts.CaptureBlock becomes filters body)
 
 -- what stands behind the target of a `set` without `=`
 unfoldable pub set_block : Inside → Inner → Bool → AssignmentTarget → Rule Stmt
 set_block i t looping to = do
   filters ← more_filters i []
-  close ← block_end
   captured t tags.Endset looping (uses.Assign to) filters
 
 unfoldable pub set_tag : Inside → Inner → Bool → Rule Stmt
@@ -302,7 +311,6 @@ unfoldable pub filter_tag : Inside → Inner → Bool → Rule Stmt
 filter_tag i t looping = do
   one ← one_more i.filter []
   filters ← more_filters i one
-  close ← block_end
   captured t tags.Endfilter looping uses.Emit filters
 
 unfoldable pub assignment : Inside → Rule Assignment
@@ -315,16 +323,13 @@ assignment i = do
 unfoldable pub with_tag : Inside → Inner → Bool → Rule Stmt
 with_tag i t looping = do
   given ← items sign.BlockEnd (assignment i) []
-  body ← t.body looping
-  last ← lone tags.Endwith
+  body ← ended_body t tags.Endwith looping
   pure (stmts.With given body)
 
 unfoldable pub autoescape_tag : Inside → Inner → Bool → Rule Stmt
 autoescape_tag i t looping = do
   x ← i.expr
-  close ← block_end
-  body ← t.body looping
-  last ← lone tags.Endautoescape
+  body ← body_behind t tags.Endautoescape looping
   pure (stmts.AutoEscape x body)
 
 -- the default of a parameter, or none
@@ -396,9 +401,7 @@ call_parameters t = branch (first (is sign.OpenRound))
 -- What stands behind the expression of a call's tag, which is a call. The loops around the tag aren't around its body.
 unfoldable pub call_block : Inner → List Parameter → Expr → Rule Stmt
 call_block t ps x = provided (is_call x) (do
-  close ← block_end
-  body ← t.body false
-  last ← lone tags.Endcall
+  body ← body_behind t tags.Endcall false
   pure (stmts.CallBlock (record { call = x; parameters = ps; body = body })))
 
 unfoldable pub call_tag : Inside → Inner → Rule Stmt

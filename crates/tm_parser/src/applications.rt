@@ -24,8 +24,7 @@ impl Cursor<'_> {
     pub fn call_step(&mut self, alloc: Global, depth: u8) -> Result<Step, Error>
         ensures { Parses result self.new ((call_step (inside depth)).reads self.old) }
     {
-        self.room(depth)?;
-        let given = self.all_passed(alloc, depth)?;
+        let given = self.in_brackets(alloc, depth)?;
         Ok(Step::Call(given.by_place, given.by_name))
     }
 
@@ -134,8 +133,7 @@ impl Cursor<'_> {
                 by_name: Items::new(alloc),
             });
         }
-        self.room(depth)?;
-        self.all_passed(alloc, depth)
+        self.in_brackets(alloc, depth)
     }
 
     /// The name of a test: a reserved word, or names with dots between them.

@@ -254,8 +254,7 @@ impl Cursor<'_> {
         if !self.take(Sign::OpenRound) {
             return Ok(Step::Attribute(name));
         }
-        self.room(depth)?;
-        let given = self.all_passed(alloc, depth)?;
+        let given = self.in_brackets(alloc, depth)?;
         Ok(Step::Apply(Application::Method, name, given.by_place, given.by_name))
     }
 

@@ -51,14 +51,6 @@ impl Cursor<'_> {
         }))
     }
 
-    /// A body inside one nesting more, around which is no loop.
-    #[cycle(statements)]
-    fn closed_body(&mut self, alloc: Global, depth: u8) -> Result<Items<Stmt>, Error>
-        ensures { Parses result self.new (((inner depth).body false).reads self.old) }
-    {
-        self.inner_body(alloc, depth, false)
-    }
-
     /// The body of a block or a macro of this name, up to its end tag.
     #[cycle(statements)]
     #[tactic(auto, unfolding(crate::specs::Statements::named_body))]
@@ -71,7 +63,7 @@ impl Cursor<'_> {
     ) -> Result<Items<Stmt>, Error>
         ensures { Parses result self.new ((named_body (inner depth) end name.now).reads self.old) }
     {
-        let body = self.closed_body(alloc, depth)?;
+        let body = self.inner_body(alloc, depth, false)?;
         self.expect_named_end(end, name)?;
         Ok(body)
     }
@@ -112,9 +104,7 @@ impl Cursor<'_> {
         if !is_call(call.get()) {
             return Err(refusal());
         }
-        self.expect(Sign::BlockEnd)?;
-        let body = self.closed_body(alloc, depth)?;
-        self.expect_lone(Tag::Endcall)?;
+        let body = self.body_behind(alloc, depth, Tag::Endcall, false)?;
         Ok(Stmt::CallBlock(CallBlock {
             call,
             parameters,

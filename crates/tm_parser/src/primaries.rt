@@ -1,11 +1,12 @@
 //! What stands between operators: literals, names, calls, and what stands in brackets.
-ghost use Rattle.std.specs.Prelude.{[]};
+ghost use Rattle.std.specs.Prelude.{◌≡◌, ◌++◌, ◌∷◌, [], MatchResult};
 ghost use Rattle.tm_parser.specs.Parses.{Parses};
-ghost use Rattle.tm_parser.specs.Grammar.{inside, all_passed, argument, bracketed, called, closed, items};
+ghost use Rattle.tm_parser.specs.Grammar.{inside, all_passed, argument, bracketed, called, closed, in_brackets, items};
 ghost use Rattle.tm_parser.specs.Grammar.{keyword, list_literal, map_literal, more_items, more_passed};
-ghost use Rattle.tm_parser.specs.Grammar.{named, one_passed, pair, primary, spread_list, spread_map, tuple};
+ghost use Rattle.tm_parser.specs.Grammar.{named, one_passed, pair, passed, primary, spread_list, spread_map, tuple};
 ghost use Rattle.tm_grammar.specs.Combinators.{one_more};
 ghost use Rattle.tm_syntax.specs.declared.token.Sign.TheVariants as sign;
+ghost use Rattle.tm_values.specs.declared.error.ErrorKind.TheVariants.{OutOfMemory};
 
 use crate::cursor::{Cursor, refusal};
 use crate::lists::{boxed, with_one};
@@ -70,8 +71,7 @@ impl Cursor<'_> {
     fn called(&mut self, alloc: Global, depth: u8, name: Name) -> Result<Boxed<Expr>, Error>
         ensures { Parses result self.new ((called (inside depth) name).reads self.old) }
     {
-        self.room(depth)?;
-        let given = self.all_passed(alloc, depth)?;
+        let given = self.in_brackets(alloc, depth)?;
         boxed(alloc, Expr::Call(name, given.by_place, given.by_name))
     }
 
@@ -254,10 +254,20 @@ impl Cursor<'_> {
         with_one(pairs, Pair { key, value })
     }
 
+    /// The arguments of a call inside one bracket more, and its end.
+    #[cycle(expressions)]
+    #[tactic(auto, unfolding(crate::specs::Grammar::in_brackets))]
+    pub fn in_brackets(&mut self, alloc: Global, depth: u8) -> Result<Passed, Error>
+        ensures { Parses result self.new ((in_brackets (inside depth)).reads self.old) }
+    {
+        self.room(depth)?;
+        self.all_passed(alloc, depth)
+    }
+
     /// The arguments of a call, and the end of its brackets.
     #[cycle(expressions)]
     #[tactic(auto, unfolding(crate::specs::Grammar::all_passed))]
-    pub fn all_passed(&mut self, alloc: Global, depth: u8) -> Result<Passed, Error>
+    fn all_passed(&mut self, alloc: Global, depth: u8) -> Result<Passed, Error>
         ensures { Parses result self.new ((all_passed (inside depth)).reads self.old) }
     {
         let given = Passed {
@@ -317,10 +327,8 @@ impl Cursor<'_> {
     ) -> Result<Passed, Error>
         ensures { Parses result self.new ((keyword (inside depth) given name).reads self.old) }
     {
-        let mut given = given;
         let value = self.inner_expr(alloc, depth)?;
-        given.by_name.push(Keyword::Named(name, value))?;
-        Ok(given)
+        with_keyword(given, Keyword::Named(name, value))
     }
 
     /// A map of arguments by their names, behind its `**`.
@@ -329,10 +337,8 @@ impl Cursor<'_> {
     fn spread_map(&mut self, alloc: Global, depth: u8, given: Passed) -> Result<Passed, Error>
         ensures { Parses result self.new ((spread_map (inside depth) given).reads self.old) }
     {
-        let mut given = given;
         let value = self.inner_expr(alloc, depth)?;
-        given.by_name.push(Keyword::Spread(value))?;
-        Ok(given)
+        with_keyword(given, Keyword::Spread(value))
     }
 
     /// A list of arguments by their places, behind its `*`; it stands behind none by its name.
@@ -344,10 +350,8 @@ impl Cursor<'_> {
         if !given.by_name.is_empty() {
             return Err(refusal());
         }
-        let mut given = given;
         let value = self.inner_expr(alloc, depth)?;
-        given.by_place.push(Argument::Spread(value))?;
-        Ok(given)
+        with_argument(given, Argument::Spread(value))
     }
 
     /// An argument by its place, which stands behind none by its name.
@@ -359,9 +363,31 @@ impl Cursor<'_> {
         if !given.by_name.is_empty() {
             return Err(refusal());
         }
-        let mut given = given;
         let value = self.inner_expr(alloc, depth)?;
-        given.by_place.push(Argument::Plain(value))?;
-        Ok(given)
+        with_argument(given, Argument::Plain(value))
     }
+}
+
+/// What is passed, with one argument more by its place. OutOfMemory for want of memory.
+fn with_argument(given: Passed, argument: Argument) -> Result<Passed, Error>
+    ensures { MatchResult result
+        (λ more. more ≡ passed (given.by_place ++ argument ∷ []) given.by_name)
+        (λ e. e ≡ OutOfMemory ∷ []) }
+{
+    Ok(Passed {
+        by_place: with_one(given.by_place, argument)?,
+        by_name: given.by_name,
+    })
+}
+
+/// What is passed, with one argument more by its name. OutOfMemory for want of memory.
+fn with_keyword(given: Passed, keyword: Keyword) -> Result<Passed, Error>
+    ensures { MatchResult result
+        (λ more. more ≡ passed given.by_place (given.by_name ++ keyword ∷ []))
+        (λ e. e ≡ OutOfMemory ∷ []) }
+{
+    Ok(Passed {
+        by_place: given.by_place,
+        by_name: with_one(given.by_name, keyword)?,
+    })
 }

@@ -3,8 +3,8 @@ ghost use Rattle.std.specs.Prelude.{◌≡◌, ◌++◌, [], ◌∷◌, false, i
 ghost use Rattle.tm_parser.specs.Parses.{Parses};
 ghost use Rattle.tm_parser.specs.Grammar.{inside};
 ghost use Rattle.tm_parser.specs.Statements as spec;
-ghost use Rattle.tm_parser.specs.Statements.{autoescape_tag, block_end, body, captured, do_tag, elif_tag, else_or_end};
-ghost use Rattle.tm_parser.specs.Statements.{else_tag, emission, filter_tag, for_body, for_tag, if_tag, inner, jump, rest, set_block, set_tag};
+ghost use Rattle.tm_parser.specs.Statements.{autoescape_tag, block_end, body, body_behind, captured, do_tag, elif_tag};
+ghost use Rattle.tm_parser.specs.Statements.{else_or_end, else_tag, emission, ended_body, filter_tag, for_body, for_tag, if_tag, inner, jump, rest, set_block, set_tag};
 ghost use Rattle.tm_parser.specs.Statements.{set_value, statement, with_tag};
 ghost use Rattle.tm_grammar.specs.Combinators.{one_more, provided};
 ghost use Rattle.tm_syntax.specs.declared.tree.Stmt.TheVariants.{Break, Continue};
@@ -272,10 +272,41 @@ impl Cursor<'_> {
     ) -> Result<Option<Items<Stmt>>, Error>
         ensures { Parses result self.new ((else_tag (inner depth) end looping).reads self.old) }
     {
+        let body = self.body_behind(alloc, depth, end, looping)?;
+        Ok(Some(body))
+    }
+
+    /// The end of a tag, a body and this end tag.
+    #[cycle(statements)]
+    #[tactic(auto, unfolding(crate::specs::Statements::body_behind))]
+    pub fn body_behind(
+        &mut self,
+        alloc: Global,
+        depth: u8,
+        end: Tag,
+        looping: bool,
+    ) -> Result<Items<Stmt>, Error>
+        ensures { Parses result self.new ((body_behind (inner depth) end looping).reads self.old) }
+    {
         self.expect(Sign::BlockEnd)?;
+        self.ended_body(alloc, depth, end, looping)
+    }
+
+    /// A body and this end tag.
+    #[cycle(statements)]
+    #[tactic(auto, unfolding(crate::specs::Statements::ended_body))]
+    fn ended_body(
+        &mut self,
+        alloc: Global,
+        depth: u8,
+        end: Tag,
+        looping: bool,
+    ) -> Result<Items<Stmt>, Error>
+        ensures { Parses result self.new ((ended_body (inner depth) end looping).reads self.old) }
+    {
         let body = self.inner_body(alloc, depth, looping)?;
         self.expect_lone(end)?;
-        Ok(Some(body))
+        Ok(body)
     }
 
     /// The target of a `for`, what it goes over, its condition, whether it can be called, its body,
@@ -389,12 +420,11 @@ impl Cursor<'_> {
             ((set_block (inside depth) (inner depth) looping target).reads self.old) }
     {
         let filters = self.more_filters(alloc, depth, Items::new(alloc))?;
-        self.expect(Sign::BlockEnd)?;
         let becomes = CaptureUse::Assign(target);
         self.captured(alloc, depth, Tag::Endset, looping, becomes, filters)
     }
 
-    /// A body whose text is filtered and used, up to this end tag.
+    /// The end of a tag and a body whose text is filtered and used, up to this end tag.
     #[cycle(statements)]
     #[tactic(auto, unfolding(crate::specs::Statements::captured))]
     fn captured(
@@ -409,8 +439,7 @@ impl Cursor<'_> {
         ensures { Parses result self.new
             ((captured (inner depth) end looping becomes filters).reads self.old) }
     {
-        let body = self.inner_body(alloc, depth, looping)?;
-        self.expect_lone(end)?;
+        let body = self.body_behind(alloc, depth, end, looping)?;
         Ok(Stmt::CaptureBlock(becomes, filters, body))
     }
 
@@ -423,7 +452,6 @@ impl Cursor<'_> {
     {
         let first = self.one_filter(alloc, depth, Items::new(alloc))?;
         let filters = self.more_filters(alloc, depth, first)?;
-        self.expect(Sign::BlockEnd)?;
         self.captured(
             alloc,
             depth,
@@ -442,8 +470,7 @@ impl Cursor<'_> {
             ((with_tag (inside depth) (inner depth) looping).reads self.old) }
     {
         let given = self.assignments(alloc, depth)?;
-        let body = self.inner_body(alloc, depth, looping)?;
-        self.expect_lone(Tag::Endwith)?;
+        let body = self.ended_body(alloc, depth, Tag::Endwith, looping)?;
         Ok(Stmt::With(given, body))
     }
 
@@ -455,9 +482,7 @@ impl Cursor<'_> {
             ((autoescape_tag (inside depth) (inner depth) looping).reads self.old) }
     {
         let value = self.inner_expr(alloc, depth)?;
-        self.expect(Sign::BlockEnd)?;
-        let body = self.inner_body(alloc, depth, looping)?;
-        self.expect_lone(Tag::Endautoescape)?;
+        let body = self.body_behind(alloc, depth, Tag::Endautoescape, looping)?;
         Ok(Stmt::AutoEscape(value, body))
     }
 

@@ -35,6 +35,9 @@ decreases-more_passed l = nesting_room * l.depth + 3
 abbrev pub decreases-all_passed : goal.decreases-all_passed
 decreases-all_passed l = nesting_room * l.depth + 4
 
+abbrev pub decreases-in_brackets : goal.decreases-in_brackets
+decreases-in_brackets l = nesting_room * l.depth + 5
+
 abbrev pub decreases-one_expr : goal.decreases-one_expr
 decreases-one_expr l = nesting_room * l.depth + 1
 
@@ -72,83 +75,83 @@ abbrev pub decreases-slice : goal.decreases-slice
 decreases-slice l = nesting_room * l.depth + 3
 
 abbrev pub decreases-called : goal.decreases-called
-decreases-called l = nesting_room * l.depth + 5
+decreases-called l = nesting_room * l.depth + 6
 
 abbrev pub decreases-named_step : goal.decreases-named_step
 decreases-named_step l = nesting_room * l.depth + 6
 
 abbrev pub decreases-given : goal.decreases-given
-decreases-given l = nesting_room * l.depth + 5
+decreases-given l = nesting_room * l.depth + 6
 
 abbrev pub decreases-filter_step : goal.decreases-filter_step
-decreases-filter_step l = nesting_room * l.depth + 6
+decreases-filter_step l = nesting_room * l.depth + 7
 
 abbrev pub decreases-passed_to_test : goal.decreases-passed_to_test
-decreases-passed_to_test l = nesting_room * l.depth + 6
+decreases-passed_to_test l = nesting_room * l.depth + 7
 
 abbrev pub decreases-tested : goal.decreases-tested
-decreases-tested l = nesting_room * l.depth + 7
+decreases-tested l = nesting_room * l.depth + 8
 
 abbrev pub decreases-test_step : goal.decreases-test_step
-decreases-test_step l = nesting_room * l.depth + 8
+decreases-test_step l = nesting_room * l.depth + 9
 
 abbrev pub decreases-subscript : goal.decreases-subscript
 decreases-subscript l = nesting_room * l.depth + 5
 
 abbrev pub decreases-call_step : goal.decreases-call_step
-decreases-call_step l = nesting_room * l.depth + 5
+decreases-call_step l = nesting_room * l.depth + 6
 
 abbrev pub decreases-named : goal.decreases-named
-decreases-named l = nesting_room * l.depth + 6
+decreases-named l = nesting_room * l.depth + 7
 
 abbrev pub decreases-closed : goal.decreases-closed
-decreases-closed l = nesting_room * l.depth + 7
+decreases-closed l = nesting_room * l.depth + 8
 
 abbrev pub decreases-bracketed : goal.decreases-bracketed
-decreases-bracketed l = nesting_room * l.depth + 8
+decreases-bracketed l = nesting_room * l.depth + 9
 
 abbrev pub decreases-primary : goal.decreases-primary
-decreases-primary l = nesting_room * l.depth + 9
+decreases-primary l = nesting_room * l.depth + 10
 
 -- and so has each level
 abbrev level_room : ℕ
 level_room = 10
 
 abbrev pub decreases-climb : goal.decreases-climb
-decreases-climb l = nesting_room * l.depth + level_room * l.end + 8
+decreases-climb l = nesting_room * l.depth + level_room * l.end + 9
 
 abbrev pub decreases-operand_start : goal.decreases-operand_start
-decreases-operand_start l = nesting_room * l.depth + 10
+decreases-operand_start l = nesting_room * l.depth + 11
 
 abbrev pub decreases-operand : goal.decreases-operand
-decreases-operand l = nesting_room * l.depth + level_room * l.level + 11
+decreases-operand l = nesting_room * l.depth + level_room * l.level + 12
 
 abbrev pub decreases-operation : goal.decreases-operation
-decreases-operation l = nesting_room * l.depth + level_room * l.level + 12
+decreases-operation l = nesting_room * l.depth + level_room * l.level + 13
 
 abbrev pub decreases-one_comparison : goal.decreases-one_comparison
-decreases-one_comparison l = nesting_room * l.depth + level_room * l.level + 12
+decreases-one_comparison l = nesting_room * l.depth + level_room * l.level + 13
 
 abbrev pub decreases-comparisons : goal.decreases-comparisons
-decreases-comparisons l = nesting_room * l.depth + level_room * l.level + 13
+decreases-comparisons l = nesting_room * l.depth + level_room * l.level + 14
 
 abbrev pub decreases-comparison : goal.decreases-comparison
-decreases-comparison l = nesting_room * l.depth + level_room * l.level + 14
+decreases-comparison l = nesting_room * l.depth + level_room * l.level + 15
 
 abbrev pub decreases-conjunction : goal.decreases-conjunction
-decreases-conjunction l = nesting_room * l.depth + level_room * l.level + 12
+decreases-conjunction l = nesting_room * l.depth + level_room * l.level + 13
 
 abbrev pub decreases-disjunction : goal.decreases-disjunction
-decreases-disjunction l = nesting_room * l.depth + level_room * l.level + 12
+decreases-disjunction l = nesting_room * l.depth + level_room * l.level + 13
 
 abbrev pub decreases-step : goal.decreases-step
-decreases-step l = nesting_room * l.depth + level_room * l.level + 15
+decreases-step l = nesting_room * l.depth + level_room * l.level + 16
 
 abbrev pub decreases-one_step : goal.decreases-one_step
-decreases-one_step l = nesting_room * l.depth + level_room * l.level + 16
+decreases-one_step l = nesting_room * l.depth + level_room * l.level + 17
 
 abbrev pub decreases-steps : goal.decreases-steps
-decreases-steps l = nesting_room * l.depth + level_room * l.level + 17
+decreases-steps l = nesting_room * l.depth + level_room * l.level + 18
 
 abbrev pub decreases-whole : goal.decreases-whole
 decreases-whole l = nesting_room * l.depth + 100

@@ -20,7 +20,7 @@ abbrev pub decreases-elif_tag : goal.decreases-elif_tag
 decreases-elif_tag l = nesting_room * l.depth + 1
 
 abbrev pub decreases-else_tag : goal.decreases-else_tag
-decreases-else_tag l = nesting_room * l.depth + 1
+decreases-else_tag l = nesting_room * l.depth + 3
 
 abbrev pub decreases-if_tag : goal.decreases-if_tag
 decreases-if_tag l = nesting_room * l.depth + 1
@@ -29,61 +29,64 @@ abbrev pub decreases-for_body : goal.decreases-for_body
 decreases-for_body l = nesting_room * l.depth + 1
 
 abbrev pub decreases-captured : goal.decreases-captured
-decreases-captured l = nesting_room * l.depth + 1
+decreases-captured l = nesting_room * l.depth + 3
 
 abbrev pub decreases-for_tag : goal.decreases-for_tag
 decreases-for_tag l = nesting_room * l.depth + 2
 
-abbrev pub decreases-closed_body : goal.decreases-closed_body
-decreases-closed_body l = nesting_room * l.depth + 1
+abbrev pub decreases-ended_body : goal.decreases-ended_body
+decreases-ended_body l = nesting_room * l.depth + 1
+
+abbrev pub decreases-body_behind : goal.decreases-body_behind
+decreases-body_behind l = nesting_room * l.depth + 2
 
 abbrev pub decreases-named_body : goal.decreases-named_body
-decreases-named_body l = nesting_room * l.depth + 2
+decreases-named_body l = nesting_room * l.depth + 1
 
 abbrev pub decreases-block_tag : goal.decreases-block_tag
-decreases-block_tag l = nesting_room * l.depth + 3
+decreases-block_tag l = nesting_room * l.depth + 2
 
 abbrev pub decreases-macro_tag : goal.decreases-macro_tag
-decreases-macro_tag l = nesting_room * l.depth + 3
+decreases-macro_tag l = nesting_room * l.depth + 2
 
 abbrev pub decreases-call_block : goal.decreases-call_block
-decreases-call_block l = nesting_room * l.depth + 2
+decreases-call_block l = nesting_room * l.depth + 3
 
 abbrev pub decreases-call_tag : goal.decreases-call_tag
-decreases-call_tag l = nesting_room * l.depth + 3
+decreases-call_tag l = nesting_room * l.depth + 4
 
 abbrev pub decreases-with_tag : goal.decreases-with_tag
-decreases-with_tag l = nesting_room * l.depth + 1
+decreases-with_tag l = nesting_room * l.depth + 2
 
 abbrev pub decreases-set_block : goal.decreases-set_block
-decreases-set_block l = nesting_room * l.depth + 2
+decreases-set_block l = nesting_room * l.depth + 4
 
 abbrev pub decreases-filter_tag : goal.decreases-filter_tag
-decreases-filter_tag l = nesting_room * l.depth + 2
+decreases-filter_tag l = nesting_room * l.depth + 4
 
 abbrev pub decreases-autoescape_tag : goal.decreases-autoescape_tag
-decreases-autoescape_tag l = nesting_room * l.depth + 1
+decreases-autoescape_tag l = nesting_room * l.depth + 3
 
 abbrev pub decreases-set_tag : goal.decreases-set_tag
-decreases-set_tag l = nesting_room * l.depth + 3
+decreases-set_tag l = nesting_room * l.depth + 5
 
 abbrev pub decreases-else_or_end : goal.decreases-else_or_end
-decreases-else_or_end l = nesting_room * l.depth + 2
+decreases-else_or_end l = nesting_room * l.depth + 4
 
 abbrev pub decreases-rest : goal.decreases-rest
-decreases-rest l = nesting_room * l.depth + 3
+decreases-rest l = nesting_room * l.depth + 5
 
 abbrev pub decreases-statement : goal.decreases-statement
-decreases-statement l = nesting_room * l.depth + 4
+decreases-statement l = nesting_room * l.depth + 6
 
 abbrev pub decreases-other_statement : goal.decreases-other_statement
-decreases-other_statement l = nesting_room * l.depth + 5
+decreases-other_statement l = nesting_room * l.depth + 7
 
 abbrev pub decreases-one_statement : goal.decreases-one_statement
-decreases-one_statement l = nesting_room * l.depth + 6
+decreases-one_statement l = nesting_room * l.depth + 8
 
 abbrev pub decreases-body : goal.decreases-body
-decreases-body l = nesting_room * l.depth + 7
+decreases-body l = nesting_room * l.depth + 9
 
 abbrev pub invariant-body-loop-body : goal.invariant-body-loop-body
 invariant-body-loop-body l = (more_statements (inside l.depth) (inner l.depth) l.looping l.body).reads l.self ≡
