@@ -1,5 +1,5 @@
 -- Statements as one thing, and the blocks among them.
-use Rattle.std.specs.Prelude.{ℕ, List, [], ◌∷◌, ◌++◌, map as each, Bool}
+use Rattle.std.specs.Prelude.{ℕ, List, [], ◌∷◌, ◌++◌, Bool}
 use mathlib.Core.Former.{Count}
 use Rattle.tm_syntax.specs.declared.tree.Stmt.{EmitRaw, EmitExpr, EmitLoop, EmitBlock, EmitSuper, Break, Continue, Extends, Set, Do}
 use Rattle.tm_syntax.specs.declared.tree.Stmt.{Stmt, If', For', Block', CaptureBlock', With', AutoEscape', Macro', CallBlock', Row_of-Stmt}
@@ -24,12 +24,15 @@ pub record FoundBlock : Type 0 where
   pub required : Bool
   pub body : Body
 
+abbrev pub found_block : Bool → Body → FoundBlock
+found_block required body = record { required = required; body = body }
+
 -- the blocks of statements at any depth, each behind those that stand in it
 abbrev mutual
   pub blocks_of : Stmt → Named FoundBlock
   blocks_of (If' c _ body other) = blocks_in body ++ blocks_else other
   blocks_of (For' t e c r _ body other) = blocks_in body ++ blocks_else other
-  blocks_of (Block' x required _ body) = blocks_in body ++ (x, record { required = required; body = body_of body }) ∷ []
+  blocks_of (Block' x required _ body) = blocks_in body ++ (x, found_block required (body_of body)) ∷ []
   blocks_of (CaptureBlock' u filters _ body) = blocks_in body
   blocks_of (With' given _ body) = blocks_in body
   blocks_of (AutoEscape' e _ body) = blocks_in body
@@ -57,10 +60,3 @@ abbrev mutual
 -- the instructions of a body
 abbrev pub code_of : Body → List Instruction
 code_of body = stream_code body.row
-
--- a block with its instructions
-abbrev pub compiled : List ℕ × FoundBlock → List ℕ × List Instruction
-compiled b = (b.0, code_of b.1.body)
-
-abbrev pub compiled_blocks : Named FoundBlock → Named (List Instruction)
-compiled_blocks bs = each compiled bs
