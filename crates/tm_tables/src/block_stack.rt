@@ -1,5 +1,5 @@
 //! The block of one name in a chain of templates.
-ghost use Rattle.std.specs.Prelude.{◌≡◌, ◌+◌, [], ◌∷◌, ◌++◌, length, slice_get, IfErr, IfOk, OnErr, OnOk};
+ghost use Rattle.std.specs.Prelude.{◌≡◌, ◌+◌, [], ◌∷◌, ◌++◌, length, slice_get, None, Some, MatchOption, IfErr, IfOk, OnErr, OnOk};
 ghost use Rattle.tm_values.specs.Answer.{IsLent, OkOrOutOfMemory};
 ghost use Rattle.tm_values.specs.declared.error.ErrorKind.TheVariants.{OutOfMemory};
 
@@ -45,14 +45,20 @@ impl BlockStack {
         self.templates.get(self.place)
     }
 
-    /// The template behind that one, toward the root, where there is one.
-    pub fn next(&self) -> Option<&TemplateId>
-        ensures { IsLent result (slice_get self.now.templates (self.now.place + 1)) }
+    /// The place behind that one, toward the root, and the template there, where there is one.
+    pub fn next(&self) -> Option<(usize, &TemplateId)>
+        ensures { MatchOption result (slice_get self.now.templates (self.now.place + 1) ≡ None)
+            (λ r. (r.0 ≡ self.now.place + 1)
+            × (slice_get self.now.templates (self.now.place + 1) ≡ Some r.1.now)) }
     {
         if self.place >= self.templates.len() {
             return None;
         }
-        self.templates.get(self.place + 1)
+        let place = self.place + 1;
+        match self.templates.get(place) {
+            Some(template) => Some((place, template)),
+            None => None,
+        }
     }
 
     /// How many templates have the block.
