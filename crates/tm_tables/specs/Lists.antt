@@ -4,7 +4,7 @@ use Rattle.std.specs.Map.{keys_of}
 use Rattle.std.specs.Prelude.{◌≡◌, ℕ, List, [], ◌∷◌, Option, Some, None, option_map, is_some}
 use Rattle.tm_syntax.specs.Named.{Named, find, put}
 use Rattle.tm_syntax.specs.Names.{is_among}
-use Rattle.tm_syntax.specs.declared.instruction.Instruction.{Instruction}
+use Rattle.tm_syntax.specs.declared.code.BlockCode.{BlockCode}
 use Rattle.tm_meaning.specs.World.{Layers, Template}
 use Rattle.tm_meaning.specs.declared.stream.TemplateId.{TemplateId}
 use Rattle.tm_meaning.specs.Inheritance.{behind_all, put_list}
@@ -34,7 +34,7 @@ with_each t [] ls = ls
 with_each t (x ∷ xs) ls = with_each t xs (with_block t x ls)
 
 -- These are the blocks of the template that was found, by their names; or none was.
-abbrev pub AreBlocksOf : Option (Bor (Named (List Instruction))) → Option Template → Type 0
+abbrev pub AreBlocksOf : Option (Bor (Named BlockCode)) → Option Template → Type 0
 AreBlocksOf (Some blocks) found = (t : Template) × (found ≡ Some t) × (keys_of t.blocks ≡ keys_of blocks.now)
 AreBlocksOf None found = found ≡ None
 

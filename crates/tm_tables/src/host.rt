@@ -13,7 +13,7 @@ use crate::callable::{CallableAnswer, Called};
 use crate::view::View;
 use std::alloc::Global;
 use tm_meaning::{StreamId, TemplateId};
-use tm_syntax::{Code, Name, NameMap};
+use tm_syntax::{BlockCode, Code, Name, NameMap};
 use tm_values::{Error, UndefinedBehavior, Value};
 
 /// What a render runs under: the environment, the rendered template and all objects of the caller, as one.
@@ -49,7 +49,7 @@ pub trait Host {
         ensures { IsAnswer result ((meaning self.now).join name.now running.now) };
 
     /// The blocks of the template of a name, where there is one.
-    fn blocks_of(&self, name: &str) -> Option<&NameMap<Code>>
+    fn blocks_of(&self, name: &str) -> Option<&NameMap<BlockCode>>
         ensures { AreBlocksOf result (find name.now (meaning self.now).templates) };
 
     /// The instructions of a stream.

@@ -12,7 +12,7 @@ use crate::name_table::NameTable;
 use std::alloc::{AllocError, Global};
 use std::marker::Model;
 use tm_meaning::TemplateId;
-use tm_syntax::{Code, Name, NameMap};
+use tm_syntax::{BlockCode, Name, NameMap};
 use tm_values::{Error, ErrorKind};
 
 impl NameTable<BlockStack> {
@@ -47,7 +47,7 @@ impl NameTable<BlockStack> {
         &mut self,
         alloc: Global,
         template: &TemplateId,
-        blocks: &NameMap<Code>,
+        blocks: &NameMap<BlockCode>,
     ) -> Result<(), Error>
         ensures ok { OnOk result
             (self.new ≡ with_each template.now (keys_of blocks.now) self.old) }
@@ -130,7 +130,7 @@ impl Lists {
         &mut self,
         alloc: Global,
         template: &TemplateId,
-        blocks: &NameMap<Code>,
+        blocks: &NameMap<BlockCode>,
     ) -> Result<(), Error>
         ensures ok { OnOk result
             (self.new.blocks ≡ with_each template.now (keys_of blocks.now) self.old.blocks) }
