@@ -69,7 +69,7 @@ loaded_by p ts x t names false at found fresh more =
     (among_more p.0 names (x ∷ [])) (more found)
 
 -- a template that is there and was not loaded is one less
-count_loaded : (ts : Named Template) (x : List ℕ) (t : Template) (names : List (List ℕ)) → find x ts ≡ Some t →
+pub count_loaded : (ts : Named Template) (x : List ℕ) (t : Template) (names : List (List ℕ)) → find x ts ≡ Some t →
     is_among x names ≡ false → count_left ts (names ++ x ∷ []) + 1 ≤ count_left ts names
 count_loaded [] x t names found fresh = absurd (cc found)
 count_loaded (p ∷ ts) x t names found fresh =
