@@ -73,7 +73,7 @@ silent {p = p} {f = f} {n = n} {old = old} {new = new} {told = told} (Err halt.S
   did = (s.did, beginning_nothing told (output n));
   counted = refl;
   kept = fixed_of s.kept;
-      names = same_names p.host s.kept;
+  names = same_names p.host s.kept;
   depths = stays f old.world new.world s.same_scopes;
   same_stream = s.same_stream;
 }
@@ -81,7 +81,7 @@ silent {p = p} {f = f} {n = n} {old = old} {new = new} {told = told} (Err (halt.
   did = (s.did, beginning_nothing told (output n));
   counted = refl;
   kept = fixed_of s.kept;
-      names = same_names p.host s.kept;
+  names = same_names p.host s.kept;
   depths = stays f old.world new.world s.same_scopes;
   same_stream = s.same_stream;
 }
@@ -115,7 +115,7 @@ opened {p = p} {f = f} {n = n} {old = old} {new = new} {told = told} (Err halt.S
   did = (s.did, beginning_nothing told (output n));
   counted = refl;
   kept = fixed_of s.kept;
-      names = same_names p.host s.kept;
+  names = same_names p.host s.kept;
   depths = stays_over f old.world new.world s.no_fewer;
   same_stream = s.same_stream;
 }
@@ -123,7 +123,7 @@ opened {p = p} {f = f} {n = n} {old = old} {new = new} {told = told} (Err (halt.
   did = (s.did, beginning_nothing told (output n));
   counted = refl;
   kept = fixed_of s.kept;
-      names = same_names p.host s.kept;
+  names = same_names p.host s.kept;
   depths = stays_over f old.world new.world s.no_fewer;
   same_stream = s.same_stream;
 }
@@ -132,8 +132,14 @@ pub shifted : {p : Program} {f : Base} {n : Next} {old new : Config} {told : Opt
     Shifts f n old new result
     → Performs p f n old new told told failures failures result
 shifted {p = p} {n = n} {told = told} (Ok flow.GoOn) s =
-    record { did = nothing_written told s.did; counted = refl; kept = fixed_of s.kept;
-      names = same_names p.host s.kept; depths = s.stays; same_stream = s.same_stream }
+    record {
+      did = nothing_written told s.did;
+      counted = refl;
+      kept = fixed_of s.kept;
+      names = same_names p.host s.kept;
+      depths = s.stays;
+      same_stream = s.same_stream;
+    }
 shifted {p = p} (Ok flow.Done) s = absurd s.did
 shifted {p = p} (Ok flow.Restart) s = absurd s.did
 shifted {p = p} (Ok (flow.Enter e)) s = absurd s.did

@@ -91,12 +91,7 @@ impl Model for Machine {
 
 impl Machine {
     /// A machine at a stream's first instruction, over captures and a state.
-    pub fn new(
-        alloc: Global,
-        stream: StreamId,
-        captures: Captures,
-        state: StateData,
-    ) -> Machine
+    pub fn new(alloc: Global, stream: StreamId, captures: Captures, state: StateData) -> Machine
         ensures { result ≡ running (run_from stream (length captures)) captures state }
     {
         Machine {
