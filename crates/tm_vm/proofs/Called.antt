@@ -1,16 +1,14 @@
 -- How a run goes on behind a call.
 use Rattle.std.specs.Global.{Box}
-use Rattle.std.proofs.Common.{◌≡◌, ◌≤◌, ◌-◌, ◌+◌, ℕ, zero, suc, List, [], ◌∷◌, length, drop, Option, Some, None, Result, Ok, Err, Bool, true, false}
+use Rattle.std.proofs.Common.{◌≡◌, ℕ, List, [], ◌∷◌, length, drop, Option, Some, None, Result, Ok, Err, Bool, true, false}
 use Rattle.std.proofs.Common.{refl, sym, ap, ◌∙◌, subst, arith}
 use Rattle.tm_values.specs.Val.{Val}
 use Rattle.tm_values.specs.declared.error.ErrorKind.{ErrorKind}
-use Rattle.std.proofs.lemmas.List.{length-drop}
 use Rattle.std.specs.Result.{IsErr, IsErrAnd}
-use Rattle.tm_meaning.specs.Memory.{is_want_of_memory}
-use Rattle.tm_meaning.specs.World.{World, Scope, Scopes}
+use Rattle.tm_meaning.specs.World.{World, Scopes}
 use Rattle.tm_syntax.specs.declared.instruction.LoopPlace.{LoopPlace}
-use Rattle.tm_meaning.specs.Calls.{Asked, has, refused, runs, recurs, outermost}
-use Rattle.tm_meaning.specs.Machine.{Capture, Config, Next, Over, Failed, Program, asked, first_run, goes, nested, new_capture, on_taken}
+use Rattle.tm_meaning.specs.Calls.{Asked, runs, recurs}
+use Rattle.tm_meaning.specs.Machine.{Capture, Config, Next, Program, asked, first_run, goes, nested, new_capture, on_taken}
 use Rattle.tm_meaning.specs.Machine.{place_of_loop, recursion, take_n, taken, waiting}
 use Rattle.tm_parts.specs.declared.halt.Halt.{Halt}
 use Rattle.tm_parts.specs.declared.halt.Halt.TheVariants as halt
@@ -22,11 +20,11 @@ use Rattle.tm_state.specs.declared.saved.Saved.TheVariants as saved
 use Rattle.tm_state.specs.declared.saved.SavedBlock.{SavedBlock}
 use Rattle.tm_state.specs.declared.saved.SavedMacro.{SavedMacro}
 use Rattle.tm_state.specs.declared.nested.NestedRun.{NestedRun}
-use Rattle.tm_state.specs.Answers.{Becomes, KeepsFixedAndNames, Leaves, NamedBecomes, NeedsAny, NeedsRun, OneDeeper, SameScopes, StaysInPlace, call_of}
+use Rattle.tm_state.specs.Answers.{Becomes, KeepsFixedAndNames, Leaves, NamedBecomes, NeedsAny, OneDeeper, StaysInPlace, call_of}
 use Rattle.tm_state.specs.State.{IsSaved, callee_of, put_back}
 use Rattle.tm_vm.specs.declared.flow.Flow.{Flow}
 use Rattle.tm_vm.specs.declared.flow.Flow.TheVariants as flow
-use Rattle.tm_vm.specs.Answers.{EntersAsValue, Enters, GoesOnWith, Needed, Needs, NoFewer, Opens, Quietly, Silently, entered}
+use Rattle.tm_vm.specs.Answers.{EntersAsValue, Enters, GoesOnWith, Needs, NoFewer, Opens, Silently, entered}
 use Rattle.tm_vm.proofs.Counted.{calling}
 use Rattle.tm_vm.proofs.Loop.{kept_then, outermost_long}
 use Rattle.tm_vm.proofs.Performed.{still}

@@ -1,13 +1,13 @@
 -- What is emitted at once.
 use Rattle.std.proofs.Common.{◌≡◌, ◌≢◌, ℕ, List, [], ◌∷◌, ◌+◌, Option, None, Some, is_some, Result}
-use Rattle.std.proofs.Common.{Ok, Err, Bool, true, false, drop, refl, sym, ◌∙◌, ap, subst, arith}
+use Rattle.std.proofs.Common.{Ok, Err, true, false, drop, refl, sym, ◌∙◌, ap, subst, arith}
 use Rattle.std.specs.Prelude.{MatchResult}
 use Rattle.std.specs.Io.KnownBytes.{Appends}
 use Rattle.tm_values.specs.Val.{Val}
 use Rattle.tm_values.specs.Defined.{refusal_of}
 use Rattle.tm_values.specs.declared.undefined.UndefinedUse.TheVariants.{Emission}
 use Rattle.tm_definitions.specs.Emitted.{emission_verdict, emitted_text}
-use Rattle.tm_meaning.specs.World.{World, HostValue, Format, Good, emitted, records_of, choose}
+use Rattle.tm_meaning.specs.World.{World, HostValue, Format, Good, emitted, records_of}
 use Rattle.tm_meaning.specs.Instructions.{emit_of, emit_raw_of}
 use Rattle.tm_meaning.specs.Machine.{Capture, Config, Next, More, after, audible, on, on_top, put_in, put_out, with_world, writes}
 use Rattle.tm_meaning.specs.declared.base.Base.{Base}

@@ -33,13 +33,13 @@ use Rattle.tm_state.specs.declared.saved.Saved.TheVariants as saved
 use Rattle.tm_state.specs.declared.saved.SavedBlock.{SavedBlock}
 use Rattle.tm_state.specs.declared.saved.SavedMacro.{SavedMacro}
 use Rattle.tm_vm.specs.Nested.{IsCaptured, RanNested, Went, EndsIn, WroteBeginning, IsBack, IsWrapped, StandsOn, behind, begins_in, base_in}
-use Rattle.tm_state.specs.State.{IsSaved, IsSavedSuper, behind_block, callee_of, put_back, saved_scopes, undo_of}
+use Rattle.tm_state.specs.State.{IsSaved, IsSavedSuper, behind_block, callee_of, put_back, undo_of}
 use Rattle.std.specs.Prelude.{option_map}
 use Rattle.tm_syntax.specs.Named.{find}
 use Rattle.tm_meaning.specs.Calls.{block_undone, of_super}
 use Rattle.tm_meaning.specs.Inheritance.{at_place_of, names_left, put_list}
 use Rattle.tm_meaning.specs.World.{HostValue, Layers}
-use Rattle.tm_tables.specs.Lists.{ListsValue, placed_at}
+use Rattle.tm_tables.specs.Lists.{placed_at}
 use Rattle.tm_state.specs.declared.saved.SavedSuper.{SavedSuper}
 use Rattle.tm_vm.proofs.Shift.{alone, behind_text}
 

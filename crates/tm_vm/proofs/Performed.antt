@@ -19,18 +19,17 @@ use Rattle.tm_vm.proofs.Loop.{fixed_same, fixed_then, kept_same}
 use Rattle.std.proofs.Common.{◌≤◌}
 use Rattle.tm_meaning.specs.Inheritance.{names_left}
 use Rattle.tm_meaning.specs.World.{HostValue}
-use Rattle.tm_meaning.specs.declared.stream.TemplateId.{TemplateId}
 use Rattle.tm_meaning.specs.declared.base.Base.{Base}
 use Rattle.tm_output.specs.Pieces.{appends_nothing, beginning_nothing}
 use Rattle.tm_parts.specs.declared.halt.Halt.{Halt}
 use Rattle.tm_parts.specs.declared.halt.Halt.TheVariants as halt
-use Rattle.tm_meaning.specs.World.{World, Good, block_of, choose}
+use Rattle.tm_meaning.specs.World.{World, Good, choose}
 use Rattle.tm_state.specs.State.{IsSaved, runs_block, saved_of}
 use Rattle.tm_state.specs.declared.saved.Saved.{Saved}
 use Rattle.tm_state.specs.declared.saved.Saved.TheVariants as saved
 use Rattle.tm_state.specs.declared.nested.RunOf.TheVariants as run_of
 use Rattle.tm_vm.specs.Answers.{Depths, Did, Enters, entered, Performs, Writes, Silently, Opens, Shifts, Needs, Loads, Finishes}
-use Rattle.tm_vm.specs.Answers.{NoFewer, KeepsBaseScopes, Names, StaysIn, output}
+use Rattle.tm_vm.specs.Answers.{NoFewer, KeepsBaseScopes, Names, output}
 use Rattle.tm_vm.specs.AtOnce.{Attempted, IsAtOnce, IsCharged, IsFree, IsPaid, attempt_of, captured_of, free_attempt_of, paid}
 use Rattle.tm_vm.specs.AtOnce.{written_of}
 use Rattle.tm_output.specs.declared.target.TargetFailed.{TargetFailed}

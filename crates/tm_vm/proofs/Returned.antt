@@ -1,9 +1,8 @@
 -- Where a called loop ends whose text is a value.
 use Rattle.std.proofs.Common.{◌≡◌, List, [], ◌∷◌, Option, refl, ap, ◌∙◌, true}
-use Rattle.tm_meaning.specs.World.{captured_text}
 use Rattle.tm_meaning.specs.declared.run_text.RunText.TheVariants as texts
 use Rattle.tm_meaning.specs.declared.stream.TemplateId.{TemplateId}
-use Rattle.tm_meaning.specs.Machine.{Return, Capture, Config, More, back_with, pushed}
+use Rattle.tm_meaning.specs.Machine.{Return, Capture, Config, back_with}
 use Rattle.tm_meaning.specs.Instructions.{with_text, returns}
 
 text_on : (parent : Option TemplateId) (ks : List Capture) (c : Config) →

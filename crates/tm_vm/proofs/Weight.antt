@@ -10,7 +10,6 @@ use Rattle.tm_syntax.specs.declared.instruction.Instruction.TheVariants as i
 use Rattle.tm_syntax.specs.declared.instruction.LoopPlace.{LoopPlace}
 use Rattle.tm_syntax.specs.declared.tree.Application.{Application}
 use Rattle.tm_syntax.specs.declared.tree.Application.TheVariants as applications
-use Rattle.tm_syntax.specs.declared.tree.BinaryOperator.TheVariants as binaries
 use Rattle.tm_syntax.specs.declared.tree.UnaryOperator.TheVariants as unaries
 use Rattle.tm_meaning.specs.World.{choose, World, Loop, HostValue, Res, Good, Bad, answered, emitted, looked_up, escape_for, items_over}
 use Rattle.tm_meaning.specs.World.{enclose, make_macro, unpacked_items, set_member, open_loop, top_mark, top_loop, push, plain_scope}
