@@ -18,7 +18,7 @@ use Rattle.tm_values.specs.declared.error.ErrorKind.TheVariants.{InvalidOperatio
 use Rattle.tm_parts.specs.Halts.{failures_after}
 use Rattle.tm_parts.specs.declared.halt.Halt.{Halt}
 use Rattle.tm_parts.specs.declared.halt.Halt.TheVariants as halt
-use Rattle.tm_state.specs.Answers.{KeepsFixedAndLists, NeedsRun, OneDeeper, StaysInPlace, call_of}
+use Rattle.tm_state.specs.Answers.{KeepsFixedAndNames, NeedsRun, OneDeeper, StaysInPlace, call_of}
 use Rattle.tm_state.specs.State.{callee_of, put_back}
 use Rattle.tm_state.specs.declared.saved.Saved.{Saved}
 use Rattle.tm_state.specs.declared.saved.Saved.TheVariants as saved
@@ -178,7 +178,7 @@ text_left captures rest heard text m left ran ended =
 
 -- ---------------------------------------------------------------- what a call needed
 module _ {O : Type 0} (stated : O → StatedObjects) (t : TemplateValue O) (e : NestedRun) (w left : World) (asked : Asked)
-    (needs : NeedsRun e asked w) (kept : KeepsFixedAndLists w left) where
+    (needs : NeedsRun e asked w) (kept : KeepsFixedAndNames w left) where
   abbrev ran : Outcome
   ran = callee_run stated t (callee_of e.run) w
 

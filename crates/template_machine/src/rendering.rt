@@ -104,6 +104,17 @@ impl<O: Parties> Host for Rendering<'_, O> {
         false
     }
 
+    fn joined_name(&self, alloc: Global, name: &str, _running: &str) -> Result<Name, Error> {
+        Ok(Name::new(alloc, name)?)
+    }
+
+    fn blocks_of(&self, name: &str) -> Option<&NameMap<Code>> {
+        match self.environment.find_template(name) {
+            Some(template) => Some(template.blocks()),
+            None => None,
+        }
+    }
+
     fn instructions(&self, stream: &StreamId) -> &Code {
         self.template(&stream.template).stream(&stream.block)
     }

@@ -7,7 +7,7 @@ ghost use Rattle.tm_values.specs.Answer.{IsAnswer, IsLent, OkOrOutOfMemory};
 ghost use Rattle.tm_meaning.specs.World.{emitted, find_name, fuel_levels, name_of, records_of, view_of};
 ghost use Rattle.tm_tables.specs.Known.{AreFound, NamingFails};
 ghost use Rattle.tm_meaning.specs.Calls.{apply_filter, enter_block, perform_test};
-ghost use Rattle.tm_state.specs.Answers.{Becomes, CallLies, IsEmitted, KeepsFixed, KeepsFixedAndLists, NeedsRun, OneDeeper, StaysInPlace};
+ghost use Rattle.tm_state.specs.Answers.{Becomes, CallLies, IsEmitted, KeepsFixed, KeepsFixedAndNames, NeedsRun, OneDeeper, StaysInPlace};
 ghost use Rattle.tm_state.specs.State.{callee_of, exported};
 ghost use Rattle.template_machine.specs.Environment.{host_of};
 ghost use Rattle.template_machine.specs.Renders.{as_text, call_by_name, called_value, callee_run, with_temp, with_world, IsCalled, IsCaptured, IsTested, RanApart};
@@ -28,7 +28,7 @@ use tm_vm::{Machine, run_value};
 /// The state of a render. A contract sees the template that was rendered, and a world of the definitions.
 pub struct StateOf<'env, O: Drop> {
     rendering: Rendering<'env, O>,
-    kept: StateData<'env>,
+    kept: StateData,
 }
 
 // By hand, as the environment's.
@@ -59,7 +59,7 @@ impl<'env, O: Drop> Model for StateOf<'env, O> {
 
 impl<'env, O: Drop> StateOf<'env, O> {
     /// A state of what a render ran under.
-    pub(crate) fn new(rendering: Rendering<'env, O>, kept: StateData<'env>) -> StateOf<'env, O>
+    pub(crate) fn new(rendering: Rendering<'env, O>, kept: StateData) -> StateOf<'env, O>
         ensures { result ≡ record { template = rendering.entry; world = kept.entry } }
     {
         StateOf { rendering, kept }
@@ -217,7 +217,7 @@ impl<'env, O: Parties> StateOf<'env, O> {
         ensures template { self.new.template ≡ self.old.template }
         ensures stays { (limit : _) (before : _) → CallLies limit (Ok called) before self.old.world →
             StaysInPlace before self.new.world }
-        ensures kept { KeepsFixedAndLists self.old.world self.new.world }
+        ensures kept { KeepsFixedAndNames self.old.world self.new.world }
     {
         match called {
             CallResult::Value(value) => Ok(value),
@@ -233,7 +233,7 @@ impl<'env, O: Parties> StateOf<'env, O> {
         ensures template { self.new.template ≡ self.old.template }
         ensures stays { (limit : _) (before : _) → OneDeeper limit run.saved before self.old.world →
             StaysInPlace before self.new.world }
-        ensures kept { KeepsFixedAndLists self.old.world self.new.world }
+        ensures kept { KeepsFixedAndNames self.old.world self.new.world }
     {
         let alloc = self.rendering.allocator();
         let NestedRun {
@@ -255,7 +255,7 @@ impl<'env, O: Parties> StateOf<'env, O> {
             (callee_of run) self.old.world) self.new.world }
         ensures template { self.new.template ≡ self.old.template }
         ensures no_fewer { length self.old.world.scopes.frames ≤ length self.new.world.scopes.frames }
-        ensures kept { KeepsFixedAndLists self.old.world self.new.world }
+        ensures kept { KeepsFixedAndNames self.old.world self.new.world }
     {
         let alloc = self.rendering.allocator();
         let mut captures = Captures::new(alloc);
@@ -275,7 +275,7 @@ impl<'env, O: Parties> StateOf<'env, O> {
             (callee_of run) self.old.world) self.new.world }
         ensures template { self.new.template ≡ self.old.template }
         ensures no_fewer { length self.old.world.scopes.frames ≤ length self.new.world.scopes.frames }
-        ensures kept { KeepsFixedAndLists self.old.world self.new.world }
+        ensures kept { KeepsFixedAndNames self.old.world self.new.world }
     {
         let alloc = self.rendering.allocator();
         let state = self.kept.take(alloc);
@@ -296,7 +296,7 @@ impl<'env, O: Parties> StateOf<'env, O> {
     }
 
     /// Puts data in the place of those that are there.
-    fn put(&mut self, kept: StateData<'env>)
+    fn put(&mut self, kept: StateData)
         ensures { self.new ≡ with_world kept.entry self.old }
     {
         self.kept = kept;

@@ -198,7 +198,7 @@ impl<'env, 'source, O: Parties> TemplateOf<'env, 'source, O> {
     }
 
     /// The state that a render starts from. InvalidOperation where the counter is full, OutOfMemory where there is no memory.
-    fn first_state(&self, ids: &mut StateIds, context: Value) -> Result<StateData<'_>, Error>
+    fn first_state(&self, ids: &mut StateIds, context: Value) -> Result<StateData, Error>
         ensures full { ids.old ≡ greatest →
             (result ≡ Err (ErrorKind.InvalidOperation ∷ [])) × (ids.new ≡ ids.old) }
         ensures next { ids.old < greatest → ids.new ≡ ids.old + 1 }

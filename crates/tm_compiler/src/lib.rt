@@ -8,7 +8,7 @@ pub use source::{one_tree, parse};
 pub use streams::{Streams, generate};
 pub use tm_scanner::{SyntaxConfig, SyntaxConfigBuilder};
 pub use tm_syntax::{
-    Application, Argument, BinaryOperator, CallBlock, Code, Comparison, Condition, Expr, ForLoop,
-    Instruction, Keyword, Macro, Name, NameMap, Pair, Parameter, RawText, Step, Stmt, Tree,
-    UnaryOperator,
+    Application, Argument, BinaryOperator, BlockCode, CallBlock, Code, Comparison, Condition, Expr,
+    ForLoop, Instruction, Keyword, Macro, Name, NameMap, Pair, Parameter, RawText, Step, Stmt,
+    Tree, UnaryOperator,
 };

@@ -1,6 +1,7 @@
 //! The streams of a tree.
 ghost use Rattle.std.specs.Prelude.{◌≡◌, [], ◌∷◌, IfOk, IfErr};
-ghost use Rattle.tm_syntax.specs.Blocks.{blocks_in, compiled_blocks};
+ghost use Rattle.tm_syntax.specs.Blocks.{blocks_in};
+ghost use Rattle.tm_syntax.specs.BlockCodes.{compiled_blocks};
 ghost use Rattle.tm_syntax.specs.Code.{stream_code};
 ghost use Rattle.tm_syntax.specs.Named.{by_name};
 ghost use Rattle.tm_syntax.specs.declared.tree.Stmt.TheBlock.{hidden-the_row-Stmt-0 as statements};
@@ -8,7 +9,7 @@ ghost use Rattle.tm_values.specs.declared.error.ErrorKind.TheVariants.{OutOfMemo
 
 use std::alloc::Global;
 use tm_generator::stream;
-use tm_syntax::{Code, NameMap, Tree};
+use tm_syntax::{BlockCode, Code, NameMap, Tree};
 use tm_values::Error;
 
 /// The streams of a template.
@@ -17,7 +18,7 @@ pub struct Streams {
     /// What a render runs.
     pub root: Code,
     /// What its blocks run, by name.
-    pub blocks: NameMap<Code>,
+    pub blocks: NameMap<BlockCode>,
 }
 
 /// The streams of a tree, which share its texts and literals; OutOfMemory.

@@ -4,8 +4,8 @@ use Rattle.std.specs.Prelude.{true, false, ◌||◌, codes}
 use denote.Hole.Carrier.{hidden}
 use Rattle.tm_values.specs.Val.{text}
 use Rattle.tm_syntax.specs.declared.tree.Argument.{Argument}
-use Rattle.tm_syntax.specs.declared.tree.Expr.{Expr, Var, Const, List', Tuple', Map', Call', Row_of-Argument, end_of-Argument as no_argument}
-use Rattle.tm_syntax.specs.declared.tree.Expr.{more_of-Argument as argument, Row_of-Keyword, end_of-Keyword as no_keyword}
+use Rattle.tm_syntax.specs.declared.tree.Expr.{Expr, Var, Const, List', Tuple', Map', Call', SelfBlock, Row_of-Argument}
+use Rattle.tm_syntax.specs.declared.tree.Expr.{end_of-Argument as no_argument, more_of-Argument as argument, Row_of-Keyword, end_of-Keyword as no_keyword}
 use Rattle.tm_syntax.specs.declared.tree.Expr.{more_of-Keyword as keyword_and, Row_of-Step}
 use Rattle.tm_syntax.specs.declared.tree.Expr.{end_of-Step as no_step, more_of-Step as step}
 use Rattle.tm_syntax.specs.declared.tree.Step.{Step, Attribute, Apply', Call' as Called}
@@ -173,6 +173,7 @@ module _ (end : RowEnd) where
   call-parts (Tuple' _ es) b = alone (expr_code (Tuple' _ es)) b
   call-parts (Map' _ ps) b = alone (expr_code (Map' _ ps)) b
   call-parts (Call' f _ given _ named) b = passes 0 given named (λ n. i.CallFunction f n ∷ []) b
+  call-parts (SelfBlock x) b = alone (expr_code (SelfBlock x)) b
   call-parts (unary op a) b = alone (expr_code (unary op a)) b
   call-parts (chained a _ ss) b = steps-parts ss (put (expr_code a) b)
   call-parts (conditional a _ cs) b = alone (expr_code (conditional a _ cs)) b

@@ -1,5 +1,5 @@
 -- What is put for statements, and their blocks, as the program holds them.
-use Rattle.std.proofs.Common.{◌≡◌, ℕ, List, [], ◌∷◌, ◌++◌, refl, sym, ap, ◌∙◌}
+use Rattle.std.proofs.Common.{◌≡◌, ℕ, Bool, List, [], ◌∷◌, ◌++◌, refl, sym, ap, ◌∙◌}
 use Rattle.std.specs.Prelude.{Some, codes, false}
 use denote.Hole.Carrier.{hidden}
 use Rattle.tm_syntax.specs.declared.tree.Expr.{Expr}
@@ -7,9 +7,10 @@ use Rattle.tm_syntax.specs.declared.tree.ForLoop.{ForLoop}
 use Rattle.tm_syntax.specs.declared.tree.Stmt.{Stmt}
 use Rattle.tm_syntax.specs.declared.tree.Stmt.TheVariants as st
 use Rattle.tm_syntax.specs.declared.tree.Stmt.TheBlock.{hidden-the_row-Stmt-0 as statements, shape-the_row-Stmt-0}
-use Rattle.tm_syntax.specs.declared.instruction.Instruction.{Instruction}
 use Rattle.tm_syntax.specs.declared.opened.Opened.{Opened}
-use Rattle.tm_syntax.specs.Blocks.{Body, body_of, blocks_of, blocks_in, compiled, compiled_blocks}
+use Rattle.tm_syntax.specs.Blocks.{FoundBlock, body_of, blocks_of, blocks_in, found_block}
+use Rattle.tm_syntax.specs.BlockCodes.{block_code, compiled, compiled_blocks}
+use Rattle.tm_syntax.specs.declared.code.BlockCode.{BlockCode}
 use Rattle.tm_values.specs.Val.{text}
 use Rattle.tm_syntax.specs.declared.tree.CallBlock.{CallBlock}
 use Rattle.tm_syntax.specs.declared.tree.Parameter.{Parameter}
@@ -107,12 +108,12 @@ module _ (s s1 : StreamBuilder) (tag : CallBlock) (call call1 : OpenCall) (name 
 
 -- ---------------------------------------------------------------- blocks
 abbrev Blocks : Type 0
-Blocks = Named (List Instruction)
+Blocks = Named BlockCode
 
-abbrev with_blocks : Named Body → Blocks → Blocks
+abbrev with_blocks : Named FoundBlock → Blocks → Blocks
 with_blocks bs m = put_each (compiled_blocks bs) m
 
-compiled_more : (bs cs : Named Body) → compiled_blocks (bs ++ cs) ≡ compiled_blocks bs ++ compiled_blocks cs
+compiled_more : (bs cs : Named FoundBlock) → compiled_blocks (bs ++ cs) ≡ compiled_blocks bs ++ compiled_blocks cs
 compiled_more [] cs = refl
 compiled_more (b ∷ bs) cs = ap (λ l. compiled b ∷ l) (compiled_more bs cs)
 
@@ -120,7 +121,7 @@ put_more : (bs cs : Blocks) (m : Blocks) → put_each (bs ++ cs) m ≡ put_each 
 put_more [] cs m = refl
 put_more (b ∷ bs) cs m = put_more bs cs (put b.0 b.1 m)
 
-both : (bs cs : Named Body) (m : Blocks) → with_blocks (bs ++ cs) m ≡ with_blocks cs (with_blocks bs m)
+both : (bs cs : Named FoundBlock) (m : Blocks) → with_blocks (bs ++ cs) m ≡ with_blocks cs (with_blocks bs m)
 both bs cs m = ap (λ l. put_each l m) (compiled_more bs cs) ∙ put_more (compiled_blocks bs) (compiled_blocks cs) m
 
 blocks-else : (c : Expr) (body other : List Stmt) →
@@ -133,10 +134,10 @@ blocks-for-else : (l : ForLoop) (other : List Stmt) →
 unfolding hidden statements
 blocks-for-else l other = refl
 
-blocks-block : (x : List ℕ) (body : List Stmt) →
-    blocks_of (st.Block x body) ≡ blocks_in (statements body) ++ (x, body_of (statements body)) ∷ []
+blocks-block : (x : List ℕ) (required : Bool) (body : List Stmt) →
+    blocks_of (st.Block x required body) ≡ blocks_in (statements body) ++ (x, found_block required (body_of (statements body))) ∷ []
 unfolding hidden statements
-blocks-block x body = refl
+blocks-block x required body = refl
 
 blocks-nil : blocks_in (statements []) ≡ []
 unfolding hidden statements shape-the_row-Stmt-0
@@ -147,7 +148,7 @@ unfolding hidden statements shape-the_row-Stmt-0
 blocks-cons x xs = refl
 
 -- a body, and then the other one
-two_bodies : (form : Named Body) (body other : List Stmt) (m m1 m2 : Blocks) →
+two_bodies : (form : Named FoundBlock) (body other : List Stmt) (m m1 m2 : Blocks) →
     form ≡ blocks_in (statements body) ++ blocks_in (statements other) → m1 ≡ with_blocks (blocks_in (statements body)) m →
     m2 ≡ with_blocks (blocks_in (statements other)) m1 →
     m2 ≡ with_blocks form m
@@ -166,11 +167,12 @@ pub for-else-blocks : (l : ForLoop) (other : List Stmt) (m m1 m2 : Blocks) → l
 for-else-blocks l other m m1 m2 some p q = two_bodies _ l.body other m m1 m2 (ap (λ o. blocks_of (st.For (record l { other = o }))) some
     ∙ blocks-for-else l other) p q
 
-pub block-blocks : (x : List ℕ) (body : List Stmt) (m m1 : Blocks) →
-    m1 ≡ put x (stream_code (statements body)) (put_each (compiled_blocks (blocks_in (statements body))) m) →
-    m1 ≡ put_each (compiled_blocks (blocks_of (st.Block x body))) m
-block-blocks x body m m1 p = p ∙ sym (both (blocks_in (statements body)) ((x, body_of (statements body)) ∷ []) m)
-    ∙ ap (λ l. put_each (compiled_blocks l) m) (sym (blocks-block x body))
+pub block-blocks : (x : List ℕ) (required : Bool) (body : List Stmt) (m m1 : Blocks) →
+    m1 ≡ put x (block_code (found_block required (body_of (statements body)))) (put_each (compiled_blocks (blocks_in (statements body))) m) →
+    m1 ≡ put_each (compiled_blocks (blocks_of (st.Block x required body))) m
+block-blocks x required body m m1 p =
+    p ∙ sym (both (blocks_in (statements body)) ((x, found_block required (body_of (statements body))) ∷ []) m)
+    ∙ ap (λ l. put_each (compiled_blocks l) m) (sym (blocks-block x required body))
 
 pub more-blocks : (m m1 goal : Blocks) (all rest : List Stmt) (x : Stmt) → all ≡ x ∷ rest →
     m1 ≡ put_each (compiled_blocks (blocks_of x)) m → put_each (compiled_blocks (blocks_in (statements all))) m ≡ goal →

@@ -12,6 +12,7 @@ ghost use Rattle.tm_syntax.specs.Code.{passing_code, passed_count, row_end};
 ghost use Rattle.tm_syntax.specs.Code.{filters_code, step_code, steps_code, row_code, links_code};
 ghost use Rattle.tm_syntax.specs.Fragments.{straight, over};
 ghost use Rattle.tm_syntax.specs.declared.tree.Argument.TheBlock.{hidden-the_row-Expr-1 as exprs};
+ghost use Rattle.tm_syntax.specs.declared.tree.Expr.TheVariants.{SelfBlock};
 ghost use Rattle.tm_syntax.specs.declared.tree.Argument.TheBlock.{hidden-the_row-Pair-2 as pairs};
 ghost use Rattle.tm_syntax.specs.declared.tree.Argument.TheBlock.{hidden-the_row-Argument-3 as arguments};
 ghost use Rattle.tm_syntax.specs.declared.tree.Argument.TheBlock.{hidden-the_row-Keyword-4 as keywords};
@@ -26,8 +27,8 @@ use crate::passing::{
 };
 use sqlite_items::Items;
 use tm_syntax::{
-    Application, Argument, BinaryOperator, Comparison, Condition, Expr, Instruction, JumpKind,
-    Keyword, NO_CACHE, Name, Pair, Step, UnaryOperator,
+    Application, Argument, BinaryOperator, CaptureMode, Comparison, Condition, Expr, Instruction,
+    JumpKind, Keyword, NO_CACHE, Name, Pair, Step, UnaryOperator,
 };
 use tm_values::{Error, Value};
 
@@ -98,6 +99,17 @@ pub(crate) fn push_application(
     code.emit(instruction)
 }
 
+/// Adds the code that captures what a block writes; OutOfMemory.
+#[inline(never)]
+fn push_self_block(code: &mut Builder, name: &Name) -> Result<(), Error>
+    ensures ok { OnOk result (code.new ≡ put (expr_code (SelfBlock name.now)) code.old) }
+    ensures err { IfErr result (λ e. e ≡ OutOfMemory ∷ []) }
+{
+    code.emit(Instruction::BeginCapture(CaptureMode::Capture))?;
+    code.emit(Instruction::CallBlock(name.share()?))?;
+    code.emit(Instruction::EndCapture)
+}
+
 /// Adds the code of an expression; OutOfMemory.
 #[cycle(expressions)]
 pub(crate) fn push_expr(code: &mut Builder, expr: &Expr) -> Result<(), Error>
@@ -123,6 +135,7 @@ pub(crate) fn push_expr(code: &mut Builder, expr: &Expr) -> Result<(), Error>
             let count = push_passed(code, 0, given.as_slice(), named.as_slice())?;
             code.emit(Instruction::CallFunction(name.share()?, count))
         }
+        Expr::SelfBlock(name) => push_self_block(code, name),
         Expr::Unary(operator, operand) => {
             push_expr(code, operand.get())?;
             code.emit(unary(*operator))

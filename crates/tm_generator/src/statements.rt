@@ -1,7 +1,8 @@
 //! The code of statements.
 ghost use Rattle.std.specs.Prelude.{◌≡◌, [], ◌∷◌, OnOk, IfOk, IfErr};
 ghost use Rattle.tm_generator.specs.Building.{macro_code, put_in, rounds};
-ghost use Rattle.tm_syntax.specs.Blocks.{blocks_of, blocks_in, compiled_blocks};
+ghost use Rattle.tm_syntax.specs.Blocks.{blocks_of, blocks_in, body_of, found_block};
+ghost use Rattle.tm_syntax.specs.BlockCodes.{block_code, compiled_blocks};
 ghost use Rattle.tm_syntax.specs.Code.{for_flags, target_code, statement_code, statements_code};
 ghost use Rattle.tm_syntax.specs.Code.{stream_code};
 ghost use Rattle.tm_syntax.specs.Fragments.{◌⨾◌, over};
@@ -10,7 +11,7 @@ ghost use Rattle.tm_syntax.specs.declared.jump.JumpKind.TheVariants.{IfFalse};
 ghost use Rattle.tm_syntax.specs.declared.tree.Stmt.TheBlock.{hidden-the_row-Stmt-0 as statements};
 ghost use Rattle.tm_syntax.specs.declared.tree.Stmt.TheVariants.{AutoEscape, Block, Break};
 ghost use Rattle.tm_syntax.specs.declared.tree.Stmt.TheVariants.{CallBlock as CallTag, CaptureBlock};
-ghost use Rattle.tm_syntax.specs.declared.tree.Stmt.TheVariants.{Continue, Do, For, If, Macro as Declare, With};
+ghost use Rattle.tm_syntax.specs.declared.tree.Stmt.TheVariants.{Continue, Do, Extends, For, If, Macro as Declare, With};
 ghost use Rattle.tm_values.specs.declared.error.ErrorKind.TheVariants.{OutOfMemory};
 
 use crate::builder::Builder;
@@ -26,8 +27,8 @@ use std::alloc::Global;
 use std::mem;
 use tm_names::macro_names;
 use tm_syntax::{
-    Assignment, CallBlock, CaptureMode, CaptureUse, Code, Expr, ForLoop, Instruction, JumpKind,
-    LoopFlags, Macro, Name, NameMap, Opened, Parameter, Step, Stmt,
+    Assignment, BlockCode, CallBlock, CaptureMode, CaptureUse, Code, Expr, ForLoop, Instruction,
+    JumpKind, LoopFlags, Macro, Name, NameMap, Opened, Parameter, Step, Stmt,
 };
 use tm_values::Error;
 
@@ -45,7 +46,7 @@ pub(crate) struct StreamBuilder {
 #[cycle(statements)]
 fn push_statement(
     stream: &mut StreamBuilder,
-    blocks: &mut NameMap<Code>,
+    blocks: &mut NameMap<BlockCode>,
     statement: &Stmt,
 ) -> Result<(), Error>
     ensures code { OnOk result
@@ -64,13 +65,18 @@ fn push_statement(
             push_expr(&mut stream.code, argument.get())?;
             stream.code.emit(Instruction::FastRecurse)
         }
+        Stmt::EmitBlock(name) => stream.code.emit(Instruction::CallBlock(name.share()?)),
+        Stmt::EmitSuper => stream.code.emit(Instruction::FastSuper),
         Stmt::If(condition, body, other) => {
             push_if(stream, blocks, condition.get(), body.as_slice(), other)
         }
         Stmt::For(for_loop) => push_for(stream, blocks, for_loop),
         Stmt::Break => push_break(stream),
         Stmt::Continue => push_continue(stream),
-        Stmt::Block(name, body) => push_call_of_block(stream, blocks, name, body.as_slice()),
+        Stmt::Block(name, required, body) => {
+            push_call_of_block(stream, blocks, name, *required, body.as_slice())
+        }
+        Stmt::Extends(parent) => push_extends(stream, parent.get()),
         Stmt::Set(target, value) => push_set(&mut stream.code, target, value.get()),
         Stmt::CaptureBlock(becomes, filters, body) => {
             push_capture(stream, blocks, becomes, filters.as_slice(), body.as_slice())
@@ -105,6 +111,17 @@ fn push_continue(stream: &mut StreamBuilder) -> Result<(), Error>
     stream.code.next_round()
 }
 
+/// Adds the code of an `extends`; OutOfMemory.
+#[inline(never)]
+fn push_extends(stream: &mut StreamBuilder, parent: &Expr) -> Result<(), Error>
+    ensures code { OnOk result (stream.new ≡ put_in
+        (statement_code stream.old.enclosing (Extends parent.now)) stream.old) }
+    ensures err { IfErr result (λ e. e ≡ OutOfMemory ∷ []) }
+{
+    push_expr(&mut stream.code, parent)?;
+    stream.code.emit(Instruction::LoadBlocks)
+}
+
 /// Adds the code of a `do`; OutOfMemory.
 #[inline(never)]
 fn push_do(stream: &mut StreamBuilder, call: &Expr) -> Result<(), Error>
@@ -121,17 +138,18 @@ fn push_do(stream: &mut StreamBuilder, call: &Expr) -> Result<(), Error>
 #[inline(never)]
 fn push_call_of_block(
     stream: &mut StreamBuilder,
-    blocks: &mut NameMap<Code>,
+    blocks: &mut NameMap<BlockCode>,
     name: &Name,
+    required: bool,
     body: &[Stmt],
 ) -> Result<(), Error>
     ensures code { OnOk result (stream.new ≡ put_in
-        (statement_code stream.old.enclosing (Block name.now body.now)) stream.old) }
-    ensures blocks { OnOk result
-        (blocks.new ≡ put_each (compiled_blocks (blocks_of (Block name.now body.now))) blocks.old) }
+        (statement_code stream.old.enclosing (Block name.now required body.now)) stream.old) }
+    ensures blocks { OnOk result (blocks.new
+        ≡ put_each (compiled_blocks (blocks_of (Block name.now required body.now))) blocks.old) }
     ensures err { IfErr result (λ e. e ≡ OutOfMemory ∷ []) }
 {
-    push_block(stream.code.alloc(), blocks, name, body)?;
+    push_block(stream.code.alloc(), blocks, name, required, body)?;
     stream.code.emit(Instruction::CallBlock(name.share()?))
 }
 
@@ -140,7 +158,7 @@ fn push_call_of_block(
 #[inline(never)]
 fn push_capture(
     stream: &mut StreamBuilder,
-    blocks: &mut NameMap<Code>,
+    blocks: &mut NameMap<BlockCode>,
     becomes: &CaptureUse,
     filters: &[Step],
     body: &[Stmt],
@@ -164,7 +182,7 @@ fn push_capture(
 #[inline(never)]
 fn push_with(
     stream: &mut StreamBuilder,
-    blocks: &mut NameMap<Code>,
+    blocks: &mut NameMap<BlockCode>,
     given: &[Assignment],
     body: &[Stmt],
 ) -> Result<(), Error>
@@ -185,7 +203,7 @@ fn push_with(
 #[inline(never)]
 fn push_escaped(
     stream: &mut StreamBuilder,
-    blocks: &mut NameMap<Code>,
+    blocks: &mut NameMap<BlockCode>,
     value: &Expr,
     body: &[Stmt],
 ) -> Result<(), Error>
@@ -206,7 +224,7 @@ fn push_escaped(
 #[inline(never)]
 fn push_if(
     stream: &mut StreamBuilder,
-    blocks: &mut NameMap<Code>,
+    blocks: &mut NameMap<BlockCode>,
     condition: &Expr,
     body: &[Stmt],
     other: &Option<Items<Stmt>>,
@@ -235,7 +253,7 @@ fn push_if(
 #[cycle(statements)]
 fn push_if_true(
     stream: &mut StreamBuilder,
-    blocks: &mut NameMap<Code>,
+    blocks: &mut NameMap<BlockCode>,
     body: &[Stmt],
 ) -> Result<(), Error>
     ensures code { OnOk result (stream.new ≡ put_in
@@ -256,7 +274,7 @@ fn push_if_true(
 #[inline(never)]
 fn push_for(
     stream: &mut StreamBuilder,
-    blocks: &mut NameMap<Code>,
+    blocks: &mut NameMap<BlockCode>,
     for_loop: &ForLoop,
 ) -> Result<(), Error>
     ensures code { OnOk result (stream.new
@@ -286,7 +304,7 @@ fn push_for(
 #[inline(never)]
 fn push_rounds(
     stream: &mut StreamBuilder,
-    blocks: &mut NameMap<Code>,
+    blocks: &mut NameMap<BlockCode>,
     for_loop: &ForLoop,
 ) -> Result<(), Error>
     ensures code { OnOk result (stream.new ≡ record stream.old {
@@ -313,7 +331,7 @@ fn push_rounds(
 #[inline(never)]
 fn push_macro(
     stream: &mut StreamBuilder,
-    blocks: &mut NameMap<Code>,
+    blocks: &mut NameMap<BlockCode>,
     declared: &Macro,
 ) -> Result<(), Error>
     ensures code { OnOk result (stream.new
@@ -339,7 +357,7 @@ fn push_macro(
 #[inline(never)]
 fn push_call_block(
     stream: &mut StreamBuilder,
-    blocks: &mut NameMap<Code>,
+    blocks: &mut NameMap<BlockCode>,
     tag: &CallBlock,
 ) -> Result<(), Error>
     ensures code { OnOk result (stream.new
@@ -363,7 +381,7 @@ fn push_call_block(
 #[inline(never)]
 fn push_declared(
     stream: &mut StreamBuilder,
-    blocks: &mut NameMap<Code>,
+    blocks: &mut NameMap<BlockCode>,
     name: &Name,
     parameters: &[Parameter],
     body: &[Stmt],
@@ -387,7 +405,7 @@ fn push_declared(
 #[cycle(statements)]
 fn push_alone(
     stream: &mut StreamBuilder,
-    blocks: &mut NameMap<Code>,
+    blocks: &mut NameMap<BlockCode>,
     body: &[Stmt],
 ) -> Result<(), Error>
     ensures code { OnOk result
@@ -409,7 +427,7 @@ fn push_alone(
 #[inline(never)]
 fn push_within(
     stream: &mut StreamBuilder,
-    blocks: &mut NameMap<Code>,
+    blocks: &mut NameMap<BlockCode>,
     opened: Opened,
     body: &[Stmt],
 ) -> Result<(), Error>
@@ -429,7 +447,7 @@ fn push_within(
 #[cycle(statements)]
 fn push_statements(
     stream: &mut StreamBuilder,
-    blocks: &mut NameMap<Code>,
+    blocks: &mut NameMap<BlockCode>,
     body: &[Stmt],
 ) -> Result<(), Error>
     ensures code { OnOk result (stream.new ≡ put_in
@@ -449,32 +467,33 @@ fn push_statements(
 #[inline(never)]
 fn push_block(
     alloc: Global,
-    blocks: &mut NameMap<Code>,
+    blocks: &mut NameMap<BlockCode>,
     name: &Name,
+    required: bool,
     body: &[Stmt],
 ) -> Result<(), Error>
-    ensures blocks { OnOk result
-        (blocks.new ≡ put_named name.now (stream_code (statements body.now))
+    ensures blocks { OnOk result (blocks.new
+        ≡ put_named name.now (block_code (found_block required (body_of (statements body.now))))
         (put_each (compiled_blocks (blocks_in (statements body.now))) blocks.old)) }
     ensures err { IfErr result (λ e. e ≡ OutOfMemory ∷ []) }
 {
-    let inner = stream(alloc, blocks, body)?;
-    add_block(blocks, name, inner)
+    let code = stream(alloc, blocks, body)?;
+    add_block(blocks, name, BlockCode { required, code })
 }
 
 /// Adds a block's own stream by the block's name; OutOfMemory.
 #[inline(never)]
-fn add_block(blocks: &mut NameMap<Code>, name: &Name, code: Code) -> Result<(), Error>
-    ensures blocks { OnOk result (blocks.new ≡ put_named name.now code blocks.old) }
+fn add_block(blocks: &mut NameMap<BlockCode>, name: &Name, block: BlockCode) -> Result<(), Error>
+    ensures blocks { OnOk result (blocks.new ≡ put_named name.now block blocks.old) }
     ensures err { IfErr result (λ e. e ≡ OutOfMemory ∷ []) }
 {
-    blocks.insert(name.share()?, code)?;
+    blocks.insert(name.share()?, block)?;
     Ok(())
 }
 
 /// The code of statements on their own, and that of their blocks; OutOfMemory.
 #[cycle(statements)]
-pub fn stream(alloc: Global, blocks: &mut NameMap<Code>, body: &[Stmt]) -> Result<Code, Error>
+pub fn stream(alloc: Global, blocks: &mut NameMap<BlockCode>, body: &[Stmt]) -> Result<Code, Error>
     ensures code { IfOk result (λ code. code ≡ stream_code (statements body.now)) }
     ensures blocks { OnOk result
         (blocks.new ≡ put_each (compiled_blocks (blocks_in (statements body.now))) blocks.old) }

@@ -19,14 +19,16 @@ use Rattle.tm_syntax.specs.declared.tree.Application.{Application}
 use Rattle.tm_syntax.specs.declared.tree.Application.TheVariants as applications
 use Rattle.tm_meaning.specs.declared.function.GlobalFunction.{GlobalFunction}
 use Rattle.tm_meaning.specs.declared.wrapping.Wrapping.{Wrapping}
+use Rattle.tm_meaning.specs.declared.wrapping.Wrapping.TheVariants.{EvalBlock}
 use Rattle.tm_meaning.specs.declared.run_text.RunText.{RunText}
 use Rattle.tm_meaning.specs.declared.run_text.RunText.TheVariants as texts
 use Rattle.tm_meaning.specs.Memory.{kind_of_wrapping}
 use Rattle.tm_meaning.specs.declared.function.GlobalFunction.TheVariants as own
-use Rattle.tm_meaning.specs.World.{TemplateId, own, entry, StreamId, block_of, Named, Bindings, find, put, put_each, same_name, Card, Layers}
+use Rattle.tm_meaning.specs.World.{TemplateId, StreamId, block_of, Named, Bindings, find, put, put_each, same_name, Card, Layers}
 use Rattle.tm_meaning.specs.World.{choose, HostValue, Scope, Scopes, Loop, World, Object, Fallback, Function, callers, languages, Res, Good}
 use Rattle.tm_meaning.specs.World.{Bad, bind, bad, answered, same_stream, depth, items_over, innermost, records_of, make_namespace, need, check, card_at, view_of, lookup}
 use Rattle.tm_meaning.specs.World.{context_member, place_of, plain_scope, push, captured_text}
+use Rattle.tm_meaning.specs.Inheritance.{one_on, placed_as}
 use Rattle.tm_meaning.specs.declared.reply.Reply.{Reply}
 use Rattle.tm_meaning.specs.declared.reply.Reply.TheVariants.{Value as gives, Fault as faults, Further as asks_for}
 use Rattle.tm_meaning.specs.declared.reply.Call.{Call}
@@ -37,9 +39,10 @@ pub data Callee : Type 0 where
   whole : StreamId → Callee
   macro_of : StreamId → ℕ → List Val → Callee
 
--- What is put back behind a run, from the world before it.
+-- What is put back behind a run, from the world before it; of a `super()` also the name of the block.
 pub data Undo : Type 0 where
   of_block : World → Undo
+  of_super : List ℕ → World → Undo
   of_macro : World → Undo
 
 -- A run, what is put back behind it, the kind that is put before its fault, if one is, and what its text is where that is a value.
@@ -70,10 +73,16 @@ outermost n frames = drop (length frames - n) frames
 abbrev pub cut_to : ℕ → ℕ → World → World
 cut_to n outer w = record w { scopes = record { frames = outermost n w.scopes.frames; outer = outer } }
 
+-- the scopes, stream, block and escape of a world before, in one behind
+abbrev pub block_undone : World → World → World
+block_undone b w = record (cut_to (length b.scopes.frames) b.scopes.outer w) { stream = b.stream; block = b.block; escape = b.escape }
+
 -- However the run ended, only the scopes stay that stood before it, and stream, block, escape and outer depth are those before it; behind a
--- macro, which has scopes of its own, lists of blocks and loaded names are too. Records, kept values and fuel go on.
+-- `super()` its list of blocks is at the place before it; behind a macro, which has scopes of its own, lists of blocks and loaded names are
+-- those before it. Records, kept values and fuel go on.
 abbrev pub undone : Undo → World → World
-undone (of_block b) w = record (cut_to (length b.scopes.frames) b.scopes.outer w) { stream = b.stream; block = b.block; escape = b.escape }
+undone (of_block b) w = block_undone b w
+undone (of_super x b) w = record (block_undone b w) { blocks = placed_as b.blocks x w.blocks }
 undone (of_macro b) w = record w {
   scopes = b.scopes;
   stream = b.stream;
@@ -114,6 +123,21 @@ enter_block host b w =
     ask (push host (plain_scope (undefined false)) world3) (λ _ world4.
     runs (block_call (block_of t b) w)
     (record world4 { stream = block_of t b; block = Some b })))))
+
+-- the run of the next block of a name, needed in this world; before its fault stands EvalBlock
+abbrev pub super_call : StreamId → List ℕ → World → NestedCall
+super_call s x w = record { callee = whole s; undo = of_super x w; wrap = Some EvalBlock; text = texts.Captured }
+
+-- The block behind the one that runs, in a new scope, with the list one place on. Where no block runs, or none is behind it, or the scope
+-- would lie too deep it is refused, before its run.
+abbrev pub enter_super : HostValue → World → Asked
+enter_super host w =
+    ask (need w.block InvalidOperation w) (λ x world1.
+    ask (need (find x world1.blocks) InvalidOperation world1) (λ l world2.
+    ask (need (slice_get l.templates (l.place + 1)) InvalidOperation world2) (λ t world3.
+    ask (push host (plain_scope (undefined false)) world3) (λ _ world4.
+    runs (super_call (block_of t x) x w)
+    (record world4 { stream = block_of t x; blocks = put x (one_on l) world4.blocks })))))
 
 -- the blocks of a template, each alone
 abbrev pub alone : TemplateId → List ℕ × Card → List ℕ × Layers
@@ -424,7 +448,20 @@ call_found host (loop state n) args w =
     of_loop (record_at w state n) w (λ l. ask (one_argument args w) (λ v world1. call_loop host l v world1))
 call_found host v args w = call_value host v args w
 
--- a name is called; it is looked up after its arguments
+abbrev pub no_values : List Val → Bool
+no_values [] = true
+no_values (v ∷ vs) = false
+
+-- the text of `super()`, which takes no arguments
+abbrev pub call_super : HostValue → List Val → World → Asked
+call_super host args w = ask (check (no_values args) InvalidOperation w) (λ _ world1. enter_super host world1)
+
+-- what a name stands for is called, once it is looked up
+abbrev pub call_looked_up : HostValue → List ℕ → List Val → World → Asked
+call_looked_up host x args w =
+    ask (lookup host x w) (λ found world1. ask (need found UnknownFunction world1) (λ f world2. call_found host f args world2))
+
+-- A name is called, which is looked up after its arguments; `super` is none that is looked up.
 abbrev pub call_named : HostValue → List ℕ → List Val → World → Asked
 call_named host x args w =
-    ask (lookup host x w) (λ found world1. ask (need found UnknownFunction world1) (λ f world2. call_found host f args world2))
+    choose (same_name x (codes "super")) (λ _. call_super host args w) (λ _. call_looked_up host x args w)

@@ -1,5 +1,5 @@
 -- Pages whose objects ask for further calls of macros and blocks.
-use Rattle.std.specs.Prelude.{ℕ, List, [], ◌∷◌, codes, pos, true}
+use Rattle.std.specs.Prelude.{ℕ, List, [], ◌∷◌, codes, pos, true, false}
 use Rattle.tm_values.specs.Val.{Val, function, number, text}
 use Rattle.tm_syntax.specs.declared.tree.Application.TheVariants as applications
 use Rattle.tm_syntax.specs.declared.tree.Stmt.{Stmt, AutoEscape', Block', EmitExpr, With', end_of-Stmt as no_statement}
@@ -66,7 +66,7 @@ calling_loop = calling_page (one (for_x (alone_in_list (literal_number 1)) (emit
 
 -- {% if a %}{% block b %}..{% endblock %}{% endif %}, which isn't reached
 abbrev pub hidden_block : Stmt → Stmt
-hidden_block s = if_one a (Block' (codes "b") (tt ∷ []) (statement s no_statement)) no_else
+hidden_block s = if_one a (Block' (codes "b") false (tt ∷ []) (statement s no_statement)) no_else
 
 -- a block that isn't reached, of this content, and behind it {% autoescape "html" %}{{ x() }}{% endautoescape %}
 abbrev pub calling_block : Stmt → List ℕ → Page
@@ -87,4 +87,4 @@ fails = emitted_call (codes "nope")
 -- {% block b %}x{% endblock %}{{ by_block() }}
 abbrev pub block_again : Page
 block_again =
-    calling_page (two (Block' (codes "b") (tt ∷ []) (statement (raw (codes "x")) no_statement)) (emitted_call (codes "by_block")))
+    calling_page (two (Block' (codes "b") false (tt ∷ []) (statement (raw (codes "x")) no_statement)) (emitted_call (codes "by_block")))

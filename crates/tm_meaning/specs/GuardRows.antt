@@ -120,13 +120,13 @@ formatted_under behavior e =
 -- {% for x in [[]] recursive %}{% block b %}{{ loop(x) }}{% endblock %}{% endfor %}: a block is another stream
 abbrev pub called_in_block : Page
 called_in_block =
-    page (one (recursive_one (alone_in_list (List' [] no_expr)) (Block' (codes "b") (tt ∷ []) (statement (EmitLoop x) no_statement))))
+    page (one (recursive_one (alone_in_list (List' [] no_expr)) (Block' (codes "b") false (tt ∷ []) (statement (EmitLoop x) no_statement))))
     nothing
 
 -- {% autoescape "html" %}{% block b %}{{ "<" }}{% endblock %}{% endautoescape %}{{ "<" }}
 abbrev pub block_under_escape : Page
 block_under_escape =
-    page (two (AutoEscape' (literal (codes "html")) (tt ∷ []) (statement (Block' (codes "b") (tt ∷ [])
+    page (two (AutoEscape' (literal (codes "html")) (tt ∷ []) (statement (Block' (codes "b") false (tt ∷ [])
     (statement (EmitExpr (literal (codes "<"))) no_statement)) no_statement))
     (EmitExpr (literal (codes "<")))) nothing
 
@@ -134,6 +134,6 @@ block_under_escape =
 abbrev pub stored_in_block : Page
 stored_in_block =
     page (body_of (statement (Set (To (codes "a")) (literal_number 1))
-    (statement (Block' (codes "b") (tt ∷ tt ∷ []) (statement (Set (To (codes "a")) (literal_number 2))
+    (statement (Block' (codes "b") false (tt ∷ tt ∷ []) (statement (Set (To (codes "a")) (literal_number 2))
     (statement (EmitExpr (named (codes "a"))) no_statement)))
     (statement (EmitExpr (named (codes "a"))) no_statement)))) nothing

@@ -18,7 +18,8 @@ use Rattle.tm_syntax.specs.CacheNumbers.{no_cache, cache_count}
 use Rattle.tm_syntax.specs.Named.{same_name}
 use Rattle.tm_syntax.specs.declared.tree.Application.{Application}
 use Rattle.tm_syntax.specs.declared.tree.Application.TheVariants as applications
-use Rattle.tm_meaning.specs.Calls.{enter_block, call_named, call_callee, applied, call_innermost}
+use Rattle.tm_meaning.specs.Inheritance.{load}
+use Rattle.tm_meaning.specs.Calls.{enter_block, enter_super, call_named, call_callee, applied, call_innermost}
 use Rattle.tm_meaning.specs.Meaning.{none_waits}
 use Rattle.tm_meaning.specs.Operators.{truth, applied_unary, operated, attribute, item_at, slice_of, list_of_values, map_of_pairs}
 use Rattle.tm_meaning.specs.Operators.{keyword_map, merged_values, items_of_lists, is_undefined}
@@ -360,6 +361,19 @@ call_block_of p f b c =
     choose (none_waits c.run.parent && audible f c)
     (λ _. asked_in_place p f c c.run.operands (enter_block p.host b c.world))
     (λ _. goes c.run.operands c.world c)
+
+-- the block behind the one that runs, in place
+abbrev pub fast_super_of : Program → Base → Config → Next
+fast_super_of p f c = asked_in_place p f c c.run.operands (enter_super p.host c.world)
+
+-- a parent waits from here on
+abbrev pub awaiting : TemplateId → Config → Config
+awaiting t c = record c { run = record c.run { parent = Some t } }
+
+abbrev pub load_blocks_of : HostValue → Base → Config → Next
+load_blocks_of host f c =
+    on_top c.run.operands c.world (λ v vs.
+    after (load host v c.run.parent (nat_lt f.captures (length c.captures)) c.world) (λ t w. goes vs w (awaiting t c)))
 
 -- the innermost loop is called in place
 abbrev pub fast_recurse_of : Program → Base → Config → Next

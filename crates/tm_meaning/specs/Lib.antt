@@ -1,5 +1,6 @@
 pub mod World
 pub mod Memory
+pub mod Inheritance
 pub mod Calls
 pub mod Tree
 pub mod Operators
@@ -14,6 +15,8 @@ pub mod FilterRows
 pub mod FurtherRows
 pub mod MacroRows
 pub mod MacroTrees
+pub mod BlockTrees
+pub mod BlockRows
 pub mod SpreadRows
 pub mod ObjectRows
 pub mod OperatorRows

@@ -7,7 +7,7 @@ use Rattle.tm_values.specs.declared.error.ErrorKind.TheVariants.{InvalidOperatio
 use Rattle.tm_values.specs.declared.escape.AutoEscape.{AutoEscape}
 use Rattle.tm_syntax.specs.declared.instruction.Instruction.{Instruction}
 pub use Rattle.tm_meaning.specs.declared.base.Base.{Base}
-use Rattle.tm_meaning.specs.World.{choose, TemplateId, StreamId, World, HostValue, Res, Good, Bad, open_loop, captured_text}
+use Rattle.tm_meaning.specs.World.{choose, TemplateId, StreamId, root_of, World, HostValue, Res, Good, Bad, open_loop, captured_text}
 use Rattle.tm_meaning.specs.Calls.{Callee, whole, macro_of, NestedCall, Asked, has, refused, runs, recurs, undone, wrapped, run_value}
 use Rattle.tm_meaning.specs.declared.run_text.RunText.{RunText}
 use Rattle.tm_syntax.specs.declared.instruction.LoopPlace.{LoopPlace}
@@ -65,10 +65,11 @@ pub record Back : Type 0 where
   pub call : NestedCall
   pub value : Bool
 
--- A step writes a text and goes on, or ends the run, or first needs a run of its own.
+-- A step writes a text and goes on, or ends the run, or restarts it in another stream, or first needs a run of its own.
 pub data Next : Type 0 where
   More : List ℕ → Config → Next
   Over : End → Next
+  Restart : Config → Next
   Nest : Base → Config → Back → Next
 
 -- What all runs share: the environment, and the instructions of each stream.
@@ -159,6 +160,10 @@ run_from s floor = record {
   filters = [];
   tests = [];
 }
+
+-- The run goes on with the root of a parent, in the scopes that are left; no parent waits from there on.
+abbrev pub restarted : TemplateId → Config → Config
+restarted t c = record c { run = run_from (root_of t) c.run.floor; world = record c.world { stream = root_of t } }
 
 -- a run of a macro from its entry, with its arguments as its first operands, the last one on top
 abbrev pub run_of_macro : StreamId → List Val → ℕ → ℕ × ℕ → Option Activation

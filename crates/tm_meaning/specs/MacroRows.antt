@@ -1,12 +1,12 @@
 -- Streams with macros, and where their runs end.
 use Rattle.std.specs.Prelude.{◌≡◌, ℕ, ◌+◌, ◌-◌, pos, List, [], ◌∷◌, ◌++◌, length, map as each, Option, None, Some, Bool, true, false, codes}
-use Rattle.tm_values.specs.Val.{MacroData, Val, undefined, number, text, list, keywords, function, macro, vals_of, pairs_of}
+use Rattle.tm_values.specs.Val.{MacroData, Val, number, text, list, keywords, function, macro, vals_of, pairs_of}
 use Rattle.tm_values.specs.declared.error.ErrorKind.{ErrorKind}
 use Rattle.tm_values.specs.declared.escape.AutoEscape.{AutoEscape}
 use Rattle.tm_values.specs.declared.escape.AutoEscape.TheVariants as escapes
 use Rattle.tm_syntax.specs.declared.instruction.Instruction.{Instruction}
 use Rattle.tm_syntax.specs.declared.instruction.Instruction.TheVariants as i
-use Rattle.tm_meaning.specs.World.{Bindings, HostValue, World, callers, with_escape}
+use Rattle.tm_meaning.specs.World.{callers, with_escape}
 use Rattle.tm_meaning.specs.Calls.{whole, bound_to}
 use Rattle.tm_meaning.specs.Machine.{Program, base_of}
 use Rattle.tm_meaning.specs.Steps.{Final, begins, run_for}

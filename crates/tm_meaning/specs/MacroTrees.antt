@@ -1,6 +1,6 @@
 -- Pages with macros and call tags.
-use Rattle.std.specs.Prelude.{ℕ, List, [], ◌∷◌, Option, None, Some, Bool, true, false, codes, pos}
-use Rattle.tm_values.specs.Val.{Val, number, text, undefined}
+use Rattle.std.specs.Prelude.{ℕ, List, [], ◌∷◌, None, Some, true, false, codes}
+use Rattle.tm_values.specs.Val.{Val}
 use Rattle.tm_values.specs.Val.{none as no_value}
 use Rattle.tm_syntax.specs.declared.tree.BinaryOperator.TheVariants as binaries
 use Rattle.tm_syntax.specs.declared.tree.Application.TheVariants as applications
@@ -11,7 +11,7 @@ use Rattle.tm_syntax.specs.declared.tree.Step.{Attribute, Apply', Call' as Calle
 use Rattle.tm_syntax.specs.declared.tree.AssignmentTarget.{Name as To}
 use Rattle.tm_syntax.specs.declared.tree.CaptureUse.TheVariants as uses
 use Rattle.tm_syntax.specs.declared.tree.Parameter.{Parameter}
-use Rattle.tm_syntax.specs.declared.tree.Stmt.{Stmt, EmitExpr, For', Set, CaptureBlock', With', Macro', CallBlock', If'}
+use Rattle.tm_syntax.specs.declared.tree.Stmt.{Stmt, EmitExpr, For', Set, CaptureBlock', With', Macro', CallBlock'}
 use Rattle.tm_syntax.specs.declared.tree.Stmt.{end_of-Stmt as no_statement, more_of-Stmt as statement, None' as no_else}
 use Rattle.tm_syntax.specs.Forms.{chained, plain, spread, keyword, spread_keywords, with_pair, item, binary}
 use Rattle.tm_meaning.specs.Tree.{Body, body_of}
@@ -19,7 +19,7 @@ use Rattle.tm_meaning.specs.World.{languages}
 use Rattle.tm_meaning.specs.declared.function.GlobalFunction.TheVariants as own
 use Rattle.tm_meaning.specs.Rows.{Page, page, nothing, raw, named, one, two, literal, literal_number, and_one, if_one}
 use Rattle.tm_meaning.specs.LoopRows.{numbers, alone_in_list, for_x}
-use Rattle.tm_meaning.specs.CallRows.{call_none, one_named, recursive_one}
+use Rattle.tm_meaning.specs.CallRows.{call_none, one_named}
 
 -- ---------------------------------------------------------------- parts
 abbrev pub parameter : List ℕ → Parameter

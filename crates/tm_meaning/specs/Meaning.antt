@@ -7,8 +7,8 @@ use Rattle.tm_values.specs.declared.error.ErrorKind.{ErrorKind}
 use Rattle.tm_values.specs.declared.error.ErrorKind.TheVariants.{InvalidOperation}
 use Rattle.tm_values.specs.declared.escape.AutoEscape.{AutoEscape}
 use Rattle.tm_syntax.specs.declared.tree.BinaryOperator.{BinaryOperator}
-use Rattle.tm_syntax.specs.declared.tree.Expr.{Expr, Var, Const, List', Tuple', Map', Call', Row_of-Expr, end_of-Expr as no_expr}
-use Rattle.tm_syntax.specs.declared.tree.Expr.{more_of-Expr as expr, Row_of-Pair, end_of-Pair as no_pair, Row_of-Argument}
+use Rattle.tm_syntax.specs.declared.tree.Expr.{Expr, Var, Const, List', Tuple', Map', Call', SelfBlock, Row_of-Expr}
+use Rattle.tm_syntax.specs.declared.tree.Expr.{end_of-Expr as no_expr, more_of-Expr as expr, Row_of-Pair, end_of-Pair as no_pair, Row_of-Argument}
 use Rattle.tm_syntax.specs.declared.tree.Expr.{end_of-Argument as no_argument, more_of-Argument as argument, Row_of-Keyword}
 use Rattle.tm_syntax.specs.declared.tree.Expr.{end_of-Keyword as no_keyword, more_of-Keyword as keyword_and, Row_of-Step}
 use Rattle.tm_syntax.specs.declared.tree.Expr.{end_of-Step as no_step, more_of-Step as step}
@@ -23,8 +23,9 @@ use Rattle.tm_syntax.specs.declared.tree.Assignment.{Assignment}
 use Rattle.tm_syntax.specs.declared.tree.Parameter.{Parameter}
 use Rattle.tm_syntax.specs.declared.tree.CaptureUse.{CaptureUse}
 use Rattle.tm_syntax.specs.declared.tree.CaptureUse.TheVariants as uses
-use Rattle.tm_syntax.specs.declared.tree.Stmt.{Stmt, EmitRaw, EmitExpr, EmitLoop, If', For', Break, Continue, Block', Set, CaptureBlock'}
-use Rattle.tm_syntax.specs.declared.tree.Stmt.{With', Do, AutoEscape', Macro', CallBlock', Row_of-Stmt, end_of-Stmt as no_statement}
+use Rattle.tm_syntax.specs.declared.tree.Stmt.{Stmt, EmitRaw, EmitExpr, EmitLoop, EmitBlock, EmitSuper, If', For', Break, Continue, Block'}
+use Rattle.tm_syntax.specs.declared.tree.Stmt.{Extends, Set, CaptureBlock', With', Do, AutoEscape', Macro', CallBlock', Row_of-Stmt}
+use Rattle.tm_syntax.specs.declared.tree.Stmt.{end_of-Stmt as no_statement}
 use Rattle.tm_syntax.specs.declared.tree.Stmt.{more_of-Stmt as statement, Held-Stmt-If-2 as Otherwise, None' as no_else}
 use Rattle.tm_syntax.specs.declared.tree.Stmt.{Some' as otherwise}
 use Rattle.tm_syntax.specs.Forms.{unary, chained, conditional, with_condition, with_comparison, with_pair, plain, spread, keyword, item}
@@ -32,14 +33,15 @@ use Rattle.tm_syntax.specs.Forms.{spread_keywords, slice, binary, compare, and_t
 use Rattle.tm_syntax.specs.Code.{count_targets, for_flags, pass_flags, macro_head}
 use Rattle.tm_syntax.specs.Fragments.{MacroHead}
 use Rattle.tm_syntax.specs.Loops.{passes, Numbers, first_numbers, within_loop, past, pasts, FoundLoop, loops_in, FoundMacro, macros_in}
-use Rattle.tm_meaning.specs.World.{choose, TemplateId, root_of, World, HostValue, Res, Good, Bad, bind, answered, tick, ticked, looked_up}
+use Rattle.tm_meaning.specs.World.{choose, TemplateId, StreamId, root_of, World, HostValue, Res, Good, Bad, bind, answered, tick, ticked, looked_up}
 use Rattle.tm_meaning.specs.World.{template_at, emitted, escape_for, with_escape, captured_text, open_loop, next_turn}
 use Rattle.tm_meaning.specs.World.{cleared, items_over, store, set_member, unpacked_items, push, pop, plain_scope, enclose, own_closure}
 use Rattle.tm_meaning.specs.World.{make_macro}
 use Rattle.tm_meaning.specs.Calls.{Callee, whole, macro_of, NestedCall, Asked, has, refused, runs, recurs, undone, wrapped, run_value}
-use Rattle.tm_meaning.specs.Calls.{enter_block, call_named}
+use Rattle.tm_meaning.specs.Inheritance.{load, names_left}
+use Rattle.tm_meaning.specs.Calls.{enter_block, enter_super, call_named}
 use Rattle.tm_meaning.specs.Calls.{applied, call_callee, call_innermost, own_blocks}
-use Rattle.tm_meaning.specs.Tree.{Body, Trees}
+use Rattle.tm_meaning.specs.Tree.{Body, empty, Trees}
 use Rattle.tm_meaning.specs.Operators.{truth, applied_unary, operated, applied_binary, attribute, item_at, slice_of}
 use Rattle.tm_meaning.specs.Operators.{list_of_values, map_of_pairs, listed, mapped, passed, turned, is_undefined}
 
@@ -142,7 +144,7 @@ in_place_of u run out (refused chain w) = ended (fault chain) run out w
 in_place_of u run out (runs c w) = let o = u.nests c.callee (audible run) out w in behind o.ending c run o
 in_place_of u run out (recurs n items w) = u.again n items run out w
 
--- A block's tag does nothing unheard, nor where a parent waits.
+-- A block's tag does nothing unheard, nor where a parent waits; nor does `self.b()`.
 abbrev pub block_tag : Under → Run → List ℕ → List ℕ → World → Outcome
 block_tag u run b out w =
     choose (none_waits run.parent && audible run) (λ _. in_place_of u run out (enter_block u.host b w)) (λ _. so_far run out w)
@@ -169,6 +171,9 @@ abbrev mutual
       bind (passed u.host [] given named (λ world1. eval_arguments u run given world1)
       (λ world1. eval_keywords u run mapped [] named world1) (λ by_name world1. eval_lists u run [] given by_name world1) w) (λ vs world1.
       ticked world1 (λ world2. value_of u run (call_named u.host f vs world2)))
+  eval u run (SelfBlock b) w =
+      ticked w (λ world1. let o = block_tag u (capturing true run) b [] world1 in
+      bind (text_behind o.ending o) (λ v world2. ticked world2 (λ world3. Good v world3)))
   eval u run (unary op a) w = bind (eval u run a w) (λ v world1. ticked world1 (λ world2. applied_unary u.host op v world2))
   eval u run (chained a _ ss) w = bind (eval u run a w) (λ v world1. eval_steps u run ss v world1)
   eval u run (conditional a _ cs) w = eval_conditions u run cs (λ world1. eval u run a world1) w
@@ -461,7 +466,12 @@ abbrev mutual
       (λ run1 out1 world2. exec_behind_loop u (pasts (within_loop c at) body) other (has_none vs) run1 out1 world2))
   exec u at Break run out w = ended leave run out w
   exec u at Continue run out w = ended next run out w
-  exec u at (Block' b _ body) run out w = use_it (tick w) run out (λ _ world1. block_tag u run b out world1)
+  exec u at (Block' b required _ body) run out w = use_it (tick w) run out (λ _ world1. block_tag u run b out world1)
+  exec u at (EmitBlock b) run out w = use_it (tick w) run out (λ _ world1. block_tag u run b out world1)
+  exec u at EmitSuper run out w = use_it (tick w) run out (λ _ world1. in_place_of u run out (enter_super u.host world1))
+  exec u at (Extends e) run out w =
+      use_it (eval u run e w) run out (λ v world1.
+      use_it (load u.host v run.parent run.inside world1) run out (λ t world2. so_far (record run { parent = Some t }) out world2))
   exec u at (Set t e) run out w = use_it (set_to u run t e w) run out (λ _ world1. so_far run out world1)
   exec u at (CaptureBlock' becomes filters _ body) run out w =
       captured (exec_all u at body (capturing true run) [] w) run out (λ run1 x world1.
@@ -552,6 +562,25 @@ again_of host nests body (suc k) n items run out w =
 abbrev pub under : HostValue → Nests → Body → Under
 under host nests body = over host nests (again_of host nests body (host.limit + 1))
 
+-- what follows a stream's end: the run of the parent that waits, if one does
+abbrev pub to_parent : Option TemplateId → Outcome → (TemplateId → Outcome) → Outcome
+to_parent None o f = o
+to_parent (Some t) o f = f t
+
+abbrev pub restarting : Ending → Outcome → (TemplateId → Outcome) → Outcome
+restarting (fault chain) o f = o
+restarting e o f = to_parent o.parent o f
+
+-- A stream, and behind it the root of the parent that it asks for, in the scopes that are left and heard as the run was at its start; over
+-- so many names that were not loaded before. Each parent's name was not, so with none left no parent is asked for.
+abbrev pub run_of : HostValue → Nests → Trees → ℕ → StreamId → Run → List ℕ → World → Outcome
+run_of host nests trees zero s run out w =
+    let o = stream_run (under host nests (trees s)) (trees s) run out w in
+    restarting o.ending o (λ t. failed InvalidOperation run o.text o.world)
+run_of host nests trees (suc n) s run out w =
+    let o = stream_run (under host nests (trees s)) (trees s) run out w in
+    restarting o.ending o (λ t. run_of host nests trees n (root_of t) run o.text (record o.world { stream = root_of t }))
+
 -- what nests, over as many levels of depth: level zero isn't reached, since each run that nests stands at least one deeper, and within the
 -- limit
 abbrev pub nests_of : HostValue → Trees → ℕ → Nests
@@ -560,7 +589,7 @@ nests_of host trees (suc n) (macro_of s entry given) heard out w =
     macro_run (under host (nests_of host trees n) (trees s)) (slice_get (macros_in first_numbers (trees s).row) entry) given
     (new_run heard w) out w
 nests_of host trees (suc n) (whole s) heard out w =
-    stream_run (under host (nests_of host trees n) (trees s)) (trees s) (new_run heard w) out w
+    run_of host (nests_of host trees n) trees (names_left host w) s (new_run heard w) out w
 
 -- ---------------------------------------------------------------- renders
 abbrev pub first_fuel : Option ℕ → ℕ
@@ -590,6 +619,10 @@ first_world host t id fuel context = record {
 -- What a render means, from a world: the stream that it names, heard.
 abbrev pub rendered : HostValue → Trees → World → Outcome
 rendered host trees w = nests_of host trees (host.limit + 1) (whole w.stream) true [] w
+
+-- What the block of a name means that a state is asked for, from its world: its tag, heard and where no parent waits.
+abbrev pub rendered_block : HostValue → Trees → List ℕ → World → Outcome
+rendered_block host trees b w = block_tag (under host (nests_of host trees (host.limit + 1)) empty) (new_run true w) b [] w
 
 -- the chain of kinds, which is empty where all was done
 abbrev pub chain_in : Ending → List ErrorKind

@@ -1,8 +1,9 @@
 -- Worked renders, through the meaning, and through the code and the machine.
-use Rattle.std.specs.Prelude.{◌≡◌, ℕ, ◌-◌, List, [], ◌∷◌, Option, Some, None, Bool, true, false, codes, pos, Ok}
+use Rattle.std.specs.Prelude.{◌≡◌, ℕ, ◌-◌, List, [], ◌∷◌, map as each, Option, Some, None, Bool, true, false, codes, pos, Ok}
 use Rattle.tm_values.specs.Val.{Val, undefined, boolean, number, text, map, pairs_of}
 use Rattle.tm_values.specs.declared.error.ErrorKind.{ErrorKind}
 use Rattle.tm_values.specs.declared.error.ErrorKind.TheVariants as kind
+use Rattle.tm_values.specs.declared.escape.AutoEscape.{AutoEscape}
 use Rattle.tm_values.specs.declared.escape.AutoEscape.TheVariants as escapes
 use Rattle.tm_values.specs.declared.undefined.UndefinedBehavior.{UndefinedBehavior}
 use Rattle.tm_values.specs.declared.undefined.UndefinedBehavior.TheVariants.{Lenient}
@@ -24,7 +25,7 @@ use Rattle.tm_syntax.specs.declared.tree.Stmt.{None' as no_else, Some' as otherw
 use Rattle.tm_syntax.specs.Forms.{unary, chained, conditional, with_condition, with_comparison, binary, compare, and_then, or_else}
 use Rattle.tm_meaning.specs.Compiled.{code_of}
 use Rattle.tm_meaning.specs.World.{Bindings, find_name, view_of, own, World, HostValue, Function, Named, Object, Fallback, Format}
-use Rattle.tm_meaning.specs.World.{fuel_levels}
+use Rattle.tm_meaning.specs.World.{fuel_levels, Template}
 use Rattle.tm_meaning.specs.Calls.{whole}
 use Rattle.tm_meaning.specs.Tree.{Body, body_of, TemplateTree, Trees, template_of, trees_of}
 use Rattle.tm_meaning.specs.Meaning.{rendered, first_world, chain_of}
@@ -33,7 +34,10 @@ use Rattle.tm_meaning.specs.Steps.{Final, begins, run_for}
 
 -- ---------------------------------------------------------------- a page and its renders
 pub record Page : Type 0 where
+  pub name : List ℕ
+  pub escape : AutoEscape
   pub body : Body
+  pub templates : Named TemplateTree
   pub context : Val
   pub globals : Bindings
   pub functions : List Function
@@ -46,7 +50,10 @@ pub record Page : Type 0 where
 
 abbrev pub page : Body → Val → Page
 page body context = record {
+  name = codes "page";
+  escape = escapes.None;
   body = body;
+  templates = [];
   context = context;
   globals = [];
   functions = [];
@@ -59,12 +66,15 @@ page body context = record {
 }
 
 abbrev pub tree_of : Page → TemplateTree
-tree_of p = record { name = codes "page"; escape = escapes.None; root = p.body }
+tree_of p = record { name = p.name; escape = p.escape; root = p.body }
+
+abbrev pub with_template : List ℕ × TemplateTree → List ℕ × Template
+with_template t = (t.0, template_of t.1)
 
 abbrev pub host_of : Page → HostValue
 host_of p = record {
   own = template_of (tree_of p);
-  templates = [];
+  templates = each with_template p.templates;
   globals = p.globals;
   functions = p.functions;
   filters = p.filters;
@@ -77,7 +87,7 @@ host_of p = record {
 }
 
 abbrev pub trees : Page → Trees
-trees p = trees_of (tree_of p) []
+trees p = trees_of (tree_of p) p.templates
 
 abbrev pub world_of : Page → Option ℕ → World
 world_of p fuel = first_world (host_of p) own 0 fuel p.context
@@ -111,7 +121,7 @@ abbrev pub ended : Page → Option ℕ → Option Final
 ended p fuel =
     let w = world_of p fuel in
     let f = base_of true [] w in
-    run_for 200 (program_of p) f [] (begins (program_of p) f (whole w.stream) [] w)
+    run_for 1000 (program_of p) f [] (begins (program_of p) f (whole w.stream) [] w)
 
 abbrev pub ran : Page → Option ℕ → Said
 ran p fuel = said_by (ended p fuel)
@@ -295,14 +305,14 @@ given t e = record { target = t; value = e }
 
 -- {% block b %}x{{ a }}{% endblock %}y
 abbrev pub block_of_two : Stmt
-block_of_two = Block' (codes "b") (tt ∷ tt ∷ []) (statement (raw (codes "x")) (statement (EmitExpr a) no_statement))
+block_of_two = Block' (codes "b") false (tt ∷ tt ∷ []) (statement (raw (codes "x")) (statement (EmitExpr a) no_statement))
 
 abbrev pub in_block : ℕ → Page
 in_block limit = record (page (two block_of_two (raw (codes "y"))) nothing) { limit = limit }
 
 -- {% if a %}{% block b %}x{% endblock %}{% endif %}[
 abbrev pub block_not_reached : Page
-block_not_reached = page (two (if_one a (Block' (codes "b") (tt ∷ []) (statement (raw (codes "x")) no_statement)) no_else)
+block_not_reached = page (two (if_one a (Block' (codes "b") false (tt ∷ []) (statement (raw (codes "x")) no_statement)) no_else)
     (raw (codes "["))) nothing
 
 -- x{% block b %}{% autoescape "html" %}{% with a = 1 %}{{ nope() }}{% endwith %}{% endautoescape %}{% endblock %}
@@ -311,7 +321,7 @@ fault_in_block =
     let fault = statement (EmitExpr (Call' (codes "nope") [] no_argument [] no_keyword)) no_statement in
     let scoped = With' (given (To (codes "a")) (literal_number 1) ∷ []) (tt ∷ []) fault in
     let escaped = AutoEscape' (literal (codes "html")) (tt ∷ []) (statement scoped no_statement) in
-    page (two (raw (codes "x")) (Block' (codes "b") (tt ∷ []) (statement escaped no_statement))) nothing
+    page (two (raw (codes "x")) (Block' (codes "b") false (tt ∷ []) (statement escaped no_statement))) nothing
 
 -- {% with a = 1, b = a %}{{ b }}{% endwith %}{{ b }}
 abbrev pub with_two : Page

@@ -6,17 +6,17 @@ use Rattle.tm_syntax.specs.declared.instruction.Instruction.TheVariants as i
 use Rattle.tm_syntax.specs.declared.tree.Application.TheVariants as applications
 use Rattle.tm_syntax.specs.declared.tree.UnaryOperator.TheVariants as unaries
 use Rattle.tm_syntax.specs.declared.tree.BinaryOperator.TheVariants as binaries
-use Rattle.tm_meaning.specs.World.{choose, World, Res, pays}
+use Rattle.tm_meaning.specs.World.{choose, TemplateId, World, Res, pays}
 use Rattle.tm_values.specs.declared.error.ErrorKind.TheVariants.{InvalidOperation}
 use Rattle.tm_meaning.specs.Calls.{Callee}
-use Rattle.tm_meaning.specs.Machine.{Activation, Capture, Config, Base, End, Finished, Failed, Back, back_to, Next, More, Over, Nest, Program}
-use Rattle.tm_meaning.specs.Machine.{after, stuck, with_world, first_run, running}
+use Rattle.tm_meaning.specs.Machine.{Activation, Capture, Config, Base, End, Finished, Failed, Back, back_to, Next, More, Over, Restart, Nest, Program}
+use Rattle.tm_meaning.specs.Machine.{after, stuck, with_world, first_run, running, restarted}
 use Rattle.tm_meaning.specs.Instructions.{emit_raw_of, emit_of, lookup_of, load_const_of, get_attr_of, unary_of, binary_of}
 use Rattle.tm_meaning.specs.Instructions.{compare_and_preserve_of, swap_of, dup_top_of, discard_top_of, get_item_of, slice_instruction_of}
 use Rattle.tm_meaning.specs.Instructions.{build_list_of, build_map_of, build_kwargs_of, jump_of, jump_if_false_of, jump_if_false_or_pop_of}
 use Rattle.tm_meaning.specs.Instructions.{merge_kwargs_of, unpack_lists_of, call_object_of}
 use Rattle.tm_meaning.specs.Instructions.{jump_if_true_or_pop_of, call_function_of, apply_of, fast_recurse_of, call_block_of}
-use Rattle.tm_meaning.specs.Instructions.{apply_filter_of, perform_test_of}
+use Rattle.tm_meaning.specs.Instructions.{apply_filter_of, perform_test_of, fast_super_of, load_blocks_of}
 use Rattle.tm_meaning.specs.Instructions.{store_local_of, unpack_list_of, set_attr_of, push_with_of, pop_frame_of, push_loop_of, iterate_of}
 use Rattle.tm_meaning.specs.Instructions.{push_did_not_iterate_of, pop_loop_frame_of, begin_capture_of, end_capture_of, push_auto_escape_of}
 use Rattle.tm_meaning.specs.Instructions.{pop_auto_escape_of, is_undefined_of, enclose_of, get_closure_of, build_macro_of}
@@ -35,6 +35,7 @@ charge_of i.PushAutoEscape = 0
 charge_of i.PopAutoEscape = 0
 charge_of (i.BuildMacro _ _ _) = 0
 charge_of i.Return = 0
+charge_of i.LoadBlocks = 0
 charge_of (i.EmitRaw _) = 1
 charge_of i.Emit = 1
 charge_of (i.Lookup _) = 1
@@ -78,6 +79,7 @@ charge_of (i.CallObject _) = 1
 charge_of (i.ApplyFilter _ _ _) = 1
 charge_of (i.PerformTest _ _ _) = 1
 charge_of (i.CallBlock _) = 1
+charge_of i.FastSuper = 1
 charge_of (i.StoreLocal _) = 1
 charge_of (i.Enclose _) = 1
 charge_of i.GetClosure = 1
@@ -101,7 +103,12 @@ closed f c =
     nat_eq f.captures (length c.captures) && nat_eq f.scopes
     (length c.world.scopes.frames) && is_empty c.run.escapes && is_empty c.run.loops
 
--- A run is over, with all closed that it opened.
+-- Where no parent waits a stream's run is over, and else it restarts there.
+abbrev pub parent_next : Option TemplateId → Config → Next
+parent_next None c = Over (Finished c.captures c.world)
+parent_next (Some t) c = Restart (restarted t c)
+
+-- A macro's run is over, with all closed that it opened; a parent that waits there runs nowhere.
 abbrev pub return_of : Base → Config → Next
 return_of f c = choose (closed f c) (λ _. Over (Finished c.captures c.world)) (λ _. stuck c.world)
 
@@ -152,6 +159,8 @@ effect p f (i.ApplyFilter x n cache) c = apply_filter_of p x n cache c
 effect p f (i.PerformTest x n cache) c = perform_test_of p x n cache c
 effect p f i.FastRecurse c = fast_recurse_of p f c
 effect p f (i.CallBlock b) c = call_block_of p f b c
+effect p f i.FastSuper c = fast_super_of p f c
+effect p f i.LoadBlocks c = load_blocks_of p.host f c
 effect p f (i.StoreLocal x) c = store_local_of x c
 effect p f (i.Enclose x) c = enclose_of p.host x c
 effect p f i.GetClosure c = get_closure_of c
@@ -170,9 +179,9 @@ effect p f i.EndCapture c = end_capture_of c
 effect p f i.PushAutoEscape c = push_auto_escape_of f c
 effect p f i.PopAutoEscape c = pop_auto_escape_of c
 
--- Behind the last instruction the run is over, with all closed that it opened.
+-- Behind the last instruction, with all closed that the run opened, it is over, or restarts in the parent that waits.
 abbrev pub finish : ℕ → Base → Config → Next
-finish size f c = choose (nat_eq c.run.place size && closed f c) (λ _. Over (Finished c.captures c.world)) (λ _. stuck c.world)
+finish size f c = choose (nat_eq c.run.place size && closed f c) (λ _. parent_next c.run.parent c) (λ _. stuck c.world)
 
 abbrev pub act : Program → Base → Option Instruction → Config → Next
 act p f None c = finish (length (p.code c.run.stream)) f c
@@ -195,6 +204,7 @@ final t e = record { text = t; end = e }
 pub data Leads (p : Program) : Base → List ℕ → Next → Final → Type 0 where
   over : {f : Base} {t : List ℕ} {n : Next} {e : End} {o : Final} → n ≡ Over e → o ≡ final t e → Leads p f t n o
   more : {f : Base} {t d : List ℕ} {n : Next} {c : Config} {o : Final} → n ≡ More d c → Leads p f (t ++ d) (step p f c) o → Leads p f t n o
+  restart : {f : Base} {t : List ℕ} {n : Next} {c : Config} {o : Final} → n ≡ Restart c → Leads p f t (step p f c) o → Leads p f t n o
   nest : {f g : Base} {t : List ℕ} {n : Next} {c : Config} {back : Back} {e o : Final} →
       n ≡ Nest g c back → Leads p g t (step p g c) e → Leads p f e.text (back_to back e.end) o → Leads p f t n o
 
@@ -219,4 +229,5 @@ abbrev pub run_for : ℕ → Program → Base → List ℕ → Next → Option F
 run_for zero p f t n = None
 run_for (suc k) p f t (More d c) = run_for k p f (t ++ d) (step p f c)
 run_for (suc k) p f t (Over e) = Some (final t e)
+run_for (suc k) p f t (Restart c) = run_for k p f t (step p f c)
 run_for (suc k) p f t (Nest g c back) = and_on (run_for k p g t (step p g c)) (λ o. run_for k p f o.text (back_to back o.end))

@@ -1,7 +1,7 @@
 -- Templates as trees, and the trees of their streams.
-use Rattle.std.specs.Prelude.{ℕ, List, [], map as each, Option, Some, None, false}
+use Rattle.std.specs.Prelude.{ℕ, List, map as each, Option, Some, None, false}
 use Rattle.tm_values.specs.declared.escape.AutoEscape.{AutoEscape}
-pub use Rattle.tm_syntax.specs.Blocks.{Body, body_of, empty, blocks_in}
+pub use Rattle.tm_syntax.specs.Blocks.{Body, body_of, empty, FoundBlock, blocks_in}
 use Rattle.tm_syntax.specs.Named.{by_name}
 use Rattle.tm_meaning.specs.World.{Named, find, TemplateId, own, entry, StreamId, Card, Template, or_is}
 
@@ -14,8 +14,8 @@ pub record TemplateTree : Type 0 where
 abbrev pub card : Card
 card = record { required = false }
 
-abbrev pub carded : List ℕ × Body → List ℕ × Card
-carded b = (b.0, card)
+abbrev pub carded : List ℕ × FoundBlock → List ℕ × Card
+carded b = (b.0, record { required = b.1.required })
 
 abbrev pub template_of : TemplateTree → Template
 template_of t = record { name = t.name; escape = t.escape; root = card; blocks = each carded (by_name (blocks_in t.root.row)) }
@@ -24,9 +24,9 @@ template_of t = record { name = t.name; escape = t.escape; root = card; blocks =
 abbrev pub Trees : Type 0
 Trees = StreamId → Body
 
-abbrev pub or_empty : Option Body → Body
+abbrev pub or_empty : Option FoundBlock → Body
 or_empty None = empty
-or_empty (Some body) = body
+or_empty (Some b) = b.body
 
 abbrev pub part_of : TemplateTree → Option (List ℕ) → Body
 part_of t None = t.root

@@ -11,6 +11,7 @@ ghost use Rattle.tm_meaning.specs.Steps.{Final, Leads};
 ghost use Rattle.tm_meaning.specs.World.{View, find_name};
 
 mod base;
+mod block_trees;
 mod function;
 mod guards;
 mod macro_trees;
@@ -24,6 +25,11 @@ mod stream;
 mod wrapping;
 
 pub use base::Base;
+pub use block_trees::{
+    block_fault_rows, block_value_rows, extends_rows, further_block_call_rows, layout_rows,
+    loaded_rows, parent_chain_rows, parent_scope_rows, refused_extends_rows, required_rows,
+    restart_rows, state_block_rows, super_rows,
+};
 pub use function::GlobalFunction;
 pub use guards::{
     block_guards, call_guards, emission_guards, fuel_guards, look_up_guards, loop_guards,

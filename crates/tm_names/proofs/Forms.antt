@@ -1,6 +1,6 @@
 -- The forms of a tree as the program holds them.
 use Rattle.std.proofs.Common.{◌≡◌, ℕ, ◌+◌, ◌<◌, List, [], ◌∷◌, length, drop, refl, sym, ap, ◌∙◌, arith, drop-cons}
-use Rattle.std.specs.Prelude.{get_or, Bool, true, false, cond, ◌&&◌, ◌↔◌, IsTrue, Option, Some, None, slice_get}
+use Rattle.std.specs.Prelude.{get_or, Bool, true, false, cond, Option, Some, None}
 use denote.Hole.Carrier.{hidden}
 use Rattle.tm_syntax.specs.declared.tree.UnaryOperator.{UnaryOperator}
 use Rattle.tm_syntax.specs.declared.tree.BinaryOperator.{BinaryOperator}
@@ -30,9 +30,9 @@ use Rattle.tm_syntax.specs.declared.tree.Stmt.{Stmt}
 use Rattle.tm_syntax.specs.declared.tree.Stmt.TheBlock.{hidden-the_row-Stmt-0 as statements, shape-the_row-Stmt-0}
 use Rattle.tm_syntax.specs.Names.{Walk, name_of, read_first, walk_expr, walk_exprs, walk_pairs, walk_argument, walk_arguments, walk_keyword}
 use Rattle.tm_syntax.specs.Names.{walk_keywords, walk_conditions, walk_step, walk_steps, walk_comparisons}
-use Rattle.tm_syntax.specs.Names.{attribute_of, begins_bare, dot, dotted, dotted_on, is_bare_method, method_of, no_arguments, no_keywords}
+use Rattle.tm_syntax.specs.Names.{attribute_of, dot, dotted, dotted_on, method_of}
 use Rattle.tm_syntax.specs.Names.{walk, walk_all, walk_target, walk_targets}
-use Rattle.tm_syntax.specs.Names.{calls_block, read, read_as, read_chain, with_member}
+use Rattle.tm_syntax.specs.Names.{read, read_as, read_chain, with_member}
 
 -- ---------------------------------------------------------------- expressions
 pub walk-unary : (n : Bool) (op : UnaryOperator) (x : Expr) (w : Walk) → walk_expr n (e.Unary op x) w ≡ walk_expr n x w
@@ -290,56 +290,11 @@ last-dotted all rest f x y goal left is p g = p ∙ dotted-behind all rest f Non
 pub no_more-dotted : (rest : List Step) (x goal : List ℕ) → rest ≡ [] → dotted x (steps rest) ≡ goal → x ≡ goal
 no_more-dotted rest x goal none g = sym (dotted-nil x) ∙ ap (λ l. dotted x (steps l)) (sym none) ∙ g
 
--- ---------------------------------------------------------------- methods without arguments
-same-arguments : (xs : List Argument) (b : Bool) → (IsTrue b ↔ (xs ≡ [])) → b ≡ no_arguments (arguments xs)
-unfolding hidden arguments shape-the_row-Argument-3
-same-arguments [] b h = h.1 refl
-same-arguments (x ∷ xs) true h = cc (h.0 refl)
-same-arguments (x ∷ xs) false h = refl
-
-same-keywords : (ks : List Keyword) (b : Bool) → (IsTrue b ↔ (ks ≡ [])) → b ≡ no_keywords (keywords ks)
-unfolding hidden keywords shape-the_row-Keyword-4
-same-keywords [] b h = h.1 refl
-same-keywords (x ∷ xs) true h = cc (h.0 refl)
-same-keywords (x ∷ xs) false h = refl
-
-pub both-empty : (xs : List Argument) (ks : List Keyword) (b c : Bool) → (IsTrue b ↔ (xs ≡ [])) → b ≡ true → (IsTrue c ↔ (ks ≡ [])) →
-    c ≡ (no_arguments (arguments xs) && no_keywords (keywords ks))
-both-empty xs ks b c h is g =
-    same-keywords ks c g ∙ sym (ap (λ v. v && no_keywords (keywords ks)) (sym (same-arguments xs b h) ∙ is))
-
-pub not-empty : (xs : List Argument) (ks : List Keyword) (b : Bool) → (IsTrue b ↔ (xs ≡ [])) → b ≡ false →
-    b ≡ (no_arguments (arguments xs) && no_keywords (keywords ks))
-not-empty xs ks b h is = is ∙ sym (ap (λ v. v && no_keywords (keywords ks)) (sym (same-arguments xs b h) ∙ is))
-
-begins-none : begins_bare (steps []) ≡ false
-unfolding hidden steps shape-the_row-Step-5
-begins-none = refl
-
-begins-with : (f : Step) (fs : List Step) → begins_bare (steps (f ∷ fs)) ≡ is_bare_method f
-unfolding hidden steps shape-the_row-Step-5
-begins-with f fs = refl
-
-pub none-begins : (fs : List Step) → None ≡ slice_get fs 0 → false ≡ begins_bare (steps fs)
-none-begins [] h = sym begins-none
-none-begins (f ∷ fs) h = cc
-
-pub first-begins : (fs : List Step) (f : Step) (b : Bool) → Some f ≡ slice_get fs 0 → b ≡ is_bare_method f → b ≡ begins_bare (steps fs)
-first-begins [] f b h is = cc
-first-begins (g ∷ fs) f b h is = let same : f ≡ g = cc in is ∙ ap is_bare_method same ∙ sym (begins-with g fs)
-
 -- ---------------------------------------------------------------- names with steps
-chain-read : (n : Bool) (x : List ℕ) (fs : List Step) (w : Walk) (b : Bool) → b ≡ calls_block x (steps fs) → b ≡ false →
-    read_as x (cond n (dotted x (steps fs)) x) w ≡ read_chain n x (steps fs) w
-chain-read n x fs w b is none = sym (ap {B = Walk} (λ v. cond v w (read_as x (cond n (dotted x (steps fs)) x) w)) (sym is ∙ none))
+pub plain-chain : (n : Bool) (x : List ℕ) (fs : List Step) (w w1 : Walk) → n ≡ false → w1 ≡ read x w → w1 ≡ read_chain n x (steps fs) w
+plain-chain n x fs w w1 flat p = p ∙ sym (ap {B = Walk} (λ m. read_as x (cond m (dotted x (steps fs)) x) w) flat)
 
-pub plain-chain : (n : Bool) (x : List ℕ) (fs : List Step) (w w1 : Walk) (b : Bool) → b ≡ calls_block x (steps fs) → b ≡ false →
-    n ≡ false → w1 ≡ read x w → w1 ≡ read_chain n x (steps fs) w
-plain-chain n x fs w w1 b is none flat p =
-    p ∙ sym (ap {B = Walk} (λ m. read_as x (cond m (dotted x (steps fs)) x) w) flat) ∙ chain-read n x fs w b is none
-
-pub nested-chain : (n : Bool) (x text : List ℕ) (fs : List Step) (w w1 : Walk) (b : Bool) → b ≡ calls_block x (steps fs) → b ≡ false →
-    n ≡ true → text ≡ dotted x (steps fs) → w1 ≡ read_as x text w → w1 ≡ read_chain n x (steps fs) w
-nested-chain n x text fs w w1 b is none deep same p =
+pub nested-chain : (n : Bool) (x text : List ℕ) (fs : List Step) (w w1 : Walk) → n ≡ true → text ≡ dotted x (steps fs) →
+    w1 ≡ read_as x text w → w1 ≡ read_chain n x (steps fs) w
+nested-chain n x text fs w w1 deep same p =
     p ∙ ap {B = Walk} (λ t. read_as x t w) same ∙ sym (ap {B = Walk} (λ m. read_as x (cond m (dotted x (steps fs)) x) w) deep)
-    ∙ chain-read n x fs w b is none

@@ -3,7 +3,7 @@ use Rattle.std.proofs.Common.{◌≡◌, ◌∙◌, ℕ, List, [], ◌∷◌, re
 use Rattle.std.specs.Prelude.{Option, Some, None, Bool, true, false, cond, codes}
 use Rattle.tm_syntax.specs.Forms.{unary, chained, conditional, with_condition, with_comparison, with_pair, plain, spread, keyword}
 use Rattle.tm_syntax.specs.Forms.{spread_keywords, item, slice, binary, compare, and_then, or_else}
-use Rattle.tm_syntax.specs.declared.tree.Expr.{Expr, Var, Const, List', Tuple', Map', Call', Row_of-Expr, end_of-Expr as no_expr}
+use Rattle.tm_syntax.specs.declared.tree.Expr.{Expr, Var, Const, List', Tuple', Map', Call', SelfBlock, Row_of-Expr, end_of-Expr as no_expr}
 use Rattle.tm_syntax.specs.declared.tree.Expr.{more_of-Expr as expr, Row_of-Pair, end_of-Pair as no_pair}
 use Rattle.tm_syntax.specs.declared.tree.Expr.{Row_of-Argument, end_of-Argument as no_argument, more_of-Argument as argument}
 use Rattle.tm_syntax.specs.declared.tree.Expr.{Row_of-Keyword, end_of-Keyword as no_keyword, more_of-Keyword as keyword_and, Row_of-Step}
@@ -19,12 +19,13 @@ use Rattle.tm_syntax.specs.declared.tree.Assignment.{Assignment}
 use Rattle.tm_syntax.specs.declared.tree.Parameter.{Parameter}
 use Rattle.tm_syntax.specs.declared.tree.CaptureUse.{CaptureUse}
 use Rattle.tm_syntax.specs.declared.tree.CaptureUse.TheVariants as uses
-use Rattle.tm_syntax.specs.declared.tree.Stmt.{Stmt, EmitRaw, EmitExpr, EmitLoop, If', For', Break, Continue, Block', Set, CaptureBlock'}
-use Rattle.tm_syntax.specs.declared.tree.Stmt.{With', Do, AutoEscape', Macro', CallBlock', Row_of-Stmt, end_of-Stmt as no_statement}
+use Rattle.tm_syntax.specs.declared.tree.Stmt.{Stmt, EmitRaw, EmitExpr, EmitLoop, EmitBlock, EmitSuper, If', For', Break, Continue, Block'}
+use Rattle.tm_syntax.specs.declared.tree.Stmt.{Extends, Set, CaptureBlock', With', Do, AutoEscape', Macro', CallBlock', Row_of-Stmt}
+use Rattle.tm_syntax.specs.declared.tree.Stmt.{end_of-Stmt as no_statement}
 use Rattle.tm_syntax.specs.declared.tree.Stmt.{more_of-Stmt as statement, Held-Stmt-If-2 as Otherwise, None' as no_else}
 use Rattle.tm_syntax.specs.declared.tree.Stmt.{Some' as otherwise}
 use Rattle.tm_syntax.specs.Names.{Walk, Scope, assign, close_scope, name_of, open_scope, outer_of, read_as, read_chain, read_first}
-use Rattle.tm_syntax.specs.Names.{calls_block, dotted, is_assigned, with_assigned, with_name, read_function}
+use Rattle.tm_syntax.specs.Names.{dotted, is_assigned, with_assigned, with_name, read_function}
 use Rattle.tm_syntax.specs.Names.{walk, walk_all, walk_argument, walk_arguments, walk_assignments, walk_comparisons, walk_condition}
 use Rattle.tm_syntax.specs.Names.{walk_conditions, walk_else, walk_expr, walk_exprs, walk_filters, walk_head, walk_keyword, walk_keywords}
 use Rattle.tm_syntax.specs.Names.{walk_pairs, walk_parameters, walk_step, walk_steps, walk_target, walk_targets, walk_use}
@@ -38,7 +39,7 @@ read_stays : (x text : List ℕ) (k : Walk) → (read_as x text k).assigned ≡ 
 read_stays x text k = either_stays (is_assigned x k.assigned) k k (record k { found = with_name text k.found }) refl refl
 
 chain_stays : {n : _} → (d : Bool) (x : List ℕ) (ss : Row_of-Step n) (k : Walk) → (read_chain d x ss k).assigned ≡ k.assigned
-chain_stays d x ss k = either_stays (calls_block x ss) k k _ refl (read_stays x (cond d (dotted x ss) x) k)
+chain_stays d x ss k = read_stays x (cond d (dotted x ss) x) k
 
 function_stays : (f : List ℕ) (k : Walk) → (read_function f k).assigned ≡ k.assigned
 function_stays f k = either_stays _ k k _ refl (read_stays f f k)
@@ -56,6 +57,7 @@ mutual
   expr_stays d (Tuple' _ es) k = exprs_stay d es k
   expr_stays d (Map' _ ps) k = pairs_stay d ps k
   expr_stays d (Call' f _ given _ named) k = keywords_stay d named _ ∙ arguments_stay d given _ ∙ function_stays f k
+  expr_stays d (SelfBlock x) k = refl
   expr_stays d (unary op a) k = expr_stays d a k
   expr_stays d (chained a _ ss) k =
       steps_stay d ss _ ∙ first_stays d (name_of a) ss k (walk_expr d a k) (expr_stays d a k)
@@ -167,7 +169,10 @@ mutual
       else_within d other _ ∙ ap outer_of (all_within d body _ ∙ head_within d t c _) ∙ expr_within d e k
   walk_within d Break k = refl
   walk_within d Continue k = refl
-  walk_within d (Block' x _ body) k = ap outer_of (all_within d body (open_scope k))
+  walk_within d (EmitBlock x) k = refl
+  walk_within d EmitSuper k = refl
+  walk_within d (Extends e) k = expr_within d e k
+  walk_within d (Block' x required _ body) k = ap outer_of (all_within d body (open_scope k))
   walk_within d (Set t e) k = expr_within d e _ ∙ target_within d t k
   walk_within d (CaptureBlock' u filters _ body) k =
       all_within d body _ ∙ ap outer_of (filters_stay d filters _) ∙ use_within d u k

@@ -2,12 +2,13 @@
 use Rattle.std.specs.Prelude.{◌≡◌, ℕ, List, [], ◌∷◌, Some, None, true, false, codes, refl}
 use Rattle.tm_syntax.specs.Forms.{chained, plain}
 use Rattle.tm_syntax.specs.declared.tree.Application.TheVariants as applications
-use Rattle.tm_syntax.specs.declared.tree.Expr.{Expr, Var, Call'}
+use Rattle.tm_syntax.specs.declared.tree.Expr.{Expr, Var, Call', SelfBlock}
 use Rattle.tm_syntax.specs.declared.tree.Expr.{end_of-Argument as no_argument, more_of-Argument as argument, end_of-Keyword as no_keyword}
 use Rattle.tm_syntax.specs.declared.tree.Expr.{end_of-Step as no_step, more_of-Step as step}
 use Rattle.tm_syntax.specs.declared.tree.Step.{Attribute, Apply'}
 use Rattle.tm_syntax.specs.declared.tree.AssignmentTarget.{Name as To}
-use Rattle.tm_syntax.specs.declared.tree.Stmt.{Stmt, EmitExpr, For', Block', Set, With', Macro', CallBlock', Row_of-Stmt}
+use Rattle.tm_syntax.specs.declared.tree.Stmt.{Stmt, EmitExpr, EmitBlock, EmitSuper, For', Block', Extends, Set, With', Macro', CallBlock'}
+use Rattle.tm_syntax.specs.declared.tree.Stmt.{Row_of-Stmt}
 use Rattle.tm_syntax.specs.declared.tree.Stmt.{end_of-Stmt as no_statement, more_of-Stmt as statement, Some' as otherwise}
 use Rattle.tm_syntax.specs.declared.tree.Parameter.{Parameter}
 use Rattle.tm_syntax.specs.Names.{free_names, takes_caller, undeclared}
@@ -88,7 +89,7 @@ loop_closes : undeclared false (statement loop no_statement) ≡ codes "loop" �
 loop_closes = refl
 
 -- {% block b %}{% set x = x %}{% endblock %}{{ x }}
-block_closes : undeclared false (statement (Block' (codes "b") (tt ∷ []) (statement (sets (codes "x")) no_statement))
+block_closes : undeclared false (statement (Block' (codes "b") false (tt ∷ []) (statement (sets (codes "x")) no_statement))
     (statement (writes (codes "x")) no_statement)) ≡ codes "x" ∷ []
 block_closes = refl
 
@@ -104,9 +105,18 @@ no_super : undeclared false (statement (EmitExpr (Call' (codes "super") (tt ∷ 
     no_keyword)) no_statement) ≡ codes "a" ∷ []
 no_super = refl
 
--- {{ self.b() }} and {{ x.b() }}
-own_block : undeclared true (statement (EmitExpr (method (codes "self"))) no_statement) ≡ []
-own_block = refl
+-- {{ super() }}{{ self.b() }}, and the text of a block as a value
+own_blocks : undeclared true (statement EmitSuper (statement (EmitBlock (codes "b")) (statement (EmitExpr (SelfBlock (codes "b")))
+    no_statement))) ≡ []
+own_blocks = refl
+
+-- {% extends x %}
+parent_reads : undeclared false (statement (Extends (name (codes "x"))) no_statement) ≡ codes "x" ∷ []
+parent_reads = refl
+
+-- a method `b` of the names `self` and `x`
+method_of_self : undeclared true (statement (EmitExpr (method (codes "self"))) no_statement) ≡ codes "self.b" ∷ []
+method_of_self = refl
 
 nested_method : undeclared true (statement (EmitExpr (method (codes "x"))) no_statement) ≡ codes "x.b" ∷ []
 nested_method = refl

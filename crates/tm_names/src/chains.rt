@@ -1,18 +1,14 @@
 //! Names with the attributes behind them.
 ghost use Rattle.std.specs.Option.{option_copied};
-ghost use Rattle.std.specs.Prelude.{◌≡◌, ◌&&◌, [], ◌∷◌, IfOk, IfErr, OnOk};
+ghost use Rattle.std.specs.Prelude.{◌≡◌, [], ◌∷◌, IfOk, IfErr, OnOk};
 ghost use Rattle.std.specs.String.{string_bytes};
-ghost use Rattle.tm_syntax.specs.Names.{attribute_of, begins_bare, calls_block, dot, dotted};
-ghost use Rattle.tm_syntax.specs.Names.{is_bare_method, is_method, method_of, name_of};
-ghost use Rattle.tm_syntax.specs.Names.{no_arguments, no_keywords, with_member};
-ghost use Rattle.tm_syntax.specs.declared.tree.Argument.TheBlock.{hidden-the_row-Argument-3 as arguments};
-ghost use Rattle.tm_syntax.specs.declared.tree.Argument.TheBlock.{hidden-the_row-Keyword-4 as keywords};
+ghost use Rattle.tm_syntax.specs.Names.{attribute_of, dot, dotted};
+ghost use Rattle.tm_syntax.specs.Names.{is_method, method_of, name_of, with_member};
 ghost use Rattle.tm_syntax.specs.declared.tree.Argument.TheBlock.{hidden-the_row-Step-5 as steps};
 ghost use Rattle.tm_values.specs.declared.error.ErrorKind.TheVariants.{OutOfMemory};
 
-use sqlite_items::Items;
 use std::alloc::Global;
-use tm_syntax::{Application, Argument, Expr, Keyword, Name, Step};
+use tm_syntax::{Application, Expr, Name, Step};
 use tm_values::Error;
 
 /// The name that an expression is; none of another expression.
@@ -26,6 +22,7 @@ pub(crate) fn name_of(expr: &Expr) -> Option<&Name>
         | Expr::Tuple(_)
         | Expr::Map(_)
         | Expr::Call(_, _, _)
+        | Expr::SelfBlock(_)
         | Expr::Unary(_, _)
         | Expr::Chain(_, _)
         | Expr::Conditional(_, _) => None,
@@ -80,49 +77,6 @@ fn method_of(step: &Step) -> Option<&Name>
         | Step::And(_)
         | Step::Or(_) => None,
     }
-}
-
-/// Whether there are no arguments.
-fn no_arguments(given: &Items<Argument>, named: &Items<Keyword>) -> bool
-    ensures { result ≡ (no_arguments (arguments given.now) && no_keywords (keywords named.now)) }
-{
-    given.is_empty() && named.is_empty()
-}
-
-/// Whether a step is a method without any arguments.
-fn is_bare_method(step: &Step) -> bool
-    ensures { result ≡ is_bare_method step.now }
-{
-    match step {
-        Step::Apply(application, _, given, named) => {
-            is_method(*application) && no_arguments(given, named)
-        }
-        Step::Attribute(_)
-        | Step::Item(_)
-        | Step::Call(_, _)
-        | Step::Slice(_, _, _)
-        | Step::Binary(_, _)
-        | Step::Compare(_, _, _)
-        | Step::And(_)
-        | Step::Or(_) => false,
-    }
-}
-
-/// Whether steps begin with a method without any arguments.
-fn begins_bare(after: &[Step]) -> bool
-    ensures { result ≡ begins_bare (steps after.now) }
-{
-    match after.first() {
-        Some(step) => is_bare_method(step),
-        None => false,
-    }
-}
-
-/// Whether a name with these steps is the text of one of the template's own blocks, `self.b()`.
-pub(crate) fn calls_block(name: &Name, after: &[Step]) -> bool
-    ensures { result ≡ calls_block name.now (steps after.now) }
-{
-    name.is("self") && begins_bare(after)
 }
 
 /// Adds an attribute to a text; OutOfMemory.

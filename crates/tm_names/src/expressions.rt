@@ -13,7 +13,7 @@ ghost use Rattle.tm_syntax.specs.declared.tree.Argument.TheBlock.{hidden-the_row
 ghost use Rattle.tm_syntax.specs.declared.tree.Argument.TheBlock.{hidden-the_row-Comparison-7 as comparisons};
 ghost use Rattle.tm_values.specs.declared.error.ErrorKind.TheVariants.{OutOfMemory};
 
-use crate::chains::{calls_block, dotted, name_of};
+use crate::chains::{dotted, name_of};
 use crate::walker::Walker;
 use tm_syntax::{Argument, Comparison, Condition, Expr, Keyword, Name, Pair, Step};
 use tm_values::Error;
@@ -30,15 +30,12 @@ impl Walker {
         self.read(name.as_str())
     }
 
-    /// Reads a name with steps behind it, which `self.b()` does not; OutOfMemory.
+    /// Reads a name with steps behind it; OutOfMemory.
     fn read_chain(&mut self, nested: bool, name: &Name, after: &[Step]) -> Result<(), Error>
         ensures ok { OnOk result
             (self.new ≡ read_chain nested name.now (steps after.now) self.old) }
         ensures err { IfErr result (λ e. e ≡ OutOfMemory ∷ []) }
     {
-        if calls_block(name, after) {
-            return Ok(());
-        }
         if nested {
             let text = dotted(self.alloc(), name, after)?;
             return self.read_as(name.as_str(), text.as_str());
@@ -63,6 +60,7 @@ impl Walker {
                 self.walk_arguments(nested, given.as_slice())?;
                 self.walk_keywords(nested, named.as_slice())
             }
+            Expr::SelfBlock(_) => Ok(()),
             Expr::Unary(_, operand) => self.walk_expr(nested, operand.get()),
             Expr::Chain(first, after) => {
                 let after = after.as_slice();

@@ -51,7 +51,10 @@ impl Walker {
             Stmt::For(for_loop) => self.walk_for(nested, for_loop),
             Stmt::Break => Ok(()),
             Stmt::Continue => Ok(()),
-            Stmt::Block(_, body) => self.walk_block(nested, body.as_slice()),
+            Stmt::Block(_, _, body) => self.walk_block(nested, body.as_slice()),
+            Stmt::EmitBlock(_) => Ok(()),
+            Stmt::EmitSuper => Ok(()),
+            Stmt::Extends(parent) => self.walk_expr(nested, parent.get()),
             Stmt::Set(target, value) => self.walk_set(nested, target, value.get()),
             Stmt::CaptureBlock(becomes, filters, body) => {
                 self.walk_use(nested, becomes)?;

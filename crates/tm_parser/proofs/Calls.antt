@@ -1,7 +1,8 @@
 -- The last step of a value, as the program goes through its steps, and the call of a loop.
 use Rattle.std.proofs.Common.{◌≡◌, ℕ, ◌+◌, ◌<◌, List, [], ◌∷◌, ◌++◌, length, drop, Bool, true, false, refl, sym, ap, ◌∙◌, arith}
 use Rattle.std.proofs.Common.{drop-cons, length-append}
-use Rattle.std.specs.Prelude.{get_or, Option, Some, None, is_some, if◌then◌else◌, ◌&&◌, nat_eq, codes}
+use Rattle.std.proofs.Math.Dec.{eqb-suc-zero}
+use Rattle.std.specs.Prelude.{get_or, Option, Some, None, is_some, if◌then◌else◌, ◌&&◌, ◌==◌, nat_eq, codes}
 use Rattle.std.specs.Cmp.Lexicographic.{pointwise}
 use denote.Hole.Carrier.{hidden}
 use Rattle.tm_syntax.specs.declared.tree.Argument.TheBlock.{shape-the_row-Argument-3, shape-the_row-Keyword-4, shape-the_row-Step-5}
@@ -16,8 +17,8 @@ use Rattle.tm_syntax.specs.declared.tree.Expr.{Expr}
 use Rattle.tm_syntax.specs.declared.tree.Expr.TheVariants as exprs
 use Rattle.tm_syntax.specs.declared.tree.Stmt.TheVariants as stmts
 use Rattle.tm_syntax.specs.Forms.{plain, spread}
-use Rattle.tm_parser.specs.Statements.{is_call, is_plain, calls, last_calls, only_one, are_unnamed, loop_argument, call_or_emit}
-use Rattle.tm_parser.specs.Statements.{emit_statement}
+use Rattle.tm_parser.specs.Statements.{is_call, is_plain, calls, last_calls, only_one, are_none, are_unnamed, loop_argument, call_or_emit}
+use Rattle.tm_parser.specs.Statements.{emit_value}
 
 pub last-nil : (b : Bool) → last_calls b (row_of_steps []) ≡ b
 unfolding hidden row_of_steps shape-the_row-Step-5
@@ -87,6 +88,19 @@ with_names f given (k ∷ ks) h = ap is_some (argument_is f given (k ∷ ks) ∙
 
 pub ruleset calls_of_loop = (other_name, with_names, one_unnamed)
 
+-- whether anything is passed to a call
+pub none-is : (given : List Argument) → are_none (row_of_arguments given) ≡ (length given == 0)
+unfolding hidden row_of_arguments shape-the_row-Argument-3
+none-is [] = refl
+none-is (a ∷ given) = sym (eqb-suc-zero (length given))
+
+pub unnamed-is : (named : List Keyword) → are_unnamed (row_of_keywords named) ≡ (length named == 0)
+unfolding hidden row_of_keywords shape-the_row-Keyword-4
+unnamed-is [] = refl
+unnamed-is (k ∷ named) = sym (eqb-suc-zero (length named))
+
+pub ruleset nothing_passed = (none-is, unnamed-is)
+
 -- which arguments are one value
 none_of_none : is_some (only_one (row_of_arguments [])) ≡ false
 unfolding hidden row_of_arguments shape-the_row-Argument-3
@@ -151,7 +165,7 @@ module _ (x : Expr) (f : List ℕ) (given : List Argument) (named : List Keyword
       ∙ has_one in cc f)
 
   pub called_with : (left : List Argument) (a : Argument) (y : Expr) → given ≡ left ++ a ∷ [] → a ≡ plain y →
-      stmts.EmitLoop y ≡ emit_statement x
+      stmts.EmitLoop y ≡ emit_value x
   called_with left a y last e =
       let alone : given ≡ plain y ∷ [] = last_alone left a last ∙ ap (λ b. b ∷ []) e in
       let found : loop_argument x ≡ Some y = its_argument ∙ ap (λ g. only_one (row_of_arguments g)) alone ∙ one_of_plain y in

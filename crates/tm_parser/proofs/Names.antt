@@ -1,5 +1,5 @@
 -- The names of the blocks of statements.
-use Rattle.std.proofs.Common.{◌≡◌, ℕ, ◌+◌, ◌<◌, ◌≤◌, List, [], ◌∷◌, ◌++◌, length, drop, Option, Some, None}
+use Rattle.std.proofs.Common.{◌≡◌, ℕ, ◌+◌, ◌<◌, ◌≤◌, Bool, List, [], ◌∷◌, ◌++◌, length, drop, Option, Some, None}
 use Rattle.std.proofs.Common.{refl, sym, ap, ◌∙◌, arith, append_assoc, drop-cons}
 use Rattle.std.proofs.lemmas.List.{append-nil, drop_all}
 use Rattle.std.specs.Prelude.{get_or}
@@ -43,9 +43,10 @@ for_either l (Some other) = refl
 pub names_of_for : (l : ForLoop) → names_of (stmts.For l) ≡ block_names l.body ++ names_behind l.other
 names_of_for l = for_either l l.other
 
-pub names_of_block : (name : List ℕ) (body : List Stmt) → names_of (stmts.Block name body) ≡ name ∷ block_names body
+pub names_of_block : (name : List ℕ) (required : Bool) (body : List Stmt) →
+    names_of (stmts.Block name required body) ≡ name ∷ block_names body
 unfolding hidden row shape-the_row-Stmt-0
-names_of_block name body = refl
+names_of_block name required body = refl
 
 pub names_of_macro : (m : Macro) → names_of (stmts.Macro m) ≡ block_names m.body
 unfolding hidden row shape-the_row-Stmt-0

@@ -1,5 +1,6 @@
 -- The grammar of expressions and targets.
-use Rattle.std.specs.Prelude.{ℕ, zero, suc, List, [], ◌∷◌, true, false, Bool, Option, Some, None, ◌++◌, option_map, codes}
+use Rattle.std.specs.Prelude.{ℕ, zero, suc, List, [], ◌∷◌, true, false, Bool, Option, Some, None, ◌++◌, option_map, codes, nat_eq}
+use Rattle.std.specs.Cmp.Lexicographic.{pointwise}
 use Rattle.tm_values.specs.Val as value
 use Rattle.tm_syntax.specs.declared.token.Sign.{Sign}
 use Rattle.tm_syntax.specs.declared.token.Sign.TheVariants as sign
@@ -26,7 +27,7 @@ use Rattle.tm_parser.specs.declared.primaries.Passed.{Passed}
 use Rattle.tm_grammar.specs.Rule as rules
 use Rattle.tm_grammar.specs.Rule.{Look}
 use Rattle.tm_grammar.specs.Combinators.{first, not_before, nothing, pure, ◌>>=◌, provided, branch, token, grow, one_more, many_from}
-use Rattle.tm_parser.specs.Looks.{followed, ahead}
+use Rattle.tm_parser.specs.Looks.{before, followed, either, ahead}
 use Rattle.tm_parser.specs.Tokens.{is, a_name, a_constant, a_test_word, bare, is_comma, ends_part, ends_target, link, prefix}
 use Rattle.tm_parser.specs.Tokens.{a_target_link, postfix_level, or_level}
 
@@ -61,7 +62,7 @@ items close item xs = branch (first (is close)) (λ _. pure xs) (do
 
 -- a name with `=` behind it
 abbrev pub keyword_start : Look Token (List ℕ)
-keyword_start = followed a_name (is sign.Assign)
+keyword_start = followed (first a_name) (first (is sign.Assign))
 
 abbrev pub passed : List Argument → List Keyword → Passed
 passed xs ks = record { by_place = xs; by_name = ks }
@@ -126,9 +127,22 @@ called i name = do
   given ← in_brackets i
   pure (exprs.Call name given.by_place given.by_name)
 
--- a name, or the call of one
+-- the call of a name behind a dot, with nothing in its brackets
+abbrev pub bare_call : Look Token (List ℕ)
+bare_call = before (first (is sign.Dot)) (followed (first a_name) (before (first (is sign.OpenRound)) (first (is sign.CloseRound))))
+
+-- the name `self`, or the block that is called behind it
+unfoldable pub of_self : Inside → List ℕ → Rule Expr
+of_self i name = branch bare_call
+    (λ block. do
+      room ← i.room
+      pure (exprs.SelfBlock block))
+    (pure (exprs.Var name))
+
+-- a name, the call of one, or that of a block of `self`
 unfoldable pub named : Inside → List ℕ → Rule Expr
-named i name = branch (first (is sign.OpenRound)) (λ _. called i name) (pure (exprs.Var name))
+named i name = branch (first (is sign.OpenRound)) (λ _. called i name)
+    (either (pointwise nat_eq name (codes "self")) (of_self i name) (pure (exprs.Var name)))
 
 -- a tuple behind its first item
 unfoldable pub tuple : Inside → Expr → Rule Expr

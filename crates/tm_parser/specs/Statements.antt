@@ -8,12 +8,13 @@ use Rattle.tm_syntax.specs.declared.token.Tag.TheVariants as tags
 use Rattle.tm_syntax.specs.declared.token.Sign.TheVariants as sign
 use Rattle.tm_syntax.specs.declared.token.Token.{Token}
 use Rattle.tm_syntax.specs.declared.token.Token.TheVariants as tokens
-use Rattle.tm_syntax.specs.declared.tree.Expr.{Expr, Call', Row_of-Argument, end_of-Argument as no_argument}
+use Rattle.tm_syntax.specs.declared.tree.Expr.{Expr, Call', SelfBlock, Row_of-Argument, end_of-Argument as no_argument}
 use Rattle.tm_syntax.specs.declared.tree.Expr.{more_of-Argument as argument, Row_of-Keyword, end_of-Keyword as no_keyword}
 use Rattle.tm_syntax.specs.declared.tree.Expr.{more_of-Keyword as keyword_and, Row_of-Step}
 use Rattle.tm_syntax.specs.declared.tree.Expr.{end_of-Step as no_step, more_of-Step as more_steps}
 use Rattle.tm_syntax.specs.declared.tree.Application.TheVariants as applications
 use Rattle.tm_syntax.specs.declared.tree.Step.{Step, Apply', Call' as Called}
+use Rattle.tm_syntax.specs.declared.tree.Step.TheVariants as steps
 use Rattle.tm_syntax.specs.declared.tree.Argument.{Argument}
 use Rattle.tm_syntax.specs.Forms.{plain, spread, chained as chained_steps}
 use Rattle.tm_syntax.specs.Names.{parameter_names}
@@ -64,6 +65,7 @@ start_of tags.For = Some starts.For
 start_of tags.Break = Some starts.Break
 start_of tags.Continue = Some starts.Continue
 start_of tags.Block = Some starts.Block
+start_of tags.Extends = Some starts.Extends
 start_of tags.Set = Some starts.Set
 start_of tags.Filter = Some starts.Filter
 start_of tags.With = Some starts.With
@@ -117,9 +119,30 @@ abbrev pub call_or_emit : Option Expr → Expr → Stmt
 call_or_emit (Some called_with) x = stmts.EmitLoop called_with
 call_or_emit None x = stmts.EmitExpr x
 
--- the statement that emits an expression
+-- the statement that emits an expression: a call of the innermost loop where it is one
+abbrev pub emit_value : Expr → Stmt
+emit_value x = call_or_emit (loop_argument x) x
+
+abbrev pub are_none : {n : _} → Row_of-Argument n → Bool
+are_none no_argument = true
+are_none (argument a given) = false
+
+abbrev pub is_nothing : {n m : _} → Row_of-Argument n → Row_of-Keyword m → Bool
+is_nothing given named = are_none given && are_unnamed named
+
+-- the call of `super` with nothing
+unfoldable pub calls_super : Expr → Bool
+calls_super (Call' f _ given _ named) = pointwise nat_eq f (codes "super") && is_nothing given named
+calls_super _ = false
+
+abbrev pub super_or_emit : Bool → Expr → Stmt
+super_or_emit true x = stmts.EmitSuper
+super_or_emit false x = emit_value x
+
+-- The statement that emits an expression: a block writes in place.
 abbrev pub emit_statement : Expr → Stmt
-emit_statement x = call_or_emit (loop_argument x) x
+emit_statement (SelfBlock name) = stmts.EmitBlock name
+emit_statement x = super_or_emit (calls_super x) x
 
 unfoldable pub emission : Inside → Rule Stmt
 emission i = do
@@ -213,12 +236,23 @@ named_body t end name = do
   last ← named_end end name
   pure body
 
+-- the word of a block that another template has to replace, or none
+abbrev pub requirement : Rule Bool
+requirement = branch (first (is_word (codes "required"))) (λ _. pure true) (pure false)
+
 unfoldable pub block_tag : Inner → Rule Stmt
 block_tag t = do
   name ← token a_name
+  required ← requirement
   close ← block_end
   body ← named_body t tags.Endblock name
-  pure (stmts.Block name body)
+  pure (stmts.Block name required body)
+
+unfoldable pub extends_tag : Inside → Rule Stmt
+extends_tag i = do
+  parent ← expr i
+  last ← block_end
+  pure (stmts.Extends parent)
 
 -- a tuple without brackets behind its first item, and the end of the tag
 unfoldable pub bare_tuple : Inside → Expr → Rule Expr
@@ -373,9 +407,10 @@ abbrev pub last_calls : {n : _} → Bool → Row_of-Step n → Bool
 last_calls b no_step = b
 last_calls b (more_steps s ss) = last_calls (calls s) ss
 
--- the call of a name, a method or a value
+-- the call of a name, a block, a method or a value
 abbrev pub is_call : Expr → Bool
 is_call (Call' f _ given _ named) = true
+is_call (SelfBlock name) = true
 is_call (chained_steps x _ ss) = last_calls false ss
 is_call _ = false
 
@@ -398,11 +433,20 @@ call_parameters t = branch (first (is sign.OpenRound))
       provided (have_no_default ps) (pure ps))
     (pure [])
 
+-- the call of a method of `self` with nothing
+abbrev pub method_of_self : List ℕ → Expr
+method_of_self name = exprs.Chain (exprs.Var (codes "self")) (steps.Apply applications.Method name [] [] ∷ [])
+
+-- What a call with a body calls: a block is a method of `self`, since it is passed this.
+abbrev pub with_caller : Expr → Expr
+with_caller (SelfBlock name) = method_of_self name
+with_caller x = x
+
 -- What stands behind the expression of a call's tag, which is a call. The loops around the tag aren't around its body.
 unfoldable pub call_block : Inner → List Parameter → Expr → Rule Stmt
 call_block t ps x = provided (is_call x) (do
   body ← body_behind t tags.Endcall false
-  pure (stmts.CallBlock (record { call = x; parameters = ps; body = body })))
+  pure (stmts.CallBlock (record { call = with_caller x; parameters = ps; body = body })))
 
 unfoldable pub call_tag : Inside → Inner → Rule Stmt
 call_tag i t = do
@@ -419,6 +463,7 @@ statement i t looping starts.For = for_tag i t looping
 statement i t looping starts.Break = jump looping stmts.Break
 statement i t looping starts.Continue = jump looping stmts.Continue
 statement i t looping starts.Block = block_tag t
+statement i t looping starts.Extends = extends_tag i
 statement i t looping starts.Set = set_tag i t looping
 statement i t looping starts.Filter = filter_tag i t looping
 statement i t looping starts.With = with_tag i t looping

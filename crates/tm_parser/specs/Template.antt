@@ -1,8 +1,9 @@
 -- Which tokens spell which tree.
 use Rattle.std.specs.Prelude.{ℕ, false, List, [], ◌∷◌, ◌++◌, IsTrue}
 use Rattle.tm_syntax.specs.declared.token.Token.{Token}
-use Rattle.tm_syntax.specs.declared.tree.Stmt.{Stmt, EmitRaw, EmitExpr, EmitLoop, If', For', Break, Continue, Block', Set, CaptureBlock'}
-use Rattle.tm_syntax.specs.declared.tree.Stmt.{With', Do, AutoEscape', Macro', CallBlock', Row_of-Stmt, end_of-Stmt as no_statement}
+use Rattle.tm_syntax.specs.declared.tree.Stmt.{Stmt, EmitRaw, EmitExpr, EmitLoop, EmitBlock, EmitSuper, If', For', Break, Continue, Block'}
+use Rattle.tm_syntax.specs.declared.tree.Stmt.{Extends, Set, CaptureBlock', With', Do, AutoEscape', Macro', CallBlock', Row_of-Stmt}
+use Rattle.tm_syntax.specs.declared.tree.Stmt.{end_of-Stmt as no_statement}
 use Rattle.tm_syntax.specs.declared.tree.Stmt.{more_of-Stmt as statement, Held-Stmt-If-2 as Otherwise, None' as no_else}
 use Rattle.tm_syntax.specs.declared.tree.Stmt.{Some' as otherwise}
 use Rattle.tm_syntax.specs.declared.tree.Stmt.TheBlock.{hidden-the_row-Stmt-0 as row}
@@ -17,11 +18,14 @@ abbrev mutual
   names_of (EmitRaw text) = []
   names_of (EmitExpr x) = []
   names_of (EmitLoop x) = []
+  names_of (EmitBlock name) = []
+  names_of EmitSuper = []
   names_of (If' condition _ body other) = names_in body ++ names_in_otherwise other
   names_of (For' to over condition recursive _ body other) = names_in body ++ names_in_otherwise other
   names_of Break = []
   names_of Continue = []
-  names_of (Block' name _ body) = name ∷ names_in body
+  names_of (Block' name required _ body) = name ∷ names_in body
+  names_of (Extends x) = []
   names_of (Set to x) = []
   names_of (CaptureBlock' becomes filters _ body) = names_in body
   names_of (With' given _ body) = names_in body

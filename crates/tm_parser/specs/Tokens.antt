@@ -114,7 +114,7 @@ sign_at table level _ = None
 
 -- what goes on with a value at a level: a sign, or `not` and a sign
 abbrev pub link : ℕ → Look Token Link
-link level = or_else (first (sign_at link_of level)) (before (is sign.Not) (sign_at negated_link_of level))
+link level = or_else (first (sign_at link_of level)) (before (first (is sign.Not)) (first (sign_at negated_link_of level)))
 
 abbrev pub prefix : ℕ → Look Token UnaryOperator
 prefix level = first (sign_at prefix_of level)

@@ -40,8 +40,11 @@ fn add_names_of<'t>(names: &mut Vec<&'t str>, statement: &'t Stmt) -> Result<(),
         Stmt::EmitRaw(_)
         | Stmt::EmitExpr(_)
         | Stmt::EmitLoop(_)
+        | Stmt::EmitBlock(_)
+        | Stmt::EmitSuper
         | Stmt::Break
         | Stmt::Continue
+        | Stmt::Extends(_)
         | Stmt::Set(_, _)
         | Stmt::Do(_) => Ok(()),
         Stmt::If(_, body, None) => add_names(names, body.as_slice()),
@@ -56,7 +59,7 @@ fn add_names_of<'t>(names: &mut Vec<&'t str>, statement: &'t Stmt) -> Result<(),
                 Some(other) => add_names(names, other.as_slice()),
             }
         }
-        Stmt::Block(name, body) => {
+        Stmt::Block(name, _, body) => {
             names.push(name.as_str())?;
             add_names(names, body.as_slice())
         }

@@ -3,7 +3,7 @@ ghost use Rattle.std.specs.Prelude.{◌≡◌, ◌∷◌, [], ◌↔◌, IsTrue,
 ghost use Rattle.tm_parser.specs.Parses.{Parses, TakesFirst, TakesSign};
 ghost use Rattle.tm_parser.specs.Tokens.{is, a_name, a_constant, a_test_word, bare, is_comma, is_kept, link};
 ghost use Rattle.tm_parser.specs.Tokens.{a_target_link, ends_part, ends_target};
-ghost use Rattle.tm_parser.specs.Grammar.{comma, keyword_start, target_comma};
+ghost use Rattle.tm_parser.specs.Grammar.{bare_call, comma, inside, keyword_start, target_comma};
 ghost use Rattle.tm_parser.specs.Levels.{GoesOnAt, prefix_up_to};
 ghost use Rattle.tm_parser.specs.Looks.{starts};
 ghost use Rattle.tm_parser.specs.Statements.{a_start, ends_iterated, is_tag, is_word, iterated_comma, lone, same_name};
@@ -246,6 +246,29 @@ impl<'t> Cursor<'t> {
         }
     }
 
+    /// Takes the call of a name behind a dot, with nothing in its brackets, and answers a second
+    /// owner of the name. OutOfMemory where there can be none.
+    pub fn take_bare_call(&mut self) -> Result<Option<Name>, Error>
+        ensures { MatchResult result
+            (λ name. TakesFirst name self.old self.new (bare_call.sees self.old))
+            (λ e. e ≡ ErrorKind.OutOfMemory ∷ []) }
+    {
+        match self.rest {
+            [
+                Token::Sign(Sign::Dot),
+                Token::Name(name),
+                Token::Sign(Sign::OpenRound),
+                Token::Sign(Sign::CloseRound),
+                rest @ ..,
+            ] => {
+                let name = name.share()?;
+                self.rest = rest;
+                Ok(Some(name))
+            }
+            _ => Ok(None),
+        }
+    }
+
     /// Takes a literal or a word for a value, and answers a second owner of the value. OutOfMemory
     /// where there can be none.
     #[inline(always)]
@@ -413,6 +436,17 @@ impl<'t> Cursor<'t> {
         };
         self.rest = &self.rest[1..];
         Ok(Some(start))
+    }
+
+    /// Refuses a bracket for which no nesting is left.
+    #[tactic(auto, using(crate::proofs::Nesting::expressions))]
+    pub fn room(&self, depth: u8) -> Result<(), Error>
+        ensures { Parses result self.now ((inside depth).room.reads self.now) }
+    {
+        if depth == 0 {
+            return Err(refusal());
+        }
+        Ok(())
     }
 
     /// Takes this sign, which has to stand first.

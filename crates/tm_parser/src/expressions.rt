@@ -35,17 +35,6 @@ pub struct OperandStart {
 // A frame has room for the locals of all that is inlined, so nested expressions take less stack
 // where the rarer methods are not.
 impl Cursor<'_> {
-    /// Refuses a bracket for which no nesting is left.
-    #[tactic(auto, using(crate::proofs::Nesting::expressions))]
-    pub fn room(&self, depth: u8) -> Result<(), Error>
-        ensures { Parses result self.now ((inside depth).room.reads self.now) }
-    {
-        if depth == 0 {
-            return Err(refusal());
-        }
-        Ok(())
-    }
-
     /// An expression inside one nesting more.
     #[cycle(expressions)]
     #[tactic(auto, using(crate::proofs::Nesting::expressions))]

@@ -1,36 +1,51 @@
-//! Blocks, macros and calls with a body: bodies around which is no loop, and parameters.
-ghost use Rattle.std.specs.Prelude.{◌≡◌, [], false, IfOk};
+//! Blocks, also as `self` has them, macros and calls with a body: bodies around which is no loop, and parameters.
+ghost use Rattle.std.specs.Prelude.{◌≡◌, [], ◌∷◌, false, IfOk, MatchResult};
 ghost use Rattle.tm_parser.specs.Parses.{Parses};
 ghost use Rattle.tm_parser.specs.Distinct as spec;
-ghost use Rattle.tm_parser.specs.Grammar.{inside, items, more_items};
+ghost use Rattle.tm_parser.specs.Grammar.{inside, items, more_items, of_self};
 ghost use Rattle.tm_parser.specs.Statements as statements;
 ghost use Rattle.tm_parser.specs.Statements.{block_tag, call_block, call_parameters, call_tag, default_value, inner};
 ghost use Rattle.tm_parser.specs.Statements.{macro_tag, named_body, named_end, parameter, parameters};
 ghost use Rattle.tm_grammar.specs.Combinators.{one_more};
 ghost use Rattle.tm_syntax.specs.Names.{parameter_names};
 ghost use Rattle.tm_syntax.specs.declared.token.Sign.TheVariants as sign;
+ghost use Rattle.tm_values.specs.declared.error.ErrorKind.TheVariants.{OutOfMemory};
 
 use crate::cursor::{Cursor, refusal};
 use crate::distinct::are_distinct;
-use crate::lists::with_one;
+use crate::lists::{boxed, with_one};
 use crate::statements::is_call;
 use sqlite_items::{Boxed, Items};
 use std::alloc::{AllocError, Global};
-use tm_syntax::{CallBlock, Expr, Macro, Name, Parameter, Sign, Stmt, Tag};
+use tm_syntax::{Application, CallBlock, Expr, Macro, Name, Parameter, Sign, Step, Stmt, Tag};
 use tm_values::Error;
 
 // Each method reads one rule, with `depth` nestings to go. SyntaxError where no tokens spell it.
 impl Cursor<'_> {
-    /// A block's name and body, up to its end tag.
+    /// A block's name, whether another template has to replace it, and its body, up to its end tag.
     #[cycle(statements)]
     #[tactic(auto, unfolding(crate::specs::Statements::block_tag))]
     pub fn block_tag(&mut self, alloc: Global, depth: u8) -> Result<Stmt, Error>
         ensures { Parses result self.new ((block_tag (inner depth)).reads self.old) }
     {
         let name = self.expect_name()?;
+        let required = self.take_word("required");
         self.expect(Sign::BlockEnd)?;
         let body = self.named_body(alloc, depth, Tag::Endblock, &name)?;
-        Ok(Stmt::Block(name, body))
+        Ok(Stmt::Block(name, required, body))
+    }
+
+    /// The name `self`, or the block that is called behind it.
+    #[tactic(auto, unfolding(crate::specs::Grammar::of_self))]
+    #[inline(never)]
+    pub fn of_self(&mut self, alloc: Global, depth: u8, name: Name) -> Result<Boxed<Expr>, Error>
+        ensures { Parses result self.new ((of_self (inside depth) name).reads self.old) }
+    {
+        if let Some(block) = self.take_bare_call()? {
+            self.room(depth)?;
+            return boxed(alloc, Expr::SelfBlock(block));
+        }
+        boxed(alloc, Expr::Var(name))
     }
 
     /// A macro's name, parameters and body, up to its end tag.
@@ -105,6 +120,7 @@ impl Cursor<'_> {
             return Err(refusal());
         }
         let body = self.body_behind(alloc, depth, Tag::Endcall, false)?;
+        let call = with_caller(alloc, call)?;
         Ok(Stmt::CallBlock(CallBlock {
             call,
             parameters,
@@ -221,6 +237,37 @@ impl Cursor<'_> {
         }
         Ok(None)
     }
+}
+
+/// What a call with a body calls: a block is a method of `self`, since it is passed this.
+/// OutOfMemory for want of memory.
+fn with_caller(alloc: Global, call: Boxed<Expr>) -> Result<Boxed<Expr>, Error>
+    ensures { MatchResult result
+        (λ made. made ≡ statements.with_caller call)
+        (λ e. e ≡ OutOfMemory ∷ []) }
+{
+    if let Expr::SelfBlock(name) = call.get() {
+        let name = name.share()?;
+        return method_of_self(alloc, name);
+    }
+    Ok(call)
+}
+
+/// The call of a method of `self` with nothing. OutOfMemory for want of memory.
+fn method_of_self(alloc: Global, name: Name) -> Result<Boxed<Expr>, Error>
+    ensures { MatchResult result
+        (λ made. made ≡ statements.method_of_self name)
+        (λ e. e ≡ OutOfMemory ∷ []) }
+{
+    let method = Step::Apply(
+        Application::Method,
+        name,
+        Items::new(alloc),
+        Items::new(alloc),
+    );
+    let steps = with_one(Items::new(alloc), method)?;
+    let on = boxed(alloc, Expr::Var(Name::new(alloc, "self")?))?;
+    boxed(alloc, Expr::Chain(on, steps))
 }
 
 /// Whether none of the parameters has a default.

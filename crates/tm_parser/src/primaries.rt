@@ -51,7 +51,7 @@ impl Cursor<'_> {
         Err(refusal())
     }
 
-    /// A name, or the call of one.
+    /// A name, the call of one, or that of a block of `self`.
     #[cycle(expressions)]
     #[tactic(auto, unfolding(crate::specs::Grammar::named))]
     #[inline(always)]
@@ -60,6 +60,9 @@ impl Cursor<'_> {
     {
         if self.take(Sign::OpenRound) {
             return self.called(alloc, depth, name);
+        }
+        if name.is("self") {
+            return self.of_self(alloc, depth, name);
         }
         boxed(alloc, Expr::Var(name))
     }

@@ -4,13 +4,14 @@ ghost use Rattle.tm_parser.specs.Parses.{Parses};
 ghost use Rattle.tm_parser.specs.Grammar.{inside};
 ghost use Rattle.tm_parser.specs.Statements as spec;
 ghost use Rattle.tm_parser.specs.Statements.{autoescape_tag, block_end, body, body_behind, captured, do_tag, elif_tag};
-ghost use Rattle.tm_parser.specs.Statements.{else_or_end, else_tag, emission, ended_body, filter_tag, for_body, for_tag, if_tag, inner, jump, rest, set_block, set_tag};
+ghost use Rattle.tm_parser.specs.Statements.{else_or_end, else_tag, emission, ended_body, extends_tag, filter_tag, for_body, for_tag, if_tag, inner, jump, rest, set_block, set_tag};
 ghost use Rattle.tm_parser.specs.Statements.{set_value, statement, with_tag};
 ghost use Rattle.tm_grammar.specs.Combinators.{one_more, provided};
-ghost use Rattle.tm_syntax.specs.declared.tree.Stmt.TheVariants.{Break, Continue};
+ghost use Rattle.tm_syntax.specs.declared.tree.Stmt.TheVariants.{Break, Continue, EmitExpr};
 ghost use Rattle.tm_values.specs.declared.error.ErrorKind.TheVariants.{OutOfMemory};
 ghost use Rattle.tm_syntax.specs.declared.tree.Argument.TheBlock.{hidden-the_row-Step-5 as row_of_steps};
 ghost use Rattle.tm_syntax.specs.declared.tree.Argument.TheBlock.{hidden-the_row-Argument-3 as row_of_arguments};
+ghost use Rattle.tm_syntax.specs.declared.tree.Argument.TheBlock.{hidden-the_row-Keyword-4 as row_of_keywords};
 
 use crate::cursor::{Cursor, refusal};
 use crate::lists::with_one;
@@ -19,7 +20,8 @@ use crate::targets::LoopHead;
 use sqlite_items::{Boxed, Items};
 use std::alloc::Global;
 use tm_syntax::{
-    Application, Argument, AssignmentTarget, CaptureUse, Expr, ForLoop, Sign, Step, Stmt, Tag,
+    Application, Argument, AssignmentTarget, CaptureUse, Expr, ForLoop, Keyword, Sign, Step, Stmt,
+    Tag,
 };
 use tm_values::Error;
 
@@ -169,6 +171,7 @@ impl Cursor<'_> {
             Start::Break => self.break_tag(looping),
             Start::Continue => self.continue_tag(looping),
             Start::Block => self.block_tag(alloc, depth),
+            Start::Extends => self.extends_tag(alloc, depth),
             Start::Set => self.set_tag(alloc, depth, looping),
             Start::Filter => self.filter_tag(alloc, depth, looping),
             Start::With => self.with_tag(alloc, depth, looping),
@@ -186,7 +189,7 @@ impl Cursor<'_> {
     {
         let value = self.expr(alloc, depth)?;
         self.expect(Sign::VariableEnd)?;
-        Ok(emit_statement(value))
+        emit_statement(value)
     }
 
     /// The condition of an `if`, its body, and all up to its end tag.
@@ -486,6 +489,16 @@ impl Cursor<'_> {
         Ok(Stmt::AutoEscape(value, body))
     }
 
+    /// The parent of an `extends`, and its end.
+    #[tactic(auto, unfolding(crate::specs::Statements::extends_tag))]
+    fn extends_tag(&mut self, alloc: Global, depth: u8) -> Result<Stmt, Error>
+        ensures { Parses result self.new ((extends_tag (inside depth)).reads self.old) }
+    {
+        let parent = self.expr(alloc, depth)?;
+        self.expect(Sign::BlockEnd)?;
+        Ok(Stmt::Extends(parent))
+    }
+
     /// The call of a `do`, and its end.
     #[tactic(auto, unfolding(crate::specs::Statements::do_tag))]
     fn do_tag(&mut self, alloc: Global, depth: u8) -> Result<Stmt, Error>
@@ -502,23 +515,72 @@ impl Cursor<'_> {
 
 /// Statements with one more that emits a value. OutOfMemory for want of memory.
 #[inline(always)]
-#[tactic(auto, unfolding(crate::specs::Statements::loop_argument))]
 fn with_emission(body: Items<Stmt>, value: Boxed<Expr>) -> Result<Items<Stmt>, Error>
     ensures { MatchResult result
         (λ items. items ≡ body ++ spec.emit_statement value ∷ [])
         (λ e. e ≡ OutOfMemory ∷ []) }
 {
-    if is_call_of_loop(value.get()) {
-        return with_one(body, emit_statement(value));
+    if is_call_of_name(value.get()) {
+        return with_one(body, emit_statement(value)?);
     }
     with_one(body, Stmt::EmitExpr(value))
 }
 
-/// The statement that emits a value: a call of the innermost loop where it is one.
+/// Whether an expression is the call of a name or of a block: what may be emitted in place.
+#[inline(always)]
+#[tactic(auto, unfolding(crate::specs::Statements::loop_argument, crate::specs::Statements::calls_super))]
+fn is_call_of_name(expr: &Expr) -> bool
+    ensures { result ≡ false → spec.emit_statement expr.now ≡ EmitExpr expr.now }
+{
+    match expr {
+        Expr::SelfBlock(_) | Expr::Call(_, _, _) => true,
+        _ => false,
+    }
+}
+
+/// The statement that emits a value: a block, `super()` and `loop(..)` write in place. OutOfMemory
+/// where the name of a block can have no second owner.
 #[inline(never)]
+#[tactic(auto, unfolding(crate::specs::Statements::calls_super))]
+fn emit_statement(value: Boxed<Expr>) -> Result<Stmt, Error>
+    ensures { MatchResult result
+        (λ statement. statement ≡ spec.emit_statement value)
+        (λ e. e ≡ OutOfMemory ∷ []) }
+{
+    if let Expr::SelfBlock(name) = value.get() {
+        return Ok(Stmt::EmitBlock(name.share()?));
+    }
+    if is_call_of_super(value.get()) {
+        return Ok(Stmt::EmitSuper);
+    }
+    Ok(emit_value(value))
+}
+
+/// Whether an expression is the call of `super` with nothing.
+#[tactic(auto, unfolding(crate::specs::Statements::calls_super))]
+fn is_call_of_super(expr: &Expr) -> bool
+    ensures { result ≡ spec.calls_super expr.now }
+{
+    match expr {
+        Expr::Call(name, given, named) => {
+            name.is("super") && is_nothing(given.as_slice(), named.as_slice())
+        }
+        _ => false,
+    }
+}
+
+/// Whether a call is passed nothing.
+#[tactic(auto, using(crate::proofs::Calls::nothing_passed))]
+fn is_nothing(given: &[Argument], named: &[Keyword]) -> bool
+    ensures { result ≡ spec.is_nothing (row_of_arguments given.now) (row_of_keywords named.now) }
+{
+    given.is_empty() && named.is_empty()
+}
+
+/// The statement that emits a value: a call of the innermost loop where it is one.
 #[tactic(auto, unfolding(crate::specs::Statements::loop_argument))]
-fn emit_statement(value: Boxed<Expr>) -> Stmt
-    ensures { result ≡ spec.emit_statement value }
+fn emit_value(value: Boxed<Expr>) -> Stmt
+    ensures { result ≡ spec.emit_value value }
 {
     if !is_call_of_loop(value.get()) {
         return Stmt::EmitExpr(value);
@@ -574,12 +636,12 @@ fn is_plain(argument: &Argument) -> bool
     }
 }
 
-/// Whether an expression is the call of a name, of a method or of a value.
+/// Whether an expression is the call of a name, of a block, of a method or of a value.
 pub fn is_call(expr: &Expr) -> bool
     ensures { result ≡ spec.is_call expr.now }
 {
     match expr {
-        Expr::Call(_, _, _) => true,
+        Expr::Call(_, _, _) | Expr::SelfBlock(_) => true,
         Expr::Chain(_, steps) => ends_in_call(steps.as_slice()),
         Expr::Var(_)
         | Expr::Const(_)

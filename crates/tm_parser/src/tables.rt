@@ -46,6 +46,8 @@ pub enum Start {
     Continue,
     /// The start of a block.
     Block,
+    /// The start of an `extends`.
+    Extends,
     /// The start of a `set`.
     Set,
     /// The start of a `filter`.
@@ -343,6 +345,7 @@ pub fn start_of(tag: Tag) -> Option<Start>
         Tag::Break => Start::Break,
         Tag::Continue => Start::Continue,
         Tag::Block => Start::Block,
+        Tag::Extends => Start::Extends,
         Tag::Set => Start::Set,
         Tag::Filter => Start::Filter,
         Tag::With => Start::With,

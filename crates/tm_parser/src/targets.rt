@@ -417,6 +417,7 @@ fn lone_target(value: &Expr) -> Result<AssignmentTarget, Error>
         | Expr::Tuple(_)
         | Expr::Map(_)
         | Expr::Call(_, _, _)
+        | Expr::SelfBlock(_)
         | Expr::Unary(_, _)
         | Expr::Chain(_, _)
         | Expr::Conditional(_, _) => Err(refusal()),

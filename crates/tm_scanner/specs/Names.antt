@@ -48,9 +48,9 @@ reserved name = look_up reserved_words name
 abbrev pub start_words : List (List ℕ × Tag)
 start_words =
     (codes "if", tag.If) ∷ (codes "for", tag.For) ∷ (codes "break", tag.Break) ∷ (codes "continue", tag.Continue)
-    ∷ (codes "block", tag.Block) ∷ (codes "set", tag.Set) ∷ (codes "with", tag.With) ∷ (codes "do", tag.Do)
-    ∷ (codes "filter", tag.Filter) ∷ (codes "autoescape", tag.Autoescape) ∷ (codes "macro", tag.Macro)
-    ∷ (codes "call", tag.Call) ∷ []
+    ∷ (codes "block", tag.Block) ∷ (codes "extends", tag.Extends) ∷ (codes "set", tag.Set) ∷ (codes "with", tag.With)
+    ∷ (codes "do", tag.Do) ∷ (codes "filter", tag.Filter) ∷ (codes "autoescape", tag.Autoescape)
+    ∷ (codes "macro", tag.Macro) ∷ (codes "call", tag.Call) ∷ []
 
 -- the words of tags that go on with a statement or end it
 abbrev pub later_words : List (List ℕ × Tag)

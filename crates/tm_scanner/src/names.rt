@@ -145,6 +145,8 @@ fn start_tag(name: &str) -> Option<Tag>
         Some(Tag::Continue)
     } else if is(name, "block") {
         Some(Tag::Block)
+    } else if is(name, "extends") {
+        Some(Tag::Extends)
     } else if is(name, "set") {
         Some(Tag::Set)
     } else if is(name, "with") {

@@ -10,13 +10,17 @@ use Rattle.tm_values.specs.declared.error.ErrorKind.TheVariants.{InvalidOperatio
 use Rattle.tm_syntax.specs.declared.instruction.LoopFlags.{LoopFlags}
 use Rattle.tm_meaning.specs.World.{Bindings, choose, with_frames, World, Scopes, Scope, Loop, loop_scope, new_loop, turned_at, turned_of}
 use Rattle.tm_meaning.specs.World.{top_mark, next_turn, without_locals, cleared, Res, Good, Bad, pop, depth, without_first, stored_in}
-use Rattle.tm_meaning.specs.World.{own_closure, put_at, put_in, put_enclosed, store, with_escape, Named, Layers, with_own, one_closure_more}
+use Rattle.tm_meaning.specs.World.{own_closure, put_at, put_in, put_enclosed, store, with_escape, Layers, with_own, one_closure_more}
 use Rattle.tm_meaning.specs.World.{closing_over, is_there, with_stream}
-use Rattle.tm_meaning.specs.Calls.{keeping_at, is_changed, outermost, undone, of_block, of_macro}
+use Rattle.tm_meaning.specs.Calls.{keeping_at, is_changed, outermost, undone, of_block, of_super, of_macro}
 use Rattle.tm_meaning.specs.declared.mark.LoopMark.{LoopMark}
-use Rattle.tm_simulation.specs.Kept.{shape, shapes, GoesOn, bare, LieOver, BlocksGrow}
+use Rattle.tm_simulation.specs.Kept.{shape, shapes, GoesOn, bare, LieOver, BlocksGrow, NamesGrow}
+use Rattle.tm_simulation.proofs.Parents.{blocks_same, blocks_then, blocks_placed, blocks_behind, names_same, names_then, count_fewer}
+use Rattle.tm_meaning.specs.Inheritance.{one_on, with_blocks, names_left}
+use Rattle.tm_meaning.specs.World.{HostValue, Template}
+use Rattle.tm_meaning.specs.declared.stream.TemplateId.TheVariants.{Entry as entry}
 use Rattle.tm_meaning.specs.declared.stream.StreamId.{StreamId}
-use Rattle.tm_syntax.specs.Named.{name_cmp, put, put_each}
+use Rattle.tm_syntax.specs.Named.{name_cmp, find, put, put_each}
 use Rattle.std.specs.Ordering.{match_ordering}
 use Rattle.std.specs.declared.cmp.Ordering.{Ordering}
 use Rattle.std.specs.declared.cmp.Ordering.TheVariants.{Less, Equal, Greater}
@@ -82,16 +86,6 @@ outermost_below s ss new (more, there, is, same) =
     is ∙ ap (λ l. more ++ l) below.1 ∙ sym (append_assoc more (below.0 ∷ []) ss) in
     ap (outermost (length ss)) all ∙ outermost_there (more ++ below.0 ∷ []) ss
 
--- ---------------------------------------------------------------- lists of blocks
-blocks_same : (bs : Named Layers) → BlocksGrow bs bs
-blocks_same bs = λ x l found. ([], found ∙ ap (λ ts. Some (record l { templates = ts })) (sym (append-nil l.templates)))
-
-blocks_then : (a b c : Named Layers) → BlocksGrow a b → BlocksGrow b c → BlocksGrow a c
-blocks_then a b c h k = λ x l found.
-    let first = h x l found in
-    let last = k x (record l { templates = l.templates ++ first.0 }) first.1 in
-    (first.0 ++ last.0, last.1 ∙ ap (λ ts. Some (record l { templates = ts })) (append_assoc l.templates first.0 last.0))
-
 -- ---------------------------------------------------------------- what is kept
 -- However statements end, and whichever stream, block and scopes are there then: the state is the same one, no fuel comes back, and what
 -- it has is never less.
@@ -104,7 +98,7 @@ pub record Lasts (old new : World) : Type 0 where
   pub closures : length old.closures ≤ length new.closures
   pub streams : length old.streams ≤ length new.streams
   pub temps : length old.temps ≤ length new.temps
-  pub loaded : length old.loaded ≤ length new.loaded
+  pub loaded : NamesGrow old.loaded new.loaded
   pub blocks : BlocksGrow old.blocks new.blocks
 
 -- However they end: what was there lasts, the scopes that stood are there, but for the names of the innermost one, and stream and block
@@ -132,7 +126,7 @@ lasts_then {a = a} {b = b} {c = c} h k = record {
   closures = omega (arith, h.closures, k.closures);
   streams = omega (arith, h.streams, k.streams);
   temps = omega (arith, h.temps, k.temps);
-  loaded = omega (arith, h.loaded, k.loaded);
+  loaded = names_then a.loaded b.loaded c.loaded h.loaded k.loaded;
   blocks = blocks_then a.blocks b.blocks c.blocks h.blocks k.blocks;
 }
 
@@ -177,7 +171,7 @@ lasts_to left loops namespaces temps scopes stream block escape w less more_loop
   closures = omega arith;
   streams = omega arith;
   temps = more_temps;
-  loaded = omega arith;
+  loaded = names_same w.loaded;
   blocks = blocks_same w.blocks;
 }
 
@@ -214,7 +208,7 @@ lasts_by_closures w cs more = record {
   closures = more;
   streams = omega arith;
   temps = omega arith;
-  loaded = omega arith;
+  loaded = names_same w.loaded;
   blocks = blocks_same w.blocks;
 }
 
@@ -333,7 +327,7 @@ stream_kept s w = kept_lasting (record {
   closures = omega arith;
   streams = more_by (is_there s w.streams) s w.streams;
   temps = omega arith;
-  loaded = omega arith;
+  loaded = names_same w.loaded;
   blocks = blocks_same w.blocks;
 }) refl refl refl refl
 
@@ -401,6 +395,34 @@ kept_unescaped e w world1 k = record {
 abbrev pub in_stream : StreamId → World → World
 in_stream s w = record w { stream = s }
 
+-- what is kept in one stream is kept in another one
+pub kept_in : (s : StreamId) {w v : World} → Kept w v → Kept (in_stream s w) (in_stream s v)
+kept_in s {w = w} {v = v} h =
+    let a = h.advances in
+    let l = a.lasts in
+    record {
+      advances = record {
+        lasts = record {
+          same_id = l.same_id;
+          same_fuel_set = l.same_fuel_set;
+          fuel = l.fuel;
+          loops = l.loops;
+          namespaces = l.namespaces;
+          closures = l.closures;
+          streams = l.streams;
+          temps = l.temps;
+          loaded = l.loaded;
+          blocks = l.blocks;
+        };
+        scopes = a.scopes;
+        outer = a.outer;
+        same_stream = refl;
+        same_block = a.same_block;
+      };
+      same_scopes = h.same_scopes;
+      same_escape = h.same_escape;
+    }
+
 -- a world with one scope more, whose outermost one stands at a depth
 abbrev pub within_at : ℕ → Scope → World → World
 within_at outer s w = record w { scopes = record { frames = s ∷ w.scopes.frames; outer = outer } }
@@ -426,9 +448,58 @@ pub undone_scopes : (s : Scope) (stream : StreamId) (block : Option (List ℕ)) 
     Advances (in_stream v.stream (record (within s w) { stream = stream; block = block })) v → (undone (of_block w) v).scopes ≡ w.scopes
 undone_scopes s stream block w v l = undone_scopes_at w.scopes.outer s stream block w v l
 
+-- the very scopes are there behind a `super()` too
+pub super_undone_scopes : (s : Scope) (stream : StreamId) (x : List ℕ) (l : Layers) (w v : World) →
+    Advances (in_stream v.stream (record (within s w) { stream = stream; blocks = put x (one_on l) w.blocks })) v →
+    (undone (of_super x w) v).scopes ≡ w.scopes
+super_undone_scopes s stream x l w v h =
+    ap (λ frames. record { frames = frames; outer = w.scopes.outer }) (outermost_below s w.scopes.frames v.scopes.frames h.scopes)
+
 pub undone_kept : (s : Scope) (stream : StreamId) (block : Option (List ℕ)) (w v : World) →
     Advances (in_stream v.stream (record (within s w) { stream = stream; block = block })) v → Kept w (undone (of_block w) v)
 undone_kept s stream block w v l = undone_at w.scopes.outer s stream block w v l
+
+-- The same behind a `super()`, whose list was one on meanwhile.
+pub super_undone_kept : (s : Scope) (stream : StreamId) (x : List ℕ) (l : Layers) (w v : World) → find x w.blocks ≡ Some l →
+    Advances (in_stream v.stream (record (within s w) { stream = stream; blocks = put x (one_on l) w.blocks })) v →
+    Kept w (undone (of_super x w) v)
+super_undone_kept s stream x l w v found h =
+    let k = h.lasts in
+    kept_lasting (record {
+      same_id = k.same_id;
+      same_fuel_set = k.same_fuel_set;
+      fuel = k.fuel;
+      loops = k.loops;
+      namespaces = k.namespaces;
+      closures = k.closures;
+      streams = k.streams;
+      temps = k.temps;
+      loaded = k.loaded;
+      blocks = blocks_placed x l w.blocks v.blocks found k.blocks;
+    }) (super_undone_scopes s stream x l w v h) refl refl refl
+
+-- A parent is loaded.
+pub loading_kept : (x : List ℕ) (t : Template) (w : World) →
+    Kept w (record w { loaded = w.loaded ++ x ∷ []; blocks = with_blocks (entry x) t.blocks w.blocks })
+loading_kept x t w = kept_lasting (record {
+  same_id = refl;
+  same_fuel_set = refl;
+  fuel = omega arith;
+  loops = goes_on_same w.loops;
+  namespaces = omega arith;
+  closures = omega arith;
+  streams = omega arith;
+  temps = omega arith;
+  loaded = (x ∷ [], refl);
+  blocks = blocks_behind (entry x) t.blocks w.blocks;
+}) refl refl refl refl
+
+-- No more names are left to be loaded.
+pub names_advance : (host : HostValue) {w v : World} → Advances w v → names_left host v ≤ names_left host w
+names_advance host {w = w} {v = v} h =
+    let loaded = h.lasts.loaded in
+    subst (λ names. names_left host (record v { loaded = names }) ≤ names_left host w) (sym loaded.1)
+    (count_fewer host.templates w.loaded loaded.0)
 
 -- A macro's run, in whichever scopes, and whichever stream it ended: what is put back behind it are the very scopes before it, and all is
 -- kept.
@@ -445,7 +516,7 @@ macro_undone_kept scopes stream w v h =
       closures = l.closures;
       streams = l.streams;
       temps = l.temps;
-      loaded = omega arith;
+      loaded = names_same w.loaded;
       blocks = blocks_same w.blocks;
     }) refl refl refl refl
 

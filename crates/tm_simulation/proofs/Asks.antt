@@ -1,7 +1,7 @@
 -- What calls come to keeps the world, or is a run that starts deeper.
 use Rattle.tm_values.specs.declared.escape.AutoEscape.{AutoEscape}
 use Rattle.std.proofs.Common.{◌≡◌, ℕ, zero, suc, ◌+◌, List, [], ◌∷◌, Option, Some, None, Bool, true, false, nat_lt, ◌++◌, refl}
-use Rattle.std.proofs.Common.{ap, ◌∙◌, arith}
+use Rattle.std.proofs.Common.{arith}
 use Rattle.std.proofs.Common.{ltb-true, length-append, ◌≤◌}
 use Rattle.std.specs.Prelude.{slice_get, not, nat_eq, ◌&&◌, codes, if◌then◌else◌}
 use Rattle.tm_values.specs.Val.{MacroData, Val, undefined, function, macro, loop, text}
@@ -12,11 +12,11 @@ use Rattle.tm_syntax.specs.declared.tree.Application.{Application}
 use Rattle.tm_syntax.specs.declared.tree.Application.TheVariants as applications
 use Rattle.tm_definitions.specs.Maps.{dict_of, namespace_of}
 use Rattle.tm_definitions.specs.Emitted.{text_answer}
-use Rattle.tm_meaning.specs.World.{unpacked_items, emitted, escape_for, view_of, find, same_name, block_of, World, HostValue, Scope, Loop}
+use Rattle.tm_meaning.specs.World.{choose, unpacked_items, emitted, escape_for, view_of, find, same_name, block_of, World, HostValue, Scope, Loop}
 use Rattle.tm_meaning.specs.World.{innermost}
 use Rattle.tm_meaning.specs.World.{items_over, Res, Good, Bad}
 use Rattle.tm_meaning.specs.World.{need, check, answered, depth, lookup, Function, callers, languages, records_of}
-use Rattle.tm_meaning.specs.World.{plain_scope, Object, View, same_stream}
+use Rattle.tm_meaning.specs.World.{Layers, plain_scope, Object, View, same_stream}
 use Rattle.tm_meaning.specs.declared.reply.Reply.{Reply}
 use Rattle.tm_meaning.specs.declared.reply.Reply.TheVariants.{Value as gives, Fault as faults, Further as asks_for}
 use Rattle.tm_meaning.specs.declared.reply.Call.{Call}
@@ -28,17 +28,19 @@ use Rattle.tm_meaning.specs.Calls.{as_truth, applied, MakesFurther, object_call,
 use Rattle.tm_meaning.specs.Calls.{depths_left, by_depths, function_call, value_call, as_printed, deeper, from_deeper}
 use Rattle.tm_meaning.specs.Calls.{enter_macro, bound_to, known_stream, macro_depth, macro_scopes}
 use Rattle.tm_meaning.specs.Calls.{loop_method, method_in, of_loop, record_at, given_by, replied, required_alone}
+use Rattle.tm_meaning.specs.Calls.{super_call, enter_super, no_values, call_super, call_looked_up}
+use Rattle.tm_meaning.specs.Inheritance.{one_on}
 use Rattle.tm_meaning.specs.declared.function.GlobalFunction.{GlobalFunction}
 use Rattle.tm_meaning.specs.declared.function.GlobalFunction.TheVariants as own
 use Rattle.tm_meaning.specs.declared.stream.StreamId.{StreamId}
-use Rattle.tm_syntax.specs.Named.{put_each}
+use Rattle.tm_syntax.specs.Named.{put, put_each}
 use Rattle.tm_simulation.specs.Chains.{is_raised, Arises, wrapped as wraps, by_object, IsObject, is_function, is_filter, is_test}
 use Rattle.tm_simulation.specs.Chains.{is_method}
 use Rattle.tm_simulation.proofs.Raised.{unpacked_raises, escape_raises, emitted_arises, iterated_raises, range_raises, dict_raises}
 use Rattle.tm_simulation.proofs.Raised.{namespace_raises, name_raises, method_raises, text_raises}
 use Rattle.tm_simulation.proofs.Advances.{Advances, Kept, advances_then, lasts_by_namespaces, lasts_by_temps, advances_same}
 use Rattle.tm_simulation.proofs.Advances.{kept_same, kept_then, kept_lasting, undone_kept, in_stream, kept_depth, within, one_more}
-use Rattle.tm_simulation.proofs.Advances.{put_each_long, keeping_kept, undone_at, macro_undone_kept}
+use Rattle.tm_simulation.proofs.Advances.{put_each_long, keeping_kept, undone_at, super_undone_kept, macro_undone_kept}
 use Rattle.tm_simulation.proofs.Gives.{answered_gives, Gives, refused_arises, gives_bind, operation_gives}
 
 -- A value keeps the world; a run starts at least one level deeper, within the limit, and however it ends what is put back behind it keeps the world.
@@ -109,6 +111,31 @@ block_asks host b w =
       omega arith,
       omega (arith, ltb-true (depth w.scopes) host.limit room),
       λ world2 l. undone_kept (plain_scope (undefined false)) stream (Some b) w world2 l,
+    ))
+
+-- a world in which the block behind one of a name was entered
+abbrev pub in_super : StreamId → List ℕ → Layers → World → World
+in_super stream x l w = record (within (plain_scope (undefined false)) w) { stream = stream; blocks = put x (one_on l) w.blocks }
+
+-- So does `super()`.
+pub super_asks_by : (Holds : Asked → Type 0) (host : HostValue) (w : World) →
+    ((kind : ErrorKind) → is_raised kind ≡ true → Holds (refused (kind ∷ []) w)) →
+    ((stream : StreamId) (x : List ℕ) (l : Layers) → find x w.blocks ≡ Some l → nat_lt (depth w.scopes) host.limit ≡ true →
+    Holds (runs (super_call stream x w) (in_super stream x l w))) →
+    Holds (enter_super host w)
+super_asks_by Holds host w refuses enters =
+    need_asks Holds w w.block InvalidOperation _ (refuses InvalidOperation refl) (λ x _.
+    need_asks Holds w (find x w.blocks) InvalidOperation _ (refuses InvalidOperation refl) (λ l found.
+    need_asks Holds w (slice_get l.templates (l.place + 1)) InvalidOperation _ (refuses InvalidOperation refl) (λ t _.
+    push_asks Holds w (plain_scope (undefined false)) (nat_lt (depth w.scopes) host.limit) _ (refuses InvalidOperation refl)
+    (λ room. enters (block_of t x) x l found room))))
+
+pub super_asks : (host : HostValue) (w : World) → Asks host w (enter_super host w)
+super_asks host w =
+    super_asks_by (Asks host w) host w (λ kind e. asks_refused host w kind e) (λ stream x l found room. (
+      omega arith,
+      omega (arith, ltb-true (depth w.scopes) host.limit room),
+      λ world2 h. super_undone_kept (plain_scope (undefined false)) stream x l w world2 found h,
     ))
 
 -- ---------------------------------------------------------------- functions
@@ -329,7 +356,21 @@ found_call_asks host (loop state n) args w =
     ask_then host w (one_argument args w) _ (one_argument_gives host args w) (λ v world1. loop_call_asks host l v world1))
 found_call_asks host v args w = value_asks host v args w
 
-pub named_asks : (host : HostValue) (x : List ℕ) (args : List Val) (w : World) → Asks host w (call_named host x args w)
-named_asks host x args w =
+looked_up_asks : (host : HostValue) (x : List ℕ) (args : List Val) (w : World) → Asks host w (call_looked_up host x args w)
+looked_up_asks host x args w =
     ask_then host w (lookup host x w) _ (lookup_gives host x w) (λ found world1.
     ask_need host world1 found UnknownFunction (λ f world2. call_found host f args world2) refl (λ f e. found_call_asks host f args world1))
+
+super_call_asks : (host : HostValue) (args : List Val) (w : World) → Asks host w (call_super host args w)
+super_call_asks host args w =
+    check_asks (Asks host w) w (no_values args) InvalidOperation _ (asks_refused host w InvalidOperation refl) (super_asks host w)
+
+choose_asks : (host : HostValue) (w : World) (b : Bool) (p q : Asked) → Asks host w p → Asks host w q →
+    Asks host w (choose b (λ _. p) (λ _. q))
+choose_asks host w true p q h k = h
+choose_asks host w false p q h k = k
+
+pub named_asks : (host : HostValue) (x : List ℕ) (args : List Val) (w : World) → Asks host w (call_named host x args w)
+named_asks host x args w =
+    choose_asks host w (same_name x (codes "super")) (call_super host args w) (call_looked_up host x args w)
+    (super_call_asks host args w) (looked_up_asks host x args w)

@@ -1,5 +1,5 @@
 -- The loops and the macros of trees in their code, each at its number.
-use Rattle.std.proofs.Common.{◌≡◌, ℕ, zero, suc, ◌+◌, ◌⊎◌, List, [], ◌∷◌, ◌++◌, length, Option, Some, None, Bool, true, refl}
+use Rattle.std.proofs.Common.{◌≡◌, ℕ, zero, suc, ◌+◌, ◌⊎◌, List, [], ◌∷◌, ◌++◌, length, Option, Some, None, true, refl}
 use Rattle.std.proofs.Common.{sym, ap, subst, ◌∙◌, arith}
 use Rattle.std.specs.Prelude.{slice_get}
 use Rattle.std.proofs.lemmas.List.{append-nil}
@@ -13,9 +13,8 @@ use Rattle.tm_syntax.specs.Code.{for_flags, target_code, parameters_code, statem
 use Rattle.tm_syntax.specs.Loops.{begins, with_place, loop_places, Numbers, within_macro, FoundLoop, FoundMacro}
 use Rattle.tm_syntax.specs.Fragments.{Fragment, straight, ◌⨾◌, jump_out, bounded, fork, looped, break_loop, next_round, declares}
 use Rattle.tm_syntax.specs.Fragments.{MacroHead, behind_body, beyond, Labels, outward, inward, jump, assemble, ending_at, over, either}
-use Rattle.tm_syntax.specs.Entries.{Entries}
 use Rattle.tm_syntax.proofs.Standing.{HasAt, At, beyond_is}
-use Rattle.tm_simulation.proofs.Counts.{NoneBegins, Plain, Loopless, NoLoops, plain, jump_none, none_loops, behind_loops, none_places}
+use Rattle.tm_simulation.proofs.Counts.{Plain, Loopless, plain, jump_none, none_loops, behind_loops, none_places}
 use Rattle.tm_simulation.proofs.Counts.{one_loop_more, counted, counted_none, entered, entered_none, Counts, Has, it, front, back}
 
 -- ---------------------------------------------------------------- lists side by side

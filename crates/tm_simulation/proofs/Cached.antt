@@ -21,17 +21,20 @@ use Rattle.tm_meaning.specs.World.{choose, World, Loop, HostValue, Res, Good, Ba
 use Rattle.tm_meaning.specs.World.{enclose, make_macro, items_over, unpacked_items, set_member, open_loop, top_mark, top_loop, push, plain_scope}
 use Rattle.tm_meaning.specs.declared.run_text.RunText.{RunText}
 use Rattle.tm_meaning.specs.Calls.{Callee, whole, macro_of, Asked, has, refused, runs, recurs, call_named, call_callee, applied}
-use Rattle.tm_meaning.specs.Calls.{call_innermost, enter_block, undone}
+use Rattle.tm_meaning.specs.Calls.{call_innermost, enter_block, enter_super, undone}
 use Rattle.tm_meaning.specs.Meaning.{none_waits}
 use Rattle.tm_meaning.specs.Operators.{truth, applied_unary, operated, attribute, item_at, slice_of, merged_values, items_of_lists}
 use Rattle.tm_meaning.specs.Instructions.{apply_of, replaces_one, replaces_two, take_counted, on_count, count_in, on_truth, iterate_with}
 use Rattle.tm_meaning.specs.Instructions.{end_capture_with, pop_auto_escape_with, is_no_loop, on_loop, pop_loop_with, returned, returns}
 use Rattle.tm_meaning.specs.Instructions.{with_text, may_hold, holding, used, on_used, looping, on_parts, closure_in, names_in}
-use Rattle.tm_meaning.specs.Machine.{Activation, Caches, Capture, Return, Config, Program, End, Finished, Failed, Stuck, Next, More, Over}
+use Rattle.tm_meaning.specs.Machine.{Activation, Caches, Capture, Return, Config, Program, End, Finished, Failed, Stuck, Next, More, Over, Restart}
 use Rattle.tm_meaning.specs.Machine.{Nest, Back, after, on_top, on_taken, taken, on, with_world, writes, audible, new_capture, recursion}
 use Rattle.tm_meaning.specs.Machine.{place_of_loop, asked, asked_in_place, nested, run_from, run_of_macro, first_run, running, waiting, onto}
 use Rattle.tm_meaning.specs.Machine.{back_with, back_to, goes}
-use Rattle.tm_meaning.specs.Steps.{pay, effect, finish, closed, act, step, begun, begins, Final, Leads, Reaches, over, more, nest}
+use Rattle.tm_meaning.specs.Steps.{pay, effect, finish, parent_next, closed, act, step, begun, begins, Final, Leads, Reaches, over, more}
+use Rattle.tm_meaning.specs.Steps.{restart, nest}
+use Rattle.tm_meaning.specs.Inheritance.{load}
+use Rattle.tm_meaning.specs.declared.stream.TemplateId.{TemplateId}
 use Rattle.tm_meaning.proofs.Ends.{one_end}
 use Rattle.tm_meaning.specs.declared.base.Base.{Base}
 use Rattle.tm_meaning.specs.declared.stream.StreamId.{StreamId}
@@ -45,10 +48,12 @@ with_caches fs ts r = record r { filters = fs; tests = ts }
 abbrev pub cached : Caches → Caches → Config → Config
 cached fs ts c = record c { run = with_caches fs ts c.run }
 
--- A step goes on in a stream, and this one with these caches; or both do the same. A run of its own begins with empty caches.
+-- A step goes on in a stream, and this one with these caches; or both do the same. A run of its own begins with empty caches, and so does
+-- one that restarts.
 abbrev pub Alike : StreamId → Caches → Caches → Next → Next → Type 0
 Alike s fs ts (More t c) n = (c.run.stream ≡ s) × (n ≡ More t (cached fs ts c))
 Alike s fs ts (Over e) n = n ≡ Over e
+Alike s fs ts (Restart c) n = (c.run.filters ≡ []) × (c.run.tests ≡ []) × (n ≡ Restart c)
 Alike s fs ts (Nest f c back) n = (back.run.stream ≡ s) × (c.run.filters ≡ []) × (c.run.tests ≡ [])
     × (n ≡ Nest f c (record back { run = with_caches fs ts back.run }))
 
@@ -180,6 +185,10 @@ module _ (s : StreamId) (fs ts : Caches) where
     pop_escape_same [] = refl
     pop_escape_same (e ∷ es) = (here, refl)
 
+    pub parent_same : (q : Option TemplateId) → Same (parent_next q c) (parent_next q d)
+    parent_same None = refl
+    parent_same (Some t) = (refl, refl, refl)
+
     -- ---------------------------------------------------------------- calls
     -- of programs whose loops stand at the same places
     module _ (host : HostValue) (plain coded : StreamId → List Instruction)
@@ -305,6 +314,9 @@ module _ (s : StreamId) (fs ts : Caches) where
           (λ v vs. placed_same f vs (call_innermost host v c.world))
       effect_same f (i.CallBlock b) none = choose_same (none_waits c.run.parent && audible f c) _ _ _ _
           (placed_same f c.run.operands (enter_block host b c.world)) (here, refl)
+      effect_same f i.FastSuper none = placed_same f c.run.operands (enter_super host c.world)
+      effect_same f i.LoadBlocks none = on_top_same c.run.operands c.world _ _ (λ v vs.
+          after_same (load host v c.run.parent (nat_lt f.captures (length c.captures)) c.world) _ _ (λ t w. (here, refl)))
       effect_same f (i.StoreLocal x) none = on_top_same c.run.operands c.world _ _ (λ v vs. (here, refl))
       effect_same f (i.UnpackList n) none = on_top_same c.run.operands c.world _ _
           (λ v vs. after_same (unpacked_items n v c.world) _ _ (λ xs w. (here, refl)))
@@ -508,7 +520,8 @@ module _ (host : HostValue) (plain coded : StreamId → List Instruction) (each 
           tests = ts;
           hold = hold;
           alike = subst (λ n. Alike s fs ts (finish (length (plain s)) f c) (finish n f (cached fs ts c))) (sym size)
-              (choose_same s fs ts (nat_eq c.run.place (length (plain s)) && closed f c) _ _ _ _ refl refl);
+              (choose_same s fs ts (nat_eq c.run.place (length (plain s)) && closed f c) _ _ _ _
+              (parent_same s fs ts c refl c.run.parent) refl);
         }
     act_goes (Some x) (Some y) is = instruction_goes x y is
     act_goes None (Some y) is = absurd is
@@ -525,6 +538,13 @@ module _ (host : HostValue) (plain coded : StreamId → List Instruction) (each 
       let on = subst (λ n. Alike s fs ts n m) is alike in
       let go = step_goes f fs ts c (subst (λ r. Hold r fs ts) (sym on.0) hold) in
       more on.1 (leads_too c.run.stream go.filters go.tests _ go.hold go.alike rest)
+  leads_too {f = f} {t = t} {o = o} s fs ts m hold alike (restart {c = c} is rest) =
+      let on = subst (λ n. Alike s fs ts n m) is alike in
+      let go = step_goes f [] [] c (none_held (each c.run.stream).0, none_held (each c.run.stream).1) in
+      let ran = leads_too c.run.stream go.filters go.tests _ go.hold go.alike rest in
+      restart on.2
+      (subst (λ k. Leads behind f t (step behind f (cached c.run.filters k c)) o) (sym on.1)
+      (subst (λ k. Leads behind f t (step behind f (cached k [] c)) o) (sym on.0) ran))
   leads_too {t = t} s fs ts m hold alike (nest {g = g} {c = c} {back = back} {e = e} is inner rest) =
       let on = subst (λ n. Alike s fs ts n m) is alike in
       let go = step_goes g [] [] c (none_held (each c.run.stream).0, none_held (each c.run.stream).1) in

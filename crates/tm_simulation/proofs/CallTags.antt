@@ -1,5 +1,5 @@
 -- The code of a call that is given a macro makes that call.
-use Rattle.std.proofs.Common.{◌≡◌, ℕ, suc, ◌+◌, List, [], ◌∷◌, ◌++◌, length, Some, Bool, true, false, refl, sym, ap, ◌∙◌, subst, arith}
+use Rattle.std.proofs.Common.{◌≡◌, ℕ, suc, ◌+◌, List, [], ◌∷◌, ◌++◌, length, Some, Bool, false, refl, ap, ◌∙◌, subst, arith}
 use Rattle.std.proofs.Common.{length-append, eqb-true}
 use Rattle.std.specs.Prelude.{codes}
 use Rattle.tm_values.specs.Val.{Val, text}
@@ -8,15 +8,14 @@ use Rattle.tm_syntax.specs.declared.tree.Expr.{more_of-Step as step}
 use Rattle.tm_syntax.specs.declared.tree.Step.{Step, Apply', Call' as Called}
 use Rattle.tm_syntax.specs.declared.instruction.Instruction.TheVariants as i
 use Rattle.tm_syntax.specs.Forms.{chained}
-use Rattle.tm_syntax.specs.Code.{RowEnd, caller_end, rows_of, together, count, count_maps, has_spread, passed_count, merging}
+use Rattle.tm_syntax.specs.Code.{caller_end, rows_of, together, count, count_maps, has_spread, passed_count, merging}
 use Rattle.tm_syntax.specs.Code.{expr_code, arguments_code, lists_code, keywords_code, step_code, passing_code, called_alone, step_call_code}
 use Rattle.tm_syntax.specs.Code.{steps_call_code, call_code}
 use Rattle.tm_syntax.specs.Entries.{entry_number}
 use Rattle.tm_syntax.specs.Fragments.{Fragment, Labels, MacroHead, declares, beyond}
-use Rattle.tm_syntax.specs.Loops.{Numbers}
 use Rattle.tm_meaning.specs.World.{World, Res, bind, tick}
 use Rattle.tm_meaning.specs.Calls.{call_named, call_callee}
-use Rattle.tm_meaning.specs.Meaning.{Run, Under, RowValues, declared, with_caller, passed_so, call_alone, step_call, steps_call, call, eval}
+use Rattle.tm_meaning.specs.Meaning.{Run, Under, declared, with_caller, passed_so, call_alone, step_call, steps_call, call, eval}
 use Rattle.tm_meaning.specs.Meaning.{eval_arguments, eval_keywords, eval_lists, eval_step}
 use Rattle.tm_meaning.specs.Operators.{named_by}
 use Rattle.tm_meaning.specs.Machine.{onto}

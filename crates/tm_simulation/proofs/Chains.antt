@@ -13,7 +13,7 @@ use Rattle.tm_syntax.specs.Named.{name_cmp}
 use Rattle.std.specs.BTreeMap.{is_at}
 use Rattle.std.specs.Prelude.{cond, Option, None}
 use Rattle.tm_meaning.specs.Meaning.{rendered, chain_of}
-use Rattle.tm_simulation.specs.Chains.{wrapped, is_raised, Arises, raised, by_object, AnswersOnly, by_formatter, RepliesOnly, IfAny}
+use Rattle.tm_simulation.specs.Chains.{wrapped, is_raised, Arises, raised, by_object, AnswersOnly, by_formatter, by_join, RepliesOnly, IfAny}
 use Rattle.tm_simulation.specs.Chains.{IsObject, is_function, is_filter, is_test, is_method, ObjectStates, NamedStates}
 use Rattle.tm_simulation.specs.Chains.{HasRaised, FunctionStates, FallbackStates, FormatterStates, StatesOnly, ends_in_memory}
 use Rattle.tm_simulation.specs.Chains.{StatesNoMemory, MayWrap}
@@ -66,6 +66,7 @@ module _ (Has : List ErrorKind → Type 0) (host : HostValue) (has : HasRaised H
   arisen_has (by_object f args view e s) = subst (RepliesOnly Has) s (object_states f e args view)
   arisen_has (by_formatter f v view e s) =
       subst (AnswersOnly Has) s (subst (FormatterStates Has) e states.formatter v view)
+  arisen_has (by_join name parent s) = subst (AnswersOnly Has) s (states.join name parent)
 
   any_has : (chain : List ErrorKind) → IfAny (Arises host) chain → IfAny Has chain
   any_has [] h = tt

@@ -7,20 +7,18 @@ use Rattle.std.specs.List.{prefix_len}
 use Rattle.std.specs.BTreeMap.{insert_entry}
 use Rattle.std.specs.Ordering.{nat_cmp}
 use Rattle.std.proofs.lemmas.List.{append-nil}
-use Rattle.std.proofs.lemmas.Bool.Decides.{nat_tests}
-use Rattle.tm_values.specs.Val.{Val, text, list_of, vals_of}
+use Rattle.tm_values.specs.Val.{text}
 use Rattle.tm_values.proofs.Lists.{list_of-vals_of}
 use Rattle.tm_syntax.specs.declared.instruction.Instruction.{Instruction}
 use Rattle.tm_syntax.specs.declared.instruction.Instruction.TheVariants as i
 use Rattle.tm_syntax.specs.declared.instruction.LoopFlags.{LoopFlags}
-use Rattle.tm_syntax.specs.declared.instruction.LoopPlace.{LoopPlace}
 use Rattle.tm_syntax.specs.declared.jump.JumpKind.{JumpKind}
 use Rattle.tm_syntax.specs.declared.jump.JumpKind.TheVariants.{IfFalse, IfFalseOrPop, IfTrueOrPop}
 use Rattle.tm_syntax.specs.Loops.{begins, with_place, one_more_loop, loops_before, loop_places, Numbers, first_numbers, within_macro}
 use Rattle.tm_syntax.specs.Fragments.{Fragment, straight, ◌⨾◌, jump_out, bounded, fork, looped, break_loop, next_round, declares}
 use Rattle.tm_syntax.specs.Fragments.{MacroHead, name_list, building, behind_body, beyond_all, beyond, Labels, outward, inward, jump}
 use Rattle.tm_syntax.specs.Fragments.{assemble, ending_at, whole_labels, assembled}
-use Rattle.tm_syntax.specs.Entries.{Entries, entries_from, entries, entry_number, name_count, with_entry}
+use Rattle.tm_syntax.specs.Entries.{Entries, entries_from, entries, entry_number, name_count}
 use Rattle.tm_syntax.proofs.Standing.{HasAt, At, AtWhere, beyond_is, beyond_all_is, stands_whole}
 use Rattle.tm_simulation.specs.Uncached.{is_uncached, AllUncached}
 use Rattle.tm_simulation.proofs.Numbered.{both_uncached}

@@ -1,5 +1,5 @@
 -- What the declaration of a macro keeps, and what its parameters do with their values.
-use Rattle.std.proofs.Common.{ℕ, List, [], ◌∷◌, ◌++◌, Option, Some, None, Bool, false, refl}
+use Rattle.std.proofs.Common.{ℕ, List, [], ◌∷◌, ◌++◌, Option, Some, None, Bool, false}
 use Rattle.std.specs.Prelude.{codes}
 use Rattle.tm_values.specs.Val.{Val, text}
 use Rattle.tm_syntax.specs.declared.tree.Expr.{Expr, Call', Row_of-Argument, Row_of-Keyword, Row_of-Step, end_of-Step as no_step}
@@ -10,12 +10,12 @@ use Rattle.tm_syntax.specs.Code.{has_spread}
 use Rattle.tm_syntax.specs.declared.tree.Parameter.{Parameter}
 use Rattle.tm_syntax.specs.declared.tree.AssignmentTarget.{Name as To}
 use Rattle.tm_syntax.specs.Fragments.{MacroHead}
-use Rattle.tm_meaning.specs.World.{World, HostValue, Res, has_enclosed, looked_up, own_closure, enclose, make_macro}
-use Rattle.tm_meaning.specs.Calls.{Callee, applied, call_callee, call_named}
-use Rattle.tm_meaning.specs.Meaning.{Run, Under, enclose_each, declared, or_default, take_parameter, take_parameters, eval, assign}
-use Rattle.tm_meaning.specs.Meaning.{RowValues, with_caller, passed_so, call_alone, step_call, steps_call, call, value_of, eval_arguments}
-use Rattle.tm_meaning.specs.Meaning.{eval_keywords, eval_lists, eval_step}
-use Rattle.tm_meaning.specs.Operators.{is_undefined, mapped, named_by, turned}
+use Rattle.tm_meaning.specs.World.{World, HostValue, has_enclosed, looked_up, own_closure, enclose, make_macro}
+use Rattle.tm_meaning.specs.Calls.{Callee, applied}
+use Rattle.tm_meaning.specs.Meaning.{Run, Under, enclose_each, declared, or_default, take_parameter, take_parameters, eval}
+use Rattle.tm_meaning.specs.Meaning.{RowValues, with_caller, passed_so, call_alone, step_call, steps_call, call, value_of}
+use Rattle.tm_meaning.specs.Meaning.{eval_keywords, eval_step}
+use Rattle.tm_meaning.specs.Operators.{is_undefined, named_by}
 use Rattle.tm_simulation.proofs.Advances.{kept_same, closed_over_kept, stream_kept}
 use Rattle.tm_simulation.proofs.Gives.{Gives, OutcomeKeeps, RunEnds, gives_bind, choose_gives, ticked_gives}
 use Rattle.tm_simulation.proofs.Asks.{applied_asks, callee_asks, named_asks}
@@ -55,7 +55,7 @@ caller_gives host n m row w =
 -- ---------------------------------------------------------------- parameters
 module _ (u : Under) (nest_ends : (k : Callee) (heard : Bool) (out : List ℕ) (w : World) → RunEnds u.host w (u.nests k heard out w))
     (again_ends : (n : ℕ) (items : List Val) (run : Run) (out : List ℕ) (w : World) →
-    OutcomeKeeps u.host w (u.again n items run out w)) where
+    OutcomeKeeps u.host run.parent w (u.again n items run out w)) where
   pub or_default_gives : (run : Run) (default : Option Expr) (v : Val) (w : World) → Gives u.host w (or_default u run default v w)
   or_default_gives run None v w = kept_same w
   or_default_gives run (Some e) v w =

@@ -9,7 +9,7 @@ use Rattle.tm_syntax.specs.declared.tree.UnaryOperator.{UnaryOperator}
 use Rattle.tm_syntax.specs.declared.tree.UnaryOperator.TheVariants as unaries
 use Rattle.tm_syntax.specs.declared.tree.BinaryOperator.{BinaryOperator}
 use Rattle.tm_syntax.specs.declared.tree.BinaryOperator.TheVariants as binaries
-use Rattle.tm_syntax.specs.declared.tree.Expr.{Expr, Var, Const, List', Tuple', Map', Call', Row_of-Expr, end_of-Expr as no_expr}
+use Rattle.tm_syntax.specs.declared.tree.Expr.{Expr, Var, Const, List', Tuple', Map', Call', SelfBlock, Row_of-Expr, end_of-Expr as no_expr}
 use Rattle.tm_syntax.specs.declared.tree.Expr.{more_of-Expr as expr, Row_of-Pair, end_of-Pair as no_pair}
 use Rattle.tm_syntax.specs.declared.tree.Expr.{Row_of-Argument, end_of-Argument as no_argument, more_of-Argument as argument}
 use Rattle.tm_syntax.specs.declared.tree.Expr.{Row_of-Keyword, end_of-Keyword as no_keyword, more_of-Keyword as keyword_and, Row_of-Step}
@@ -34,7 +34,7 @@ use Rattle.tm_meaning.specs.World.{looked_up}
 use Rattle.tm_meaning.specs.World.{lookup, records_of, with_member, set_member, unpacked_items}
 use Rattle.tm_meaning.specs.Calls.{Callee, NestedCall, undone, wrapped, Asked, has, refused, runs, recurs, applied}
 use Rattle.tm_meaning.specs.Meaning.{RowValues, text_behind, Run, Outcome, Ending, done, leave, next, fault, Under, audible, value_of, value_behind}
-use Rattle.tm_meaning.specs.Meaning.{in_place_of, behind, eval, eval_all, eval_pairs}
+use Rattle.tm_meaning.specs.Meaning.{in_place_of, behind, block_tag, eval, eval_all, eval_pairs}
 use Rattle.tm_meaning.specs.Operators.{truth, applied_unary, operated, applied_binary}
 use Rattle.tm_meaning.specs.Meaning.{eval_argument, eval_arguments, eval_keywords, eval_lists, one_counted, selected, loop_items}
 use Rattle.tm_meaning.specs.Operators.{listed, mapped, merged_by, merged_values, items_of_lists, named_by, passed_by}
@@ -51,8 +51,8 @@ use Rattle.tm_simulation.proofs.Advances.{opened, opened_kept}
 use Rattle.tm_simulation.proofs.Gives.{Gives, RunEnds, run_ends_as, EndingKeeps, OutcomeKeeps, ends_as, gives_bind, gives_kept}
 use Rattle.tm_simulation.proofs.Gives.{choose_gives, tick_gives}
 use Rattle.tm_simulation.proofs.Gives.{ticked_gives}
-use Rattle.tm_simulation.proofs.Gives.{operation_gives, ends_here, ends_fault, ends_then, opened_gives}
-use Rattle.tm_simulation.proofs.Asks.{unpacked_gives, applied_asks, Asks, lookup_gives, items_give, named_asks, callee_asks}
+use Rattle.tm_simulation.proofs.Gives.{operation_gives, ends_here, ends_fault, ends_then, choose_ends, opened_gives}
+use Rattle.tm_simulation.proofs.Asks.{unpacked_gives, applied_asks, Asks, lookup_gives, items_give, named_asks, callee_asks, block_asks}
 use Rattle.tm_meaning.specs.declared.wrapping.Wrapping.TheVariants as wrapping
 
 -- ---------------------------------------------------------------- operators
@@ -148,7 +148,7 @@ text_by host w world1 (fault chain) o h k = (advances_then h.advances k.0, k.1)
 place_by : (host : HostValue) (w world1 : World) (c : NestedCall) (run : Run) (e : Ending) (o : Outcome) →
     EndingKeeps host (in_stream o.world.stream world1) e o.world →
     ((world2 : World) → Advances (in_stream world2.stream world1) world2 → Kept w (undone c.undo world2)) →
-    OutcomeKeeps host w (behind e c run o)
+    OutcomeKeeps host run.parent w (behind e c run o)
 place_by host w world1 c run done o h k = ends_here host w _ run o.text (k o.world h.advances)
 place_by host w world1 c run leave o h k = ends_here host w _ run o.text (k o.world h.advances)
 place_by host w world1 c run next o h k = ends_here host w _ run o.text (k o.world h.advances)
@@ -218,7 +218,7 @@ condition_gives host test guarded other first given last w =
 
 module _ (u : Under) (nest_ends : (k : Callee) (heard : Bool) (out : List ℕ) (w : World) → RunEnds u.host w (u.nests k heard out w))
     (again_ends : (n : ℕ) (items : List Val) (run : Run) (out : List ℕ) (w : World) →
-    OutcomeKeeps u.host w (u.again n items run out w)) where
+    OutcomeKeeps u.host run.parent w (u.again n items run out w)) where
   pub value_gives : (w : World) (run : Run) (q : Asked) → Asks u.host w q → Gives u.host w (value_of u run q)
   value_gives w run (has v world1) h = h
   value_gives w run (refused chain world1) h = h
@@ -229,7 +229,7 @@ module _ (u : Under) (nest_ends : (k : Callee) (heard : Bool) (out : List ℕ) (
       let o = u.nests c.callee true [] world1 in
       value_by u.host w world1 c o.ending o (run_ends_as u.host world1 o (nest_ends c.callee true [] world1)) h.2
 
-  pub place_ends : (w : World) (run : Run) (out : List ℕ) (q : Asked) → Asks u.host w q → OutcomeKeeps u.host w (in_place_of u run out q)
+  pub place_ends : (w : World) (run : Run) (out : List ℕ) (q : Asked) → Asks u.host w q → OutcomeKeeps u.host run.parent w (in_place_of u run out q)
   place_ends w run out (has v world1) h = ends_here u.host w world1 run out h
   place_ends w run out (refused chain world1) h = ends_fault u.host w world1 run out chain h.0 h.1
   place_ends w run out (recurs n items world1) h =
@@ -237,6 +237,9 @@ module _ (u : Under) (nest_ends : (k : Callee) (heard : Bool) (out : List ℕ) (
   place_ends w run out (runs c world1) h =
       let o = u.nests c.callee (audible run) out world1 in
       place_by u.host w world1 c run o.ending o (run_ends_as u.host world1 o (nest_ends c.callee (audible run) out world1)) h.2
+
+  pub tag_ends : (run : Run) (b : List ℕ) (out : List ℕ) (w : World) → OutcomeKeeps u.host run.parent w (block_tag u run b out w)
+  tag_ends run b out w = choose_ends u.host w _ _ _ (place_ends w run out _ (block_asks u.host b w)) (ends_here u.host w w run out (kept_same w))
 
   mutual
     pub eval_gives : (run : Run) (e : Expr) (w : World) → Gives u.host w (eval u run e w)
@@ -259,6 +262,12 @@ module _ (u : Under) (nest_ends : (k : Callee) (heard : Bool) (out : List ℕ) (
         (passed_by_gives (has_spread given) u.host [] _ by_name _ (λ world1. arguments_give run given world1) names
         (λ world1. lists_give run [] given by_name names world1) w) (λ vs world1.
         ticked_gives u.host world1 _ (λ world2. value_gives world2 run _ (named_asks u.host f vs world2)))
+    eval_gives run (SelfBlock b) w =
+        ticked_gives u.host w _ (λ world1.
+        let o = block_tag u (capturing true run) b [] world1 in
+        gives_bind u.host world1 (text_behind o.ending o) _
+        (text_by u.host world1 world1 o.ending o (kept_same world1) (ends_as u.host world1 o (tag_ends (capturing true run) b [] world1)))
+        (λ v world2. ticked_gives u.host world2 _ (λ world3. kept_same world3)))
     eval_gives run (unary op a) w =
         gives_bind u.host w (eval u run a w) _ (eval_gives run a w)
         (λ v world1. ticked_gives u.host world1 _ (λ world2. unary_gives u.host op v world2))

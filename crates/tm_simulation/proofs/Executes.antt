@@ -4,8 +4,9 @@ use Rattle.tm_values.specs.Val.{Val, undefined}
 use Rattle.tm_values.specs.declared.error.ErrorKind.TheVariants.{InvalidOperation}
 use Rattle.tm_syntax.specs.declared.tree.CaptureUse.{CaptureUse}
 use Rattle.tm_syntax.specs.declared.tree.CaptureUse.TheVariants as uses
-use Rattle.tm_syntax.specs.declared.tree.Stmt.{Stmt, EmitRaw, EmitExpr, EmitLoop, If', For', Break, Continue, Block', Set, CaptureBlock'}
-use Rattle.tm_syntax.specs.declared.tree.Stmt.{With', Do, AutoEscape', Macro', CallBlock', Row_of-Stmt, end_of-Stmt as no_statement}
+use Rattle.tm_syntax.specs.declared.tree.Stmt.{Stmt, EmitRaw, EmitExpr, EmitLoop, EmitBlock, EmitSuper, If', For', Break, Continue, Block'}
+use Rattle.tm_syntax.specs.declared.tree.Stmt.{Extends, Set, CaptureBlock', With', Do, AutoEscape', Macro', CallBlock', Row_of-Stmt}
+use Rattle.tm_syntax.specs.declared.tree.Stmt.{end_of-Stmt as no_statement}
 use Rattle.tm_syntax.specs.declared.tree.Stmt.{more_of-Stmt as statement}
 use Rattle.tm_syntax.specs.declared.tree.AssignmentTarget.{Name as To}
 use Rattle.tm_syntax.specs.Code.{macro_head}
@@ -14,7 +15,7 @@ use Rattle.tm_syntax.specs.Loops.{Numbers, passes, within_loop, past, pasts, Fou
 use Rattle.tm_meaning.specs.World.{World, answered, tick, pop, depth, emitted, escape_for, with_escape, captured_text}
 use Rattle.tm_meaning.specs.World.{plain_scope}
 use Rattle.tm_meaning.specs.Calls.{Callee}
-use Rattle.tm_meaning.specs.Meaning.{again_in, turn_of, Run, Outcome, Under, use_it, say, block_tag, eval, loop_items, assign}
+use Rattle.tm_meaning.specs.Meaning.{again_in, turn_of, Run, Outcome, Under, use_it, say, eval, loop_items, assign}
 use Rattle.tm_meaning.specs.Operators.{truth}
 use Rattle.tm_meaning.specs.Meaning.{set_to, set_each, capturing, loop_over, has_none, exec_behind_loop, emit, filtered, use_text}
 use Rattle.tm_meaning.specs.Meaning.{behind_first, exec, exec_all, exec_else, declared, take_parameters, macro_body, call, with_caller}
@@ -23,41 +24,39 @@ use Rattle.tm_simulation.proofs.Advances.{kept_same, within, advances_within, ke
 use Rattle.tm_simulation.proofs.Gives.{OutcomeKeeps, RunEnds, tick_gives, ends_here, ends_refused, ends_then, ends_use}
 use Rattle.tm_simulation.proofs.Gives.{ends_do, ends_leave, ends_next, choose_ends, ends_kept, ends_within, closing_ends, captured_ends}
 use Rattle.tm_simulation.proofs.Gives.{loop_ends}
-use Rattle.tm_simulation.proofs.Asks.{emitted_gives, escape_gives, block_asks, innermost_asks}
-use Rattle.tm_simulation.proofs.Evaluates.{place_ends, loop_items_give, assign_gives, filtered_gives, set_each_gives, set_gives}
+use Rattle.tm_simulation.proofs.Asks.{emitted_gives, escape_gives, super_asks, innermost_asks}
+use Rattle.tm_simulation.proofs.Loads.{load_does, waits_ends}
+use Rattle.tm_meaning.specs.declared.stream.TemplateId.{TemplateId}
+use Rattle.tm_simulation.proofs.Evaluates.{place_ends, tag_ends, loop_items_give, assign_gives, filtered_gives, set_each_gives, set_gives}
 use Rattle.tm_simulation.proofs.Evaluates.{eval_gives, truth_gives}
 use Rattle.tm_simulation.proofs.Declares.{declared_gives, caller_gives, call_gives, take_parameters_give}
 
 -- ---------------------------------------------------------------- statements
 module _ (u : Under) (nest_ends : (k : Callee) (heard : Bool) (out : List ℕ) (w : World) → RunEnds u.host w (u.nests k heard out w))
     (again_ends : (n : ℕ) (items : List Val) (run : Run) (out : List ℕ) (w : World) →
-    OutcomeKeeps u.host w (u.again n items run out w)) where
-  emit_ends : (run : Run) (out : List ℕ) (v : Val) (w : World) → OutcomeKeeps u.host w (emit u run out v w)
+    OutcomeKeeps u.host run.parent w (u.again n items run out w)) where
+  emit_ends : (run : Run) (out : List ℕ) (v : Val) (w : World) → OutcomeKeeps u.host run.parent w (emit u run out v w)
   emit_ends run out v w =
       ends_use u.host w (tick w) run out _ (tick_gives u.host w) (λ _ world1. ends_use u.host world1 (emitted u.host v world1) run out _
       (emitted_gives u.host v world1)
       (λ t world2. ends_here u.host world2 world2 run (say run t out) (kept_same world2)))
 
-  behind_first_ends : (other : Otherwise) (run : Run) (w : World) (o : Outcome) → OutcomeKeeps u.host w o →
-      OutcomeKeeps u.host w (behind_first other run o)
+  behind_first_ends : {q : Option TemplateId} (other : Otherwise) (run : Run) (w : World) (o : Outcome) → OutcomeKeeps u.host q w o →
+      OutcomeKeeps u.host q w (behind_first other run o)
   behind_first_ends no_else run w o h = h
   behind_first_ends (otherwise _ body) run w o h =
       ends_do u.host w run o _ h (λ run1 out1 world1. ends_use u.host world1 (tick world1) run1 out1 _ (tick_gives u.host world1)
       (λ _ world2. ends_here u.host world2 world2 run1 out1 (kept_same world2)))
 
-  tag_ends : (run : Run) (b : List ℕ) (out : List ℕ) (w : World) → OutcomeKeeps u.host w (block_tag u run b out w)
-  tag_ends run b out w = choose_ends u.host w _ _ _ (place_ends u nest_ends again_ends w run out _ (block_asks u.host b w))
-      (ends_here u.host w w run out (kept_same w))
-
   use_ends : (run : Run) (becomes : CaptureUse) (v : Val) (out : List ℕ) (w : World) →
-      OutcomeKeeps u.host w (use_text u run becomes v out w)
+      OutcomeKeeps u.host run.parent w (use_text u run becomes v out w)
   use_ends run uses.Emit v out w = emit_ends run out v w
   use_ends run (uses.Assign t) v out w =
       ends_use u.host w (assign u run t v w) run out _ (assign_gives u nest_ends again_ends run t v w)
       (λ _ world1. ends_here u.host world1 world1 run out (kept_same world1))
 
   mutual
-    pub exec_ends : (at : Numbers) (s : Stmt) (run : Run) (out : List ℕ) (w : World) → OutcomeKeeps u.host w (exec u at s run out w)
+    pub exec_ends : (at : Numbers) (s : Stmt) (run : Run) (out : List ℕ) (w : World) → OutcomeKeeps u.host run.parent w (exec u at s run out w)
     exec_ends at (EmitRaw t) run out w = ends_use u.host w (tick w) run out _ (tick_gives u.host w)
         (λ _ world1. ends_here u.host world1 world1 run (say run t out) (kept_same world1))
     exec_ends at (EmitExpr e) run out w = ends_use u.host w (eval u run e w) run out _ (eval_gives u nest_ends again_ends run e w)
@@ -72,8 +71,15 @@ module _ (u : Under) (nest_ends : (k : Callee) (heard : Bool) (out : List ℕ) (
         ends_use u.host world2 (truth u.host v world2) run out _ (truth_gives u.host v world2) (λ b world3.
         choose_ends u.host world3 b _ _ (behind_first_ends other run world3 _ (execs_end at body run out world3))
         (else_ends (pasts at body) other run out world3))))
-    exec_ends at (Block' b _ body) run out w = ends_use u.host w (tick w) run out _ (tick_gives u.host w)
-        (λ _ world1. tag_ends run b out world1)
+    exec_ends at (EmitBlock b) run out w = ends_use u.host w (tick w) run out _ (tick_gives u.host w)
+        (λ _ world1. tag_ends u nest_ends again_ends run b out world1)
+    exec_ends at EmitSuper run out w = ends_use u.host w (tick w) run out _ (tick_gives u.host w)
+        (λ _ world1. place_ends u nest_ends again_ends world1 run out _ (super_asks u.host world1))
+    exec_ends at (Extends e) run out w =
+        ends_use u.host w (eval u run e w) run out _ (eval_gives u nest_ends again_ends run e w) (λ v world1.
+        waits_ends u.host world1 run out _ (load_does u.host v run.parent run.inside world1))
+    exec_ends at (Block' b required _ body) run out w = ends_use u.host w (tick w) run out _ (tick_gives u.host w)
+        (λ _ world1. tag_ends u nest_ends again_ends run b out world1)
     exec_ends at (Set t e) run out w = ends_use u.host w (set_to u run t e w) run out _ (set_gives u nest_ends again_ends run t e w)
         (λ _ world1. ends_here u.host world1 world1 run out (kept_same world1))
     exec_ends at (With' given _ body) run out w =
@@ -81,7 +87,7 @@ module _ (u : Under) (nest_ends : (k : Callee) (heard : Bool) (out : List ℕ) (
         ends_within u.host w s (nat_lt (depth w.scopes) u.host.limit) run out _
         (ends_kept u.host w (within s w) (set_each u run given (within s w)) run out _ (advances_within s w)
         (set_each_gives u nest_ends again_ends run given (within s w)) (λ _ world2 k.
-        closing_ends u.host w (within s w) pop (advances_within s w) (kept_popped s w) (exec_all u at body run out world2)
+        closing_ends u.host w (within s w) pop (advances_within s w) (kept_popped s w) (λ x. refl) (exec_all u at body run out world2)
         (ends_then u.host (within s w) world2 (exec_all u at body run out world2) k (execs_end at body run out world2))))
     exec_ends at (For' t e c recursive _ body other) run out w =
         ends_use u.host w (loop_items u at.loops run t e c w) run out _ (loop_items_give u nest_ends again_ends at.loops run t e c w)
@@ -108,7 +114,7 @@ module _ (u : Under) (nest_ends : (k : Callee) (heard : Bool) (out : List ℕ) (
         ends_use u.host world1 (answered (escape_for run.first v) world1) run out _
         (escape_gives u.host run.first v world1) (λ x world2.
         closing_ends u.host world2 (with_escape x world2) (with_escape world2.escape) (advances_escaped x world2) (kept_unescaped x world2)
-        (exec_all u at body run out (with_escape x world2)) (execs_end at body run out (with_escape x world2))))
+        (λ y. refl) (exec_all u at body run out (with_escape x world2)) (execs_end at body run out (with_escape x world2))))
     exec_ends at (Do e) run out w = ends_use u.host w (eval u run e w) run out _ (eval_gives u nest_ends again_ends run e w)
         (λ _ world1. ends_here u.host world1 world1 run out (kept_same world1))
     exec_ends at (Macro' x ps _ body) run out w =
@@ -123,17 +129,17 @@ module _ (u : Under) (nest_ends : (k : Callee) (heard : Bool) (out : List ℕ) (
         (λ v world1. emit_ends run out v world1)
 
     pub execs_end : {n : _} → (at : Numbers) (ss : Row_of-Stmt n) (run : Run) (out : List ℕ) (w : World) →
-        OutcomeKeeps u.host w (exec_all u at ss run out w)
+        OutcomeKeeps u.host run.parent w (exec_all u at ss run out w)
     execs_end at no_statement run out w = ends_here u.host w w run out (kept_same w)
     execs_end at (statement s ss) run out w = ends_do u.host w run (exec u at s run out w) _ (exec_ends at s run out w)
         (λ run1 out1 world1. execs_end (past at s) ss run1 out1 world1)
 
-    else_ends : (at : Numbers) (other : Otherwise) (run : Run) (out : List ℕ) (w : World) → OutcomeKeeps u.host w (exec_else u at other run out w)
+    else_ends : (at : Numbers) (other : Otherwise) (run : Run) (out : List ℕ) (w : World) → OutcomeKeeps u.host run.parent w (exec_else u at other run out w)
     else_ends at no_else run out w = ends_here u.host w w run out (kept_same w)
     else_ends at (otherwise _ body) run out w = execs_end at body run out w
 
     pub behind_loop_ends : (at : Numbers) (other : Otherwise) (none_taken : Bool) (run : Run) (out : List ℕ) (w : World) →
-        OutcomeKeeps u.host w (exec_behind_loop u at other none_taken run out w)
+        OutcomeKeeps u.host run.parent w (exec_behind_loop u at other none_taken run out w)
     behind_loop_ends at no_else none_taken run out w = ends_here u.host w w run out (kept_same w)
     behind_loop_ends at (otherwise _ body) none_taken run out w =
         ends_use u.host w (tick w) run out _ (tick_gives u.host w)
@@ -142,7 +148,7 @@ module _ (u : Under) (nest_ends : (k : Callee) (heard : Bool) (out : List ℕ) (
 
   -- a macro's body
   pub body_ends : (m : FoundMacro) (given : List Val) (run : Run) (out : List ℕ) (w : World) →
-      OutcomeKeeps u.host w (macro_body u m given run out w)
+      OutcomeKeeps u.host run.parent w (macro_body u m given run out w)
   body_ends m given run out w =
       ends_use u.host w (take_parameters u run m.parameters given w) run out _
       (take_parameters_give u nest_ends again_ends run m.parameters given w)
@@ -150,7 +156,7 @@ module _ (u : Under) (nest_ends : (k : Callee) (heard : Bool) (out : List ℕ) (
 
   -- a loop that is called
   pub called_end : (l : Option FoundLoop) (n : ℕ) (items : List Val) (run : Run) (out : List ℕ) (w : World) →
-      OutcomeKeeps u.host w (again_in u l n items run out w)
+      OutcomeKeeps u.host run.parent w (again_in u l n items run out w)
   called_end None n items run out w = ends_refused u.host w run out InvalidOperation refl
   called_end (Some l) n items run out w =
       choose_ends u.host w l.recursive _ _

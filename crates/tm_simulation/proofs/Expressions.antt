@@ -4,7 +4,7 @@ use Rattle.std.proofs.Common.{false, refl, sym, subst, arith, length-append}
 use Rattle.std.specs.Prelude.{slice_get}
 use Rattle.tm_values.specs.Val.{Val, text}
 use Rattle.tm_syntax.specs.declared.tree.BinaryOperator.{BinaryOperator}
-use Rattle.tm_syntax.specs.declared.tree.Expr.{Expr, Var, Const, List', Tuple', Map', Call', Row_of-Expr, end_of-Expr as no_expr}
+use Rattle.tm_syntax.specs.declared.tree.Expr.{Expr, Var, Const, List', Tuple', Map', Call', SelfBlock, Row_of-Expr, end_of-Expr as no_expr}
 use Rattle.tm_syntax.specs.declared.tree.Expr.{more_of-Expr as expr, Row_of-Pair, end_of-Pair as no_pair}
 use Rattle.tm_syntax.specs.declared.tree.Expr.{Row_of-Argument, end_of-Argument as no_argument, more_of-Argument as argument}
 use Rattle.tm_syntax.specs.declared.tree.Expr.{Row_of-Keyword, end_of-Keyword as no_keyword, more_of-Keyword as keyword_and, Row_of-Step}
@@ -53,6 +53,7 @@ use Rattle.tm_simulation.proofs.Operands.{all_long, arguments_long, bind_long, f
 use Rattle.tm_simulation.proofs.Operands.{lists_long, mapped_long, named_long}
 use Rattle.tm_simulation.proofs.Operands.{onto_both, paired_flat, pairs_long}
 use Rattle.tm_simulation.proofs.Levels.{Setting, Here, here_kept, meaning, nest_ends}
+use Rattle.tm_simulation.proofs.BlockTags.{self_then}
 use Rattle.tm_simulation.proofs.Arguments.{unary_then, binary_then, passed_then, calls, built_then, listed_then, mapped_then}
 use Rattle.tm_simulation.proofs.Arguments.{dropped_then, In, InWhere, Runs, Pushes, Long, RowRuns, row_runs, named_runs, passing_runs}
 use Rattle.tm_simulation.proofs.Arguments.{condition_runs}
@@ -103,6 +104,7 @@ module _ (setting : Setting) where
         (bind_then context (told s) world1 (tick world1) _ _ _ (tick_gives _ world1) h1 (λ _ world2 k2 h2.
         built_then setting (λ vs. map_of_pairs (paired vs)) s pc1 (n + n) (flat xs) stack world2 (flat_long n xs m)
         (subst (λ ys. Go context s (pc1 + 1) (map_of_pairs ys ∷ stack) world2) (sym (paired_flat xs)) h2))))))
+    expr_runs (SelfBlock b) run s l pc stack w d is h = self_then setting run s pc b stack w d is h
     expr_runs (Call' g _ given _ named) run s l pc stack w d is h =
         let maps : World → Res (List Val) = λ world1. eval_keywords u run mapped [] named world1 in
         let maps_give : Given context.program.host maps = λ world1. keywords_give u (nest_ends setting) again_kept run mapped (mapped_gives context.program.host) [] named world1 in

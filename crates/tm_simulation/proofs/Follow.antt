@@ -10,7 +10,7 @@ use Rattle.tm_meaning.specs.World.{choose, World, HostValue, Scope, Res, Good, B
 use Rattle.tm_meaning.specs.Meaning.{Run, Outcome, Ending, done, leave, next, fault, ended, so_far, use_it, then_do, closing_by, closing}
 use Rattle.tm_meaning.specs.Meaning.{captured_by, captured, round_end}
 use Rattle.tm_simulation.proofs.Advances.{Kept, within, one_more, mark_behind, recorded, opened}
-use Rattle.tm_simulation.proofs.Gives.{Gives, EndingKeeps, OutcomeKeeps}
+use Rattle.tm_simulation.proofs.Gives.{Gives, EndingKeeps, OutcomeKeeps, ends_as}
 use Rattle.tm_meaning.specs.Machine.{Capture, Activation, Config, Failed, Next, More, Program, after, goes}
 use Rattle.tm_meaning.specs.Steps.{act, step, Final, final, Leads, over, more}
 use Rattle.tm_meaning.specs.declared.stream.TemplateId.{TemplateId}
@@ -145,10 +145,9 @@ fault_then context b run out w chain D L N h = h
 abbrev pub whole_of : Ending → Option TemplateId → List ℕ → World → Outcome
 whole_of e parent out w = record { ending = e; parent = parent; text = out; world = w }
 
-kept_by : (host : HostValue) (w : World) (e : Ending) (parent : Option TemplateId) (out : List ℕ) (world1 : World) →
-    OutcomeKeeps host w (whole_of e parent out world1) → EndingKeeps host w e world1
-unfolding OutcomeKeeps
-kept_by host w e parent out world1 h = h
+kept_by : (host : HostValue) {q : Option TemplateId} (w : World) (e : Ending) (parent : Option TemplateId) (out : List ℕ)
+    (world1 : World) → OutcomeKeeps host q w (whole_of e parent out world1) → EndingKeeps host w e world1
+kept_by host w e parent out world1 h = ends_as host w (whole_of e parent out world1) h
 
 do_by : (context : RunContext) (b : Bed) (run : Run) (w : World) (e : Ending) (parent : Option TemplateId) (out : List ℕ) (world1 : World)
     (g : Run → List ℕ → World → Outcome) (D L N : Then) (K : Then) → EndingKeeps context.program.host w e world1 →
@@ -161,8 +160,8 @@ do_by context b run w leave parent out world1 g D L N K e h k = h
 do_by context b run w next parent out world1 g D L N K e h k = h
 do_by context b run w (fault chain) parent out world1 g D L N K e h k = h
 
-pub do_then : (context : RunContext) (b : Bed) (run : Run) (w : World) (o : Outcome) (g : Run → List ℕ → World → Outcome) (D L N : Then)
-    (K : Then) → OutcomeKeeps context.program.host w o →
+pub do_then : (context : RunContext) {q : Option TemplateId} (b : Bed) (run : Run) (w : World) (o : Outcome) (g : Run → List ℕ → World → Outcome) (D L N : Then)
+    (K : Then) → OutcomeKeeps context.program.host q w o →
     Ends context b (then_do run o g) D L N → ((parent : Option TemplateId) (out : List ℕ) (world1 : World) → Kept w world1 →
     Ends context b (g (record run { parent = parent }) out world1) D L N → K parent out world1) → Ends context b o K L N
 do_then context b run w o g D L N K e h k =
@@ -193,8 +192,8 @@ closed_then_by context b w close leave parent out world1 D L N K e h k = h
 closed_then_by context b w close next parent out world1 D L N K e h k = h
 closed_then_by context b w close (fault chain) parent out world1 D L N K e h k = h
 
-pub closed_then : (context : RunContext) (b : Bed) (w : World) (close : World → World) (o : Outcome) (D L N K : Then) →
-    OutcomeKeeps context.program.host w o → Ends context b (closing close o) D L N →
+pub closed_then : (context : RunContext) {q : Option TemplateId} (b : Bed) (w : World) (close : World → World) (o : Outcome) (D L N K : Then) →
+    OutcomeKeeps context.program.host q w o → Ends context b (closing close o) D L N →
     ((parent : Option TemplateId) (out : List ℕ) (world1 : World) → Kept w world1 → Closed close D parent out world1 →
     K parent out world1) →
     Ends context b o K (Closed close L) (Closed close N)
@@ -237,8 +236,8 @@ captured_then_by context b run out w f next parent x world1 D L N K e h k = skip
     world1 (tick world1) D L N h
 captured_then_by context b run out w f (fault chain) parent x world1 D L N K e h k = h
 
-pub captured_then : (context : RunContext) (b : Bed) (run : Run) (out : List ℕ) (w : World) (o : Outcome)
-    (f : Run → List ℕ → World → Outcome) (D L N K : Then) → OutcomeKeeps context.program.host w o →
+pub captured_then : (context : RunContext) {q : Option TemplateId} (b : Bed) (run : Run) (out : List ℕ) (w : World) (o : Outcome)
+    (f : Run → List ℕ → World → Outcome) (D L N K : Then) → OutcomeKeeps context.program.host q w o →
     Ends context b (captured o run out f) D L N →
     ((parent : Option TemplateId) (x : List ℕ) (world1 : World) → Kept w world1 →
     Ends context b (f (record run { parent = parent }) x world1) D L N → K parent x world1) →
@@ -271,7 +270,7 @@ ends_by_map_kept context b w leave parent out world1 D K L N e h k = h
 ends_by_map_kept context b w next parent out world1 D K L N e h k = h
 ends_by_map_kept context b w (fault chain) parent out world1 D K L N e h k = h
 
-pub ends_map_kept : (context : RunContext) (b : Bed) (w : World) (o : Outcome) (D K L N : Then) → OutcomeKeeps context.program.host w o →
+pub ends_map_kept : (context : RunContext) {q : Option TemplateId} (b : Bed) (w : World) (o : Outcome) (D K L N : Then) → OutcomeKeeps context.program.host q w o →
     Ends context b o D L N →
     ((parent : Option TemplateId) (out : List ℕ) (world1 : World) → Kept w world1 → D parent out world1 → K parent out world1) →
     Ends context b o K L N

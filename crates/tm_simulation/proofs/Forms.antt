@@ -1,6 +1,6 @@
 -- What is written, and runs that are nested, in place and as a value.
 use Rattle.std.proofs.Common.{◌≡◌, ℕ, suc, ◌+◌, ◌<◌, ◌≤◌, ◌⊎◌, inl, inr, List, [], ◌∷◌, ◌++◌, length, nat_lt, Option, None, Some, Bool, true, false}
-use Rattle.std.proofs.Common.{refl, sym, subst, arith, lt-ltb, le-ltb}
+use Rattle.std.proofs.Common.{refl, sym, ◌∙◌, subst, arith, lt-ltb, le-ltb}
 use Rattle.tm_values.specs.Val.{Val}
 use Rattle.tm_meaning.specs.World.{choose, World}
 use Rattle.tm_meaning.specs.Calls.{Callee, NestedCall, undone, wrapped, run_value, runs}
@@ -8,7 +8,7 @@ use Rattle.tm_meaning.specs.Meaning.{Run, Outcome, Ending, done, leave, next, fa
 use Rattle.tm_meaning.specs.Meaning.{value_behind, value_of, capturing}
 use Rattle.tm_meaning.specs.Machine.{Activation, Finished, Failed, Back, More, Program, audible, put_in, put_out, writes, back_to}
 use Rattle.tm_meaning.specs.Machine.{Capture, base_of, first_run, nested, new_capture, waiting, pushed, nested_in_place, nested_as_value}
-use Rattle.tm_meaning.specs.Steps.{begun, begins, step, Final, final, Leads, over, more, nest}
+use Rattle.tm_meaning.specs.Steps.{begun, begins, Final, final, Leads, over, more, nest}
 use Rattle.tm_meaning.proofs.Ends.{one_end}
 use Rattle.tm_simulation.proofs.Follow.{RunContext, LeadsToEnd, Bed, air, inside, captured_in, captures_of, told_by, Spot, told, cfg, later}
 use Rattle.tm_simulation.proofs.Follow.{Follows, Then, Ends, whole_of, so_far_then, fault_then, Go, silent}
@@ -30,6 +30,13 @@ captures_stand f run (inside x t ks) out (inr (i, n, h)) = omega (arith, n)
 
 pub fits_captured : (f : Base) (run : Run) (b : Bed) (out : List ℕ) → Fits f run b → Fits f (capturing true run) (captured_in b out)
 fits_captured f run b out fits = inr (refl, omega (arith, captures_stand f run b out fits), refl)
+
+-- the machine is inside a capture of its run where the meaning is
+pub inside_is : (f : Base) (run : Run) (b : Bed) (out : List ℕ) → Fits f run b →
+    nat_lt f.captures (length (captures_of b out)) ≡ run.inside
+inside_is f run air out (i, n, h) = le-ltb f.captures 0 (omega arith) ∙ sym i
+inside_is f run (inside x t ks) out (inl (i, n, h)) = le-ltb f.captures (suc (length ks)) (omega (arith, n)) ∙ sym i
+inside_is f run (inside x t ks) out (inr (i, n, h)) = lt-ltb f.captures (suc (length ks)) n ∙ sym i
 
 -- How a spot of the machine and the run of a meaning stand to each other: the escape at the start, the captures that stay, and where the
 -- text goes.

@@ -1,5 +1,5 @@
 -- What results and outcomes keep, and of which kinds their faults are.
-use Rattle.std.proofs.Common.{◌≡◌, ℕ, List, [], ◌∷◌, Option, Some, None, Bool, true, false, Ok, Err, nat_lt, refl, sym, subst, arith}
+use Rattle.std.proofs.Common.{◌≡◌, ℕ, ◌+◌, ◌≤◌, List, [], ◌∷◌, Option, Some, None, Bool, true, false, Ok, Err, nat_lt, refl, sym, subst, ap, arith}
 use Rattle.tm_values.specs.Answer.{Answer}
 use Rattle.tm_values.specs.Val.{Val}
 use Rattle.tm_values.specs.declared.error.ErrorKind.{ErrorKind}
@@ -7,7 +7,9 @@ use Rattle.tm_values.specs.declared.error.ErrorKind.TheVariants.{InvalidOperatio
 use Rattle.tm_syntax.specs.declared.instruction.LoopFlags.{LoopFlags}
 use Rattle.tm_syntax.specs.Code.{for_flags}
 use Rattle.tm_meaning.specs.World.{choose, World, HostValue, Scope, loop_scope, next_turn, cleared, Res, Good, Bad, bind, answered, charged}
-use Rattle.tm_meaning.specs.World.{with_fuel, tick, pop, depth, ticked}
+use Rattle.tm_meaning.specs.World.{with_fuel, tick, pop, depth, ticked, top_mark, turned_of}
+use Rattle.tm_meaning.specs.declared.mark.LoopMark.{LoopMark}
+use Rattle.tm_meaning.specs.Inheritance.{count_left, names_left}
 use Rattle.tm_meaning.specs.Meaning.{Run, Outcome, Ending, done, leave, next, fault, use_it, then_do, so_far, ended}
 use Rattle.tm_meaning.specs.Meaning.{closing_by, closing, captured_by, captured, round_end, rounds, loop_over}
 use Rattle.tm_meaning.specs.declared.stream.TemplateId.{TemplateId}
@@ -15,7 +17,8 @@ use Rattle.tm_simulation.specs.Chains.{is_raised, Arises, raised, AnswersOnly}
 use Rattle.tm_simulation.proofs.Raised.{Raises, raised_arise}
 use Rattle.tm_simulation.proofs.Advances.{Advances, Kept, advances_then, lasts_by_fuel, advances_same, kept_same, kept_then}
 use Rattle.tm_simulation.proofs.Advances.{kept_lasting, in_stream, within, one_more, kept_popped, kept_cleared, mark_behind, in_loop_of}
-use Rattle.tm_simulation.proofs.Advances.{kept_turned}
+use Rattle.tm_simulation.proofs.Advances.{kept_turned, kept_in, names_advance}
+use Rattle.tm_meaning.specs.declared.stream.StreamId.{StreamId}
 use Rattle.tm_simulation.proofs.Advances.{advances_around, opened, opened_kept, recorded, NoMore, charged_by}
 
 -- Where evaluation gives a value the world is kept, and where it ends in a fault that advances it, by a chain that arises.
@@ -30,13 +33,40 @@ EndingKeeps host w leave world1 = Kept w world1
 EndingKeeps host w next world1 = Kept w world1
 EndingKeeps host w (fault chain) world1 = Advances w world1 × Arises host chain
 
--- sealed, so that a proof needs no outcome spelled out
-unfoldable pub OutcomeKeeps : HostValue → World → Outcome → Type 0
-OutcomeKeeps host w o = EndingKeeps host w o.ending o.world
+-- how many parents may be asked for from here on, and one more where one waits
+abbrev pub waiting : Option TemplateId → ℕ
+waiting None = 0
+waiting (Some t) = 1
 
-pub ends_as : (host : HostValue) (w : World) (o : Outcome) → OutcomeKeeps host w o → EndingKeeps host w o.ending o.world
-unfolding OutcomeKeeps
-ends_as host w o h = h
+abbrev pub parents_left : HostValue → Option TemplateId → World → ℕ
+parents_left host q w = waiting q + names_left host w
+
+-- And statements that begin where this parent waits ask for a parent only where a name fewer is left.
+pub record OutcomeKeeps (host : HostValue) (q : Option TemplateId) (w : World) (o : Outcome) : Type 0 where
+  pub keeps : EndingKeeps host w o.ending o.world
+  pub parents : parents_left host o.parent o.world ≤ parents_left host q w
+
+pub ends_as : (host : HostValue) {q : Option TemplateId} (w : World) (o : Outcome) → OutcomeKeeps host q w o →
+    EndingKeeps host w o.ending o.world
+ends_as host w o h = h.keeps
+
+pub ends_parents : (host : HostValue) {q : Option TemplateId} (w : World) (o : Outcome) → OutcomeKeeps host q w o →
+    parents_left host o.parent o.world ≤ parents_left host q w
+ends_parents host w o h = h.parents
+
+-- by its parts
+pub ends_from : (host : HostValue) {q : Option TemplateId} (w : World) (o : Outcome) → EndingKeeps host w o.ending o.world →
+    parents_left host o.parent o.world ≤ parents_left host q w → OutcomeKeeps host q w o
+ends_from host w o h p = record { keeps = h; parents = p }
+
+-- no more are left behind what keeps the world
+pub parents_advance : (host : HostValue) (q : Option TemplateId) {w world1 : World} → Advances w world1 →
+    parents_left host q world1 ≤ parents_left host q w
+parents_advance host q h = omega (arith, names_advance host h)
+
+pub parents_kept : (host : HostValue) (q : Option TemplateId) {w world1 : World} → Kept w world1 →
+    parents_left host q world1 ≤ parents_left host q w
+parents_kept host q h = parents_advance host q h.advances
 
 pub ends_advance : (host : HostValue) (w : World) (e : Ending) (world1 : World) → EndingKeeps host w e world1 → Advances w world1
 ends_advance host w done world1 h = h.advances
@@ -53,13 +83,41 @@ pub run_ends_as : (host : HostValue) (w : World) (o : Outcome) → RunEnds host 
 unfolding RunEnds
 run_ends_as host w o h = h
 
-run_ends_by : (host : HostValue) (w : World) (o : Outcome) → EndingKeeps host w o.ending o.world → RunEnds host w o
+pub run_ends_by : (host : HostValue) (w : World) (o : Outcome) → EndingKeeps host w o.ending o.world → RunEnds host w o
 unfolding RunEnds
 run_ends_by host w o h =
     subst (λ s. EndingKeeps host (in_stream s w) o.ending o.world) (sym (ends_advance host w o.ending o.world h).same_stream) h
 
-pub run_ends : (host : HostValue) (w : World) (o : Outcome) → OutcomeKeeps host w o → RunEnds host w o
+pub run_ends : (host : HostValue) {q : Option TemplateId} (w : World) (o : Outcome) → OutcomeKeeps host q w o → RunEnds host w o
 run_ends host w o h = run_ends_by host w o (ends_as host w o h)
+
+pub run_ends_from : (host : HostValue) (w : World) (o : Outcome) → EndingKeeps host (in_stream o.world.stream w) o.ending o.world →
+    RunEnds host w o
+unfolding RunEnds
+run_ends_from host w o h = h
+
+behind_kept : (host : HostValue) (w v : World) (e : Ending) (world1 : World) → Kept w v → EndingKeeps host v e world1 →
+    EndingKeeps host w e world1
+behind_kept host w v done world1 h k = kept_then h k
+behind_kept host w v leave world1 h k = kept_then h k
+behind_kept host w v next world1 h k = kept_then h k
+behind_kept host w v (fault chain) world1 h k = (advances_then h.advances k.0, k.1)
+
+-- and behind another one, in whichever stream it begins
+pub run_ends_behind : (host : HostValue) (w v : World) (s : StreamId) (o : Outcome) → Kept w v → RunEnds host (in_stream s v) o →
+    RunEnds host w o
+run_ends_behind host w v s o h k =
+    let there = o.world.stream in
+    run_ends_from host w o (behind_kept host (in_stream there w) (in_stream there v) o.ending o.world (kept_in there h)
+    (run_ends_as host (in_stream s v) o k))
+
+-- asking a loop for its next item loads nothing
+turned_loaded : (o : Option LoopMark) (w : World) → (turned_of o w).loaded ≡ w.loaded
+turned_loaded None w = refl
+turned_loaded (Some m) w = refl
+
+next_names : (host : HostValue) (w : World) → names_left host (next_turn w) ≡ names_left host w
+next_names host w = ap (count_left host.templates) (turned_loaded (top_mark w.scopes.frames) w)
 
 -- ---------------------------------------------------------------- results
 module _ (host : HostValue) where
@@ -113,156 +171,183 @@ module _ (host : HostValue) where
   ends_by_then w world1 next world2 h k = kept_then h k
   ends_by_then w world1 (fault chain) world2 h k = (advances_then h.advances k.0, k.1)
 
-  pub ends_here : (w world1 : World) (run : Run) (out : List ℕ) → Kept w world1 → OutcomeKeeps host w (so_far run out world1)
-  unfolding OutcomeKeeps
-  ends_here w world1 run out h = h
+  pub ends_here : (w world1 : World) (run : Run) (out : List ℕ) → Kept w world1 → OutcomeKeeps host run.parent w (so_far run out world1)
+  ends_here w world1 run out h = ends_from host w (so_far run out world1) h (parents_kept host run.parent h)
 
   pub ends_fault : (w world1 : World) (run : Run) (out : List ℕ) (chain : List ErrorKind) → Advances w world1 → Arises host chain →
-      OutcomeKeeps host w (ended (fault chain) run out world1)
-  unfolding OutcomeKeeps
-  ends_fault w world1 run out chain h a = (h, a)
+      OutcomeKeeps host run.parent w (ended (fault chain) run out world1)
+  ends_fault w world1 run out chain h a =
+      ends_from host w (ended (fault chain) run out world1) (h, a) (parents_advance host run.parent h)
 
   pub ends_refused : (w : World) (run : Run) (out : List ℕ) (kind : ErrorKind) → is_raised kind ≡ true →
-      OutcomeKeeps host w (ended (fault (kind ∷ [])) run out w)
+      OutcomeKeeps host run.parent w (ended (fault (kind ∷ [])) run out w)
   ends_refused w run out kind e = ends_fault w w run out (kind ∷ []) (advances_same w) (raised e)
 
-  pub ends_then : (w world1 : World) (o : Outcome) → Kept w world1 → OutcomeKeeps host world1 o → OutcomeKeeps host w o
-  unfolding OutcomeKeeps
-  ends_then w world1 o h k = ends_by_then w world1 o.ending o.world h k
+  -- behind what keeps the world and leaves as many parents
+  pub ends_after : {q q1 : Option TemplateId} (w world1 : World) (o : Outcome) → Kept w world1 →
+      parents_left host q1 world1 ≤ parents_left host q w → OutcomeKeeps host q1 world1 o → OutcomeKeeps host q w o
+  ends_after w world1 o h p k =
+      ends_from host w o (ends_by_then w world1 o.ending o.world h (ends_as host world1 o k)) (omega (arith, p, ends_parents host world1 o k))
+
+  pub ends_then : {q : Option TemplateId} (w world1 : World) (o : Outcome) → Kept w world1 → OutcomeKeeps host q world1 o →
+      OutcomeKeeps host q w o
+  ends_then {q = q} w world1 o h k = ends_after w world1 o h (parents_kept host q h) k
 
   pub ends_use : {A : Type 0} (w : World) (m : Res A) (run : Run) (out : List ℕ) (g : A → World → Outcome) → Gives host w m →
-      ((a : A) (world1 : World) → OutcomeKeeps host world1 (g a world1)) → OutcomeKeeps host w (use_it m run out g)
+      ((a : A) (world1 : World) → OutcomeKeeps host run.parent world1 (g a world1)) → OutcomeKeeps host run.parent w (use_it m run out g)
   ends_use w (Good a world1) run out g h k = ends_then w world1 (g a world1) h (k a world1)
   ends_use w (Bad chain world1) run out g h k = ends_fault w world1 run out chain h.0 h.1
 
-  ends_on_done : (w : World) (run : Run) (e : Ending) (parent : Option TemplateId) (out : List ℕ) (world1 : World)
-      (g : Run → List ℕ → World → Outcome) → EndingKeeps host w e world1 →
-      ((run1 : Run) (out1 : List ℕ) (world2 : World) → OutcomeKeeps host world2 (g run1 out1 world2)) →
-      OutcomeKeeps host w (then_do run (record { ending = e; parent = parent; text = out; world = world1 }) g)
-  unfolding OutcomeKeeps
-  ends_on_done w run done parent out world1 g h k =
-      ends_then w world1 (g (record run { parent = parent }) out world1) h (k (record run { parent = parent }) out world1)
-  ends_on_done w run leave parent out world1 g h k = h
-  ends_on_done w run next parent out world1 g h k = h
-  ends_on_done w run (fault chain) parent out world1 g h k = h
+  ends_on_done : {q : Option TemplateId} (w : World) (run : Run) (e : Ending) (parent : Option TemplateId) (out : List ℕ) (world1 : World)
+      (g : Run → List ℕ → World → Outcome) → EndingKeeps host w e world1 → parents_left host parent world1 ≤ parents_left host q w →
+      ((run1 : Run) (out1 : List ℕ) (world2 : World) → OutcomeKeeps host run1.parent world2 (g run1 out1 world2)) →
+      OutcomeKeeps host q w (then_do run (record { ending = e; parent = parent; text = out; world = world1 }) g)
+  ends_on_done w run done parent out world1 g h p k =
+      ends_after w world1 (g (record run { parent = parent }) out world1) h p (k (record run { parent = parent }) out world1)
+  ends_on_done w run leave parent out world1 g h p k = ends_from host w _ h p
+  ends_on_done w run next parent out world1 g h p k = ends_from host w _ h p
+  ends_on_done w run (fault chain) parent out world1 g h p k = ends_from host w _ h p
 
-  pub ends_do : (w : World) (run : Run) (o : Outcome) (g : Run → List ℕ → World → Outcome) → OutcomeKeeps host w o →
-      ((run1 : Run) (out1 : List ℕ) (world2 : World) → OutcomeKeeps host world2 (g run1 out1 world2)) →
-      OutcomeKeeps host w (then_do run o g)
-  unfolding OutcomeKeeps
-  ends_do w run o g h k = ends_on_done w run o.ending o.parent o.text o.world g h k
+  pub ends_do : {q : Option TemplateId} (w : World) (run : Run) (o : Outcome) (g : Run → List ℕ → World → Outcome) →
+      OutcomeKeeps host q w o →
+      ((run1 : Run) (out1 : List ℕ) (world2 : World) → OutcomeKeeps host run1.parent world2 (g run1 out1 world2)) →
+      OutcomeKeeps host q w (then_do run o g)
+  ends_do w run o g h k =
+      ends_on_done w run o.ending o.parent o.text o.world g (ends_as host w o h) (ends_parents host w o h) k
 
-  pub ends_leave : (w : World) (run : Run) (out : List ℕ) → OutcomeKeeps host w (ended leave run out w)
-  unfolding OutcomeKeeps
-  ends_leave w run out = kept_same w
+  pub ends_leave : (w : World) (run : Run) (out : List ℕ) → OutcomeKeeps host run.parent w (ended leave run out w)
+  ends_leave w run out = ends_from host w (ended leave run out w) (kept_same w) (omega arith)
 
-  pub ends_next : (w : World) (run : Run) (out : List ℕ) → OutcomeKeeps host w (ended next run out w)
-  unfolding OutcomeKeeps
-  ends_next w run out = kept_same w
+  pub ends_next : (w : World) (run : Run) (out : List ℕ) → OutcomeKeeps host run.parent w (ended next run out w)
+  ends_next w run out = ends_from host w (ended next run out w) (kept_same w) (omega arith)
 
-  pub choose_ends : (w : World) (b : Bool) (o q : Outcome) → OutcomeKeeps host w o → OutcomeKeeps host w q →
-      OutcomeKeeps host w (choose b (λ _. o) (λ _. q))
-  choose_ends w true o q h k = h
-  choose_ends w false o q h k = k
+  pub choose_ends : {q : Option TemplateId} (w : World) (b : Bool) (o p : Outcome) → OutcomeKeeps host q w o → OutcomeKeeps host q w p →
+      OutcomeKeeps host q w (choose b (λ _. o) (λ _. p))
+  choose_ends w true o p h k = h
+  choose_ends w false o p h k = k
 
   -- what follows from what is kept
+  ends_kept_at : {A : Type 0} {q : Option TemplateId} (w world1 : World) (m : Res A) (run : Run) (out : List ℕ)
+      (g : A → World → Outcome) → Advances w world1 → parents_left host run.parent world1 ≤ parents_left host q w →
+      Gives host world1 m → ((a : A) (world2 : World) → Kept world1 world2 → OutcomeKeeps host q w (g a world2)) →
+      OutcomeKeeps host q w (use_it m run out g)
+  ends_kept_at w world1 (Good a world2) run out g l p h k = k a world2 h
+  ends_kept_at w world1 (Bad chain world2) run out g l p h k =
+      ends_from host w (ended (fault chain) run out world2) (advances_then l h.0, h.1)
+      (omega (arith, p, parents_advance host run.parent h.0))
+
   pub ends_kept : {A : Type 0} (w world1 : World) (m : Res A) (run : Run) (out : List ℕ) (g : A → World → Outcome) →
-      Advances w world1 → Gives host world1 m → ((a : A) (world2 : World) → Kept world1 world2 → OutcomeKeeps host w (g a world2)) →
-      OutcomeKeeps host w (use_it m run out g)
-  ends_kept w world1 (Good a world2) run out g l h k = k a world2 h
-  ends_kept w world1 (Bad chain world2) run out g l h k = ends_fault w world2 run out chain (advances_then l h.0) h.1
+      Advances w world1 → Gives host world1 m →
+      ((a : A) (world2 : World) → Kept world1 world2 → OutcomeKeeps host run.parent w (g a world2)) →
+      OutcomeKeeps host run.parent w (use_it m run out g)
+  ends_kept w world1 m run out g l h k = ends_kept_at w world1 m run out g l (parents_advance host run.parent l) h k
 
   -- in a scope more, where there is room for it
   pub ends_within : (w : World) (s : Scope) (room : Bool) (run : Run) (out : List ℕ) (g : Unit {0} → World → Outcome) →
-      OutcomeKeeps host w (g tt (within s w)) → OutcomeKeeps host w (use_it (one_more room s w) run out g)
+      OutcomeKeeps host run.parent w (g tt (within s w)) → OutcomeKeeps host run.parent w (use_it (one_more room s w) run out g)
   ends_within w s true run out g h = h
   ends_within w s false run out g h = ends_refused w run out InvalidOperation refl
 
   -- and behind it, whatever the ending
-  closing_by_ends : (w v : World) (close : World → World) → Advances w v → ((x : World) → Kept v x → Kept w (close x)) →
-      (e : Ending) (parent : Option TemplateId) (out : List ℕ) (world1 : World) → EndingKeeps host v e world1 →
-      OutcomeKeeps host w (closing_by e close (record { ending = e; parent = parent; text = out; world = world1 }))
-  unfolding OutcomeKeeps
-  closing_by_ends w v close l k done parent out world1 h = k world1 h
-  closing_by_ends w v close l k leave parent out world1 h = k world1 h
-  closing_by_ends w v close l k next parent out world1 h = k world1 h
-  closing_by_ends w v close l k (fault chain) parent out world1 h = (advances_then l h.0, h.1)
+  closed_parents : (q : Option TemplateId) (w v : World) (close : World → World) → Advances w v →
+      ((x : World) → (close x).loaded ≡ x.loaded) → (parent : Option TemplateId) (world1 : World) →
+      parents_left host parent world1 ≤ parents_left host q v → parents_left host parent (close world1) ≤ parents_left host q w
+  closed_parents q w v close l same parent world1 p =
+      let left : names_left host (close world1) ≡ names_left host world1 = ap (count_left host.templates) (same world1) in
+      omega (arith, p, parents_advance host q l, left)
 
-  pub closing_ends : (w v : World) (close : World → World) → Advances w v → ((x : World) → Kept v x → Kept w (close x)) →
-      (o : Outcome) → OutcomeKeeps host v o → OutcomeKeeps host w (closing close o)
-  unfolding OutcomeKeeps
-  closing_ends w v close l k o h = closing_by_ends w v close l k o.ending o.parent o.text o.world h
+  closing_by_ends : {q : Option TemplateId} (w v : World) (close : World → World) → Advances w v →
+      ((x : World) → Kept v x → Kept w (close x)) → ((x : World) → (close x).loaded ≡ x.loaded) →
+      (e : Ending) (parent : Option TemplateId) (out : List ℕ) (world1 : World) → EndingKeeps host v e world1 →
+      parents_left host parent world1 ≤ parents_left host q v →
+      OutcomeKeeps host q w (closing_by e close (record { ending = e; parent = parent; text = out; world = world1 }))
+  closing_by_ends {q = q} w v close l k same (fault chain) parent out world1 h p =
+      ends_from host w _ (advances_then l h.0, h.1) (omega (arith, p, parents_advance host q l))
+  closing_by_ends {q = q} w v close l k same done parent out world1 h p =
+      ends_from host w _ (k world1 h) (closed_parents q w v close l same parent world1 p)
+  closing_by_ends {q = q} w v close l k same leave parent out world1 h p =
+      ends_from host w _ (k world1 h) (closed_parents q w v close l same parent world1 p)
+  closing_by_ends {q = q} w v close l k same next parent out world1 h p =
+      ends_from host w _ (k world1 h) (closed_parents q w v close l same parent world1 p)
+
+  pub closing_ends : {q : Option TemplateId} (w v : World) (close : World → World) → Advances w v →
+      ((x : World) → Kept v x → Kept w (close x)) → ((x : World) → (close x).loaded ≡ x.loaded) →
+      (o : Outcome) → OutcomeKeeps host q v o → OutcomeKeeps host q w (closing close o)
+  closing_ends w v close l k same o h =
+      closing_by_ends w v close l k same o.ending o.parent o.text o.world (ends_as host v o h) (ends_parents host v o h)
 
   -- behind a capture
-  captured_by_ends : (w : World) (run : Run) (out : List ℕ) (f : Run → List ℕ → World → Outcome) →
-      ((run1 : Run) (x : List ℕ) (world1 : World) → OutcomeKeeps host world1 (f run1 x world1)) →
-      (e : Ending) (parent : Option TemplateId) (x : List ℕ) (world1 : World) → EndingKeeps host w e world1 →
-      OutcomeKeeps host w (captured_by e (record { ending = e; parent = parent; text = x; world = world1 }) run out f)
-  unfolding OutcomeKeeps
-  captured_by_ends w run out f k done parent x world1 h = ends_then w world1 (f run x world1) h (k run x world1)
-  captured_by_ends w run out f k leave parent x world1 h =
-      ends_kept w world1 (tick world1) run out _ h.advances (tick_gives world1) (λ _ world2 h2. kept_then h h2)
-  captured_by_ends w run out f k next parent x world1 h =
-      ends_kept w world1 (tick world1) run out _ h.advances (tick_gives world1) (λ _ world2 h2. kept_then h h2)
-  captured_by_ends w run out f k (fault chain) parent x world1 h = h
+  captured_by_ends : {q : Option TemplateId} (w : World) (run : Run) (out : List ℕ) (f : Run → List ℕ → World → Outcome) →
+      ((run1 : Run) (x : List ℕ) (world1 : World) → OutcomeKeeps host run1.parent world1 (f run1 x world1)) →
+      (e : Ending) (x : List ℕ) (world1 : World) → EndingKeeps host w e world1 →
+      parents_left host run.parent world1 ≤ parents_left host q w →
+      OutcomeKeeps host q w (captured_by e (record { ending = e; parent = run.parent; text = x; world = world1 }) run out f)
+  captured_by_ends w run out f k done x world1 h p = ends_after w world1 (f run x world1) h p (k run x world1)
+  captured_by_ends w run out f k leave x world1 h p =
+      ends_kept_at w world1 (tick world1) run out _ h.advances p (tick_gives world1)
+      (λ _ world2 h2. ends_from host w _ (kept_then h h2) (omega (arith, p, parents_kept host run.parent h2)))
+  captured_by_ends w run out f k next x world1 h p =
+      ends_kept_at w world1 (tick world1) run out _ h.advances p (tick_gives world1)
+      (λ _ world2 h2. ends_from host w _ (kept_then h h2) (omega (arith, p, parents_kept host run.parent h2)))
+  captured_by_ends w run out f k (fault chain) x world1 h p = ends_from host w (ended (fault chain) run out world1) h p
 
-  pub captured_ends : (w : World) (run : Run) (out : List ℕ) (o : Outcome) (f : Run → List ℕ → World → Outcome) → OutcomeKeeps host w o →
-      ((run1 : Run) (x : List ℕ) (world1 : World) → OutcomeKeeps host world1 (f run1 x world1)) → OutcomeKeeps host w (captured o run out f)
-  unfolding OutcomeKeeps
-  captured_ends w run out o f h k = captured_by_ends w (record run { parent = o.parent }) out f k o.ending o.parent o.text o.world h
+  pub captured_ends : {q : Option TemplateId} (w : World) (run : Run) (out : List ℕ) (o : Outcome)
+      (f : Run → List ℕ → World → Outcome) → OutcomeKeeps host q w o →
+      ((run1 : Run) (x : List ℕ) (world1 : World) → OutcomeKeeps host run1.parent world1 (f run1 x world1)) →
+      OutcomeKeeps host q w (captured o run out f)
+  captured_ends w run out o f h k =
+      captured_by_ends w (record run { parent = o.parent }) out f k o.ending o.text o.world (ends_as host w o h) (ends_parents host w o h)
 
   -- ---------------------------------------------------------------- loops
   -- a round's end
-  round_end_ends : (w x : World) (run : Run) (f : Run → List ℕ → World → Outcome) →
+  round_end_ends : {q : Option TemplateId} (w x : World) (run : Run) (f : Run → List ℕ → World → Outcome) →
       ((run1 : Run) (out1 : List ℕ) (world1 : World) → Kept (in_loop_of (for_flags false) w) world1 →
-      OutcomeKeeps host w (f run1 out1 world1)) →
-      (e : Ending) (parent : Option TemplateId) (out : List ℕ) (world1 : World) → Kept (in_loop_of (for_flags false) w) x →
-      EndingKeeps host x e world1 → OutcomeKeeps host w
-      (round_end e run (record { ending = e; parent = parent; text = out; world = world1 }) f)
-  unfolding OutcomeKeeps
-  round_end_ends w x run f k done parent out world1 i h =
-      ends_kept w world1 (tick world1) run out _ (advances_around (for_flags false) w world1 (kept_then i h)) (tick_gives world1)
-      (λ _ world2 h2. k run out world2 (kept_then i (kept_then h h2)))
-  round_end_ends w x run f k leave parent out world1 i h =
-      ends_kept w world1 (tick world1) run out _ (advances_around (for_flags false) w world1 (kept_then i h)) (tick_gives world1)
-      (λ _ world2 h2. kept_popped (loop_scope (mark_behind (for_flags false) w)) w world2 (kept_then i (kept_then h h2)))
-  round_end_ends w x run f k next parent out world1 i h =
-      ends_kept w world1 (tick world1) run out _ (advances_around (for_flags false) w world1 (kept_then i h)) (tick_gives world1)
-      (λ _ world2 h2. k run out world2 (kept_then i (kept_then h h2)))
-  round_end_ends w x run f k (fault chain) parent out world1 i h =
-      (advances_then (advances_around (for_flags false) w x i) h.0, h.1)
-
-  round_end_of : (w x : World) (run : Run) (f : Run → List ℕ → World → Outcome) →
-      ((run1 : Run) (out1 : List ℕ) (world1 : World) → Kept (in_loop_of (for_flags false) w) world1 →
-      OutcomeKeeps host w (f run1 out1 world1)) →
-      (o : Outcome) → Kept (in_loop_of (for_flags false) w) x → OutcomeKeeps host x o → OutcomeKeeps host w (round_end o.ending run o f)
-  unfolding OutcomeKeeps
-  round_end_of w x run f k o i h = round_end_ends w x run f k o.ending o.parent o.text o.world i h
+      parents_left host run1.parent world1 ≤ parents_left host q w → OutcomeKeeps host q w (f run1 out1 world1)) →
+      (e : Ending) (out : List ℕ) (world1 : World) → Kept (in_loop_of (for_flags false) w) x →
+      EndingKeeps host x e world1 → parents_left host run.parent world1 ≤ parents_left host q w → OutcomeKeeps host q w
+      (round_end e run (record { ending = e; parent = run.parent; text = out; world = world1 }) f)
+  round_end_ends w x run f k done out world1 i h p =
+      ends_kept_at w world1 (tick world1) run out _ (advances_around (for_flags false) w world1 (kept_then i h)) p (tick_gives world1)
+      (λ _ world2 h2. k run out world2 (kept_then i (kept_then h h2)) (omega (arith, p, parents_kept host run.parent h2)))
+  round_end_ends w x run f k leave out world1 i h p =
+      ends_kept_at w world1 (tick world1) run out _ (advances_around (for_flags false) w world1 (kept_then i h)) p (tick_gives world1)
+      (λ _ world2 h2. ends_from host w _
+      (kept_popped (loop_scope (mark_behind (for_flags false) w)) w world2 (kept_then i (kept_then h h2)))
+      (omega (arith, p, parents_kept host run.parent h2)))
+  round_end_ends w x run f k next out world1 i h p =
+      ends_kept_at w world1 (tick world1) run out _ (advances_around (for_flags false) w world1 (kept_then i h)) p (tick_gives world1)
+      (λ _ world2 h2. k run out world2 (kept_then i (kept_then h h2)) (omega (arith, p, parents_kept host run.parent h2)))
+  round_end_ends w x run f k (fault chain) out world1 i h p =
+      ends_from host w _ (advances_then (advances_around (for_flags false) w x i) h.0, h.1) p
 
   -- A loop's rounds leave what lies around it.
-  rounds_end : (w : World) (turn : Val → Run → List ℕ → World → Outcome) →
-      ((v : Val) (run : Run) (out : List ℕ) (x : World) → OutcomeKeeps host x (turn v run out x)) →
+  rounds_end : {q : Option TemplateId} (w : World) (turn : Val → Run → List ℕ → World → Outcome) →
+      ((v : Val) (run : Run) (out : List ℕ) (x : World) → OutcomeKeeps host run.parent x (turn v run out x)) →
       (vs : List Val) (run : Run) (out : List ℕ) (world1 : World) → Kept (in_loop_of (for_flags false) w) world1 →
-      OutcomeKeeps host w (rounds turn vs run out world1)
-  rounds_end w turn k [] run out world1 i =
-      ends_kept w world1 (tick world1) run out _ (advances_around (for_flags false) w world1 i) (tick_gives world1) (λ _ world2 h.
-      ends_here w (pop (next_turn world2)) run out
-      (kept_popped (loop_scope (mark_behind (for_flags false) w)) w (next_turn world2)
-      (kept_turned (for_flags false) w world2 (kept_then i h))))
-  rounds_end w turn k (v ∷ vs) run out world1 i =
-      ends_kept w world1 (tick world1) run out _ (advances_around (for_flags false) w world1 i) (tick_gives world1) (λ _ world2 h.
+      parents_left host run.parent world1 ≤ parents_left host q w → OutcomeKeeps host q w (rounds turn vs run out world1)
+  rounds_end w turn k [] run out world1 i p =
+      ends_kept_at w world1 (tick world1) run out _ (advances_around (for_flags false) w world1 i) p (tick_gives world1) (λ _ world2 h.
+      let x = next_turn world2 in
+      let turned = kept_turned (for_flags false) w world2 (kept_then i h) in
+      ends_from host w (so_far run out (pop x)) (kept_popped (loop_scope (mark_behind (for_flags false) w)) w x turned)
+      (omega (arith, p, parents_kept host run.parent h, next_names host world2)))
+  rounds_end {q = q} w turn k (v ∷ vs) run out world1 i p =
+      ends_kept_at w world1 (tick world1) run out _ (advances_around (for_flags false) w world1 i) p (tick_gives world1) (λ _ world2 h.
       let x = cleared (next_turn world2) in
       let o = turn v run out x in
-      round_end_of w x (record run { parent = o.parent }) _ (λ run1 out1 world3 j. rounds_end w turn k vs run1 out1 world3 j) o
-      (kept_cleared (kept_turned (for_flags false) w world2 (kept_then i h))) (k v run out x))
+      let ends = k v run out x in
+      round_end_ends w x (record run { parent = o.parent }) _ (λ run1 out1 world3 j p1. rounds_end w turn k vs run1 out1 world3 j p1)
+      o.ending o.text o.world (kept_cleared (kept_turned (for_flags false) w world2 (kept_then i h))) (ends_as host x o ends)
+      (omega (arith, p, parents_kept host run.parent h, next_names host world2, ends_parents host x o ends)))
 
   opened_ends : (n : ℕ) (recursive : Bool) (w : World) (vs : List Val) (turn : Val → Run → List ℕ → World → Outcome) →
-      ((v : Val) (run : Run) (out : List ℕ) (x : World) → OutcomeKeeps host x (turn v run out x)) →
+      ((v : Val) (run : Run) (out : List ℕ) (x : World) → OutcomeKeeps host run.parent x (turn v run out x)) →
       (run : Run) (out : List ℕ) (room : Bool) →
       let opening = one_more room (loop_scope (mark_behind (for_flags false) w)) w in
-      OutcomeKeeps host w (use_it (bind opening (λ _ world1. recorded (for_flags recursive) n vs w world1)) run out
+      OutcomeKeeps host run.parent w (use_it (bind opening (λ _ world1. recorded (for_flags recursive) n vs w world1)) run out
       (λ _ world1. rounds turn vs run out world1))
-  opened_ends n recursive w vs turn k run out true = rounds_end w turn k vs run out _ (opened_kept (for_flags recursive) n w vs)
+  opened_ends n recursive w vs turn k run out true =
+      rounds_end w turn k vs run out _ (opened_kept (for_flags recursive) n w vs) (omega arith)
   opened_ends n recursive w vs turn k run out false = ends_refused w run out InvalidOperation refl
 
   -- what stands in a loop that was opened, where there is room for it
@@ -274,6 +359,6 @@ module _ (host : HostValue) where
   opened_gives g n w vs false rest k = refused_arises w InvalidOperation refl
 
 pub loop_ends : (host : HostValue) (n : ℕ) (recursive : Bool) (w : World) (turn : Val → Run → List ℕ → World → Outcome) →
-    ((v : Val) (run : Run) (out : List ℕ) (x : World) → OutcomeKeeps host x (turn v run out x)) →
-    (vs : List Val) (run : Run) (out : List ℕ) → OutcomeKeeps host w (loop_over host n recursive turn vs run out w)
+    ((v : Val) (run : Run) (out : List ℕ) (x : World) → OutcomeKeeps host run.parent x (turn v run out x)) →
+    (vs : List Val) (run : Run) (out : List ℕ) → OutcomeKeeps host run.parent w (loop_over host n recursive turn vs run out w)
 loop_ends host n recursive w turn k vs run out = opened_ends host n recursive w vs turn k run out (nat_lt (depth w.scopes) host.limit)

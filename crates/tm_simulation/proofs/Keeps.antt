@@ -1,88 +1,150 @@
 -- What runs keep, and of which kinds their faults are.
-use Rattle.std.proofs.Common.{ℕ, zero, suc, ◌+◌, List, [], ◌∷◌, Option, Some, None, Bool, true, false, ◌≡◌, refl, sym, subst, length}
+use Rattle.std.proofs.Common.{ℕ, zero, suc, ◌+◌, ◌≤◌, ◌⊎◌, inl, inr, ◌∙◌, arith, List, [], ◌∷◌, Option, Some, None, Bool, true, false, ◌≡◌, refl, sym, subst, length}
 use Rattle.std.specs.Prelude.{slice_get, ◌&&◌, nat_eq}
 use Rattle.tm_values.specs.Val.{Val, undefined}
 use Rattle.tm_values.specs.declared.error.ErrorKind.{ErrorKind}
 use Rattle.tm_values.specs.declared.error.ErrorKind.TheVariants.{InvalidOperation}
 use Rattle.tm_syntax.specs.Loops.{first_numbers, loops_in, FoundMacro, macros_in}
 use Rattle.tm_meaning.specs.Tree.{Body, Trees}
-use Rattle.tm_meaning.specs.World.{choose, World, HostValue, Res, Good, Bad, tick, plain_scope}
-use Rattle.tm_meaning.specs.Calls.{Callee, whole, macro_of, NestedCall, block_call, undone, runs}
-use Rattle.tm_meaning.specs.Meaning.{over, under, again_of, Run, Outcome, Ending, done, leave, next, fault, Nests, Under, done_by, exec_all}
+use Rattle.tm_meaning.specs.World.{choose, root_of, World, HostValue, Res, Good, Bad, tick, plain_scope, Layers, find}
+use Rattle.tm_meaning.specs.Calls.{Callee, whole, macro_of, NestedCall, block_call, undone, runs, super_call, enter_super}
+use Rattle.tm_meaning.specs.Meaning.{over, under, again_of, Run, Outcome, Ending, done, leave, next, fault, Nests, Under, done_by}
 use Rattle.tm_meaning.specs.Meaning.{behind, in_place_of, block_tag, audible, none_waits, at_end, new_run, nests_of, rendered, chain_in}
-use Rattle.tm_meaning.specs.Meaning.{chain_of, macro_body, macro_run}
-use Rattle.tm_simulation.specs.Kept.{UnlessFault, Stays, Grows, PutsBack}
+use Rattle.tm_meaning.specs.Meaning.{chain_of, macro_body, macro_run, stream_run, restarting, run_of, failed}
+use Rattle.tm_meaning.specs.Inheritance.{names_left}
+use Rattle.tm_simulation.specs.Kept.{UnlessFault, Stays, Grows, EndsThere, PutsBack}
 use Rattle.tm_meaning.specs.declared.stream.TemplateId.{TemplateId}
 use Rattle.tm_meaning.specs.declared.stream.StreamId.{StreamId}
 use Rattle.tm_simulation.specs.Chains.{Arises, IfAny}
-use Rattle.tm_simulation.proofs.Advances.{Kept, advances_then, kept_then, in_stream, undone_scopes}
-use Rattle.tm_simulation.proofs.Gives.{Gives, RunEnds, run_ends, run_ends_as, ends_advance, EndingKeeps, OutcomeKeeps, ends_as, tick_gives}
+use Rattle.tm_simulation.proofs.Advances.{Kept, advances_then, kept_then, in_stream, undone_scopes, undone_kept, super_undone_kept, super_undone_scopes}
+use Rattle.tm_simulation.proofs.Parents.{blocks_same}
+use Rattle.tm_simulation.proofs.Gives.{Gives, RunEnds, run_ends, run_ends_by, run_ends_from, run_ends_behind, run_ends_as, ends_advance}
+use Rattle.tm_simulation.proofs.Gives.{EndingKeeps, OutcomeKeeps, ends_as, ends_from, ends_parents, parents_left, parents_kept}
+use Rattle.tm_simulation.proofs.Gives.{parents_advance, refused_arises, tick_gives}
 use Rattle.tm_simulation.proofs.Gives.{ends_refused, choose_ends}
-use Rattle.tm_simulation.proofs.Asks.{in_block, block_asks_by}
+use Rattle.tm_simulation.proofs.Asks.{in_block, block_asks_by, in_super, super_asks_by}
 use Rattle.tm_simulation.proofs.Executes.{execs_end, called_end, body_ends}
 
-done_by_ends : (host : HostValue) (w world1 : World) (m : Res (Unit {0})) (o : Outcome) → Kept w world1 → Gives host world1 m →
-    OutcomeKeeps host w (done_by m o)
-unfolding OutcomeKeeps
-done_by_ends host w world1 (Good _ world2) o h k = kept_then h k
-done_by_ends host w world1 (Bad chain world2) o h k = (advances_then h.advances k.0, k.1)
+done_by_ends : (host : HostValue) {q : Option TemplateId} (w world1 : World) (m : Res (Unit {0})) (o : Outcome) → Kept w world1 →
+    Gives host world1 m → parents_left host o.parent world1 ≤ parents_left host q w → OutcomeKeeps host q w (done_by m o)
+done_by_ends host w world1 (Good _ world2) o h k p =
+    ends_from host w (record o { ending = done; world = world2 }) (kept_then h k) (omega (arith, p, parents_kept host o.parent k))
+done_by_ends host w world1 (Bad chain world2) o h k p =
+    ends_from host w (record o { ending = fault chain; world = world2 }) (advances_then h.advances k.0, k.1)
+    (omega (arith, p, parents_advance host o.parent k.0))
 
-at_end_ends : (host : HostValue) (w : World) (e : Ending) (parent : Option TemplateId) (out : List ℕ) (world1 : World) →
-    EndingKeeps host w e world1 → OutcomeKeeps host w (at_end e (record { ending = e; parent = parent; text = out; world = world1 }))
-unfolding OutcomeKeeps
-at_end_ends host w done parent out world1 h = h
-at_end_ends host w leave parent out world1 h =
-    done_by_ends host w world1 (tick world1) (record { ending = leave; parent = parent; text = out; world = world1 }) h
-    (tick_gives host world1)
-at_end_ends host w next parent out world1 h =
-    done_by_ends host w world1 (tick world1) (record { ending = next; parent = parent; text = out; world = world1 }) h
-    (tick_gives host world1)
-at_end_ends host w (fault chain) parent out world1 h = h
+at_end_by : (host : HostValue) {q : Option TemplateId} (w : World) (e : Ending) (parent : Option TemplateId) (out : List ℕ)
+    (world1 : World) → EndingKeeps host w e world1 → parents_left host parent world1 ≤ parents_left host q w →
+    OutcomeKeeps host q w (at_end e (record { ending = e; parent = parent; text = out; world = world1 }))
+at_end_by host w done parent out world1 h p = ends_from host w _ h p
+at_end_by host w leave parent out world1 h p = done_by_ends host w world1 (tick world1) _ h (tick_gives host world1) p
+at_end_by host w next parent out world1 h p = done_by_ends host w world1 (tick world1) _ h (tick_gives host world1) p
+at_end_by host w (fault chain) parent out world1 h p = ends_from host w _ h p
+
+at_end_ends : (host : HostValue) {q : Option TemplateId} (w : World) (o : Outcome) → OutcomeKeeps host q w o →
+    OutcomeKeeps host q w (at_end o.ending o)
+at_end_ends host w o h = at_end_by host w o.ending o.parent o.text o.world (ends_as host w o h) (ends_parents host w o h)
+
+-- in the stream in which it began, or a parent's root behind it
+there_behind : (w v : World) (t : TemplateId) (o : Outcome) → v.stream ≡ w.stream →
+    EndsThere v.stream o ⊎ EndsThere (root_of t) o → EndsThere w.stream o
+there_behind w v t o h (inl (inl e)) = inl (e ∙ h)
+there_behind w v t o h (inl (inr r)) = inr r
+there_behind w v t o h (inr (inl e)) = inr (t, e)
+there_behind w v t o h (inr (inr r)) = inr r
 
 -- Loops that are called end so, where what nests does.
 pub again_end : (host : HostValue) (nests : Nests)
     (nest_ends : (k : Callee) (heard : Bool) (out : List ℕ) (w : World) → RunEnds host w (nests k heard out w))
     (body : Body) (level n : ℕ) (items : List Val) (run : Run) (out : List ℕ) (w : World) →
-    OutcomeKeeps host w (again_of host nests body level n items run out w)
+    OutcomeKeeps host run.parent w (again_of host nests body level n items run out w)
 again_end host nests nest_ends body zero n items run out w = ends_refused host w run out InvalidOperation refl
 again_end host nests nest_ends body (suc k) n items run out w =
     called_end (over host nests (again_of host nests body k)) nest_ends (again_end host nests nest_ends body k)
     (slice_get (loops_in first_numbers body.row) n) n items run out w
 
--- So do the runs of macros.
+-- So do the runs of macros, and of streams without their parents.
 macro_ends : (u : Under) (nest_ends : (k : Callee) (heard : Bool) (out : List ℕ) (w : World) → RunEnds u.host w (u.nests k heard out w))
-    (again_ends : (n : ℕ) (items : List Val) (run : Run) (out : List ℕ) (w : World) → OutcomeKeeps u.host w (u.again n items run out w))
-    (m : Option FoundMacro) (given : List Val) (run : Run) (out : List ℕ) (w : World) → OutcomeKeeps u.host w (macro_run u m given run out w)
+    (again_ends : (n : ℕ) (items : List Val) (run : Run) (out : List ℕ) (w : World) →
+    OutcomeKeeps u.host run.parent w (u.again n items run out w))
+    (m : Option FoundMacro) (given : List Val) (run : Run) (out : List ℕ) (w : World) →
+    OutcomeKeeps u.host run.parent w (macro_run u m given run out w)
 macro_ends u nest_ends again_ends None given run out w = ends_refused u.host w run out InvalidOperation refl
 macro_ends u nest_ends again_ends (Some m) given run out w =
-    let o = macro_body u m given run out w in
     choose_ends u.host w (nat_eq (length m.parameters) (length given)) _ _
-    (at_end_ends u.host w o.ending o.parent o.text o.world (ends_as u.host w o (body_ends u nest_ends again_ends m given run out w)))
+    (at_end_ends u.host w (macro_body u m given run out w) (body_ends u nest_ends again_ends m given run out w))
     (ends_refused u.host w run out InvalidOperation refl)
 
--- So does what nests, today also in the stream in which it began.
-nest_ends_there : (host : HostValue) (trees : Trees) (n : ℕ) (k : Callee) (heard : Bool) (out : List ℕ) (w : World) →
-    OutcomeKeeps host w (nests_of host trees n k heard out w)
-nest_ends_there host trees zero k heard out w = ends_refused host w (new_run heard w) out InvalidOperation refl
-nest_ends_there host trees (suc n) (macro_of s m given) heard out w =
-    let nests = nests_of host trees n in
-    let nest_ends : (k : Callee) (heard : Bool) (out : List ℕ) (w : World) → RunEnds host w (nests k heard out w) =
-    λ k1 heard1 out1 w1. run_ends host w1 (nests k1 heard1 out1 w1) (nest_ends_there host trees n k1 heard1 out1 w1) in
-    macro_ends (under host nests (trees s)) nest_ends (again_end host nests nest_ends (trees s) (host.limit + 1))
-    (slice_get (macros_in first_numbers (trees s).row) m) given (new_run heard w) out w
-nest_ends_there host trees (suc n) (whole s) heard out w =
-    let nests = nests_of host trees n in
-    let nest_ends : (k : Callee) (heard : Bool) (out : List ℕ) (w : World) → RunEnds host w (nests k heard out w) =
-    λ k1 heard1 out1 w1. run_ends host w1 (nests k1 heard1 out1 w1) (nest_ends_there host trees n k1 heard1 out1 w1) in
-    let u : Under = under host nests (trees s) in
-    let o = exec_all u first_numbers (trees s).row (new_run heard w) out w in
-    let again_ends = again_end host nests nest_ends (trees s) (host.limit + 1) in
-    at_end_ends host w o.ending o.parent o.text o.world
-    (ends_as host w o (execs_end u nest_ends again_ends first_numbers (trees s).row (new_run heard w) out w))
+module _ (host : HostValue) (nests : Nests)
+    (nest_ends : (k : Callee) (heard : Bool) (out : List ℕ) (w : World) → RunEnds host w (nests k heard out w)) (trees : Trees) where
+  pub stream_ends : (s : StreamId) (run : Run) (out : List ℕ) (w : World) →
+      OutcomeKeeps host run.parent w (stream_run (under host nests (trees s)) (trees s) run out w)
+  stream_ends s run out w =
+      at_end_ends host w _ (execs_end (under host nests (trees s)) nest_ends (again_end host nests nest_ends (trees s) (host.limit + 1))
+      first_numbers (trees s).row run out w)
 
+  stream_stays : (s : StreamId) (run : Run) (out : List ℕ) (w : World) →
+      (stream_run (under host nests (trees s)) (trees s) run out w).world.stream ≡ w.stream
+  stream_stays s run out w =
+      let o = stream_run (under host nests (trees s)) (trees s) run out w in
+      (ends_advance host w o.ending o.world (ends_as host w o (stream_ends s run out w))).same_stream
+
+  -- A stream and the parents that it asks for keep the world, but for the stream in which they end.
+  restart_ends : (w : World) (e : Ending) (parent : Option TemplateId) (out : List ℕ) (v : World) (f : TemplateId → Outcome) →
+      EndingKeeps host w e v → ((t : TemplateId) → RunEnds host (in_stream (root_of t) v) (f t)) →
+      RunEnds host w (restarting e (record { ending = e; parent = parent; text = out; world = v }) f)
+  restart_ends w (fault chain) parent out v f h k = run_ends_by host w _ h
+  restart_ends w done None out v f h k = run_ends_by host w _ h
+  restart_ends w leave None out v f h k = run_ends_by host w _ h
+  restart_ends w next None out v f h k = run_ends_by host w _ h
+  restart_ends w done (Some t) out v f h k = run_ends_behind host w v (root_of t) (f t) h (k t)
+  restart_ends w leave (Some t) out v f h k = run_ends_behind host w v (root_of t) (f t) h (k t)
+  restart_ends w next (Some t) out v f h k = run_ends_behind host w v (root_of t) (f t) h (k t)
+
+  pub run_of_ends : (n : ℕ) (s : StreamId) (run : Run) (out : List ℕ) (w : World) → RunEnds host w (run_of host nests trees n s run out w)
+  run_of_ends zero s run out w =
+      let o = stream_run (under host nests (trees s)) (trees s) run out w in
+      restart_ends w o.ending o.parent o.text o.world _ (ends_as host w o (stream_ends s run out w)) (λ t.
+      run_ends_from host (in_stream (root_of t) o.world) (failed InvalidOperation run o.text o.world)
+      (refused_arises host o.world InvalidOperation refl))
+  run_of_ends (suc n) s run out w =
+      let o = stream_run (under host nests (trees s)) (trees s) run out w in
+      restart_ends w o.ending o.parent o.text o.world _ (ends_as host w o (stream_ends s run out w)) (λ t.
+      run_of_ends n (root_of t) run o.text (in_stream (root_of t) o.world))
+
+  restart_there : (w : World) (e : Ending) (parent : Option TemplateId) (out : List ℕ) (v : World) (f : TemplateId → Outcome) →
+      v.stream ≡ w.stream → ((t : TemplateId) → EndsThere v.stream (f t) ⊎ EndsThere (root_of t) (f t)) →
+      EndsThere w.stream (restarting e (record { ending = e; parent = parent; text = out; world = v }) f)
+  restart_there w (fault chain) parent out v f h k = inl h
+  restart_there w done None out v f h k = inl h
+  restart_there w leave None out v f h k = inl h
+  restart_there w next None out v f h k = inl h
+  restart_there w done (Some t) out v f h k = there_behind w v t (f t) h (k t)
+  restart_there w leave (Some t) out v f h k = there_behind w v t (f t) h (k t)
+  restart_there w next (Some t) out v f h k = there_behind w v t (f t) h (k t)
+
+  pub run_of_there : (n : ℕ) (s : StreamId) (run : Run) (out : List ℕ) (w : World) →
+      EndsThere w.stream (run_of host nests trees n s run out w)
+  run_of_there zero s run out w =
+      let o = stream_run (under host nests (trees s)) (trees s) run out w in
+      restart_there w o.ending o.parent o.text o.world _ (stream_stays s run out w) (λ t. inl (inl refl))
+  run_of_there (suc n) s run out w =
+      let o = stream_run (under host nests (trees s)) (trees s) run out w in
+      restart_there w o.ending o.parent o.text o.world _ (stream_stays s run out w) (λ t.
+      inr (run_of_there n (root_of t) run o.text (in_stream (root_of t) o.world)))
+
+-- So does what nests.
 pub nests_end : (host : HostValue) (trees : Trees) (n : ℕ) (k : Callee) (heard : Bool) (out : List ℕ) (w : World) →
     RunEnds host w (nests_of host trees n k heard out w)
-nests_end host trees n k heard out w = run_ends host w (nests_of host trees n k heard out w) (nest_ends_there host trees n k heard out w)
+nests_end host trees zero k heard out w =
+    run_ends host w (failed InvalidOperation (new_run heard w) out w) (ends_refused host w (new_run heard w) out InvalidOperation refl)
+nests_end host trees (suc n) (macro_of s m given) heard out w =
+    let nests = nests_of host trees n in
+    let u : Under = under host nests (trees s) in
+    run_ends host w _ (macro_ends u (nests_end host trees n) (again_end host nests (nests_end host trees n) (trees s) (host.limit + 1))
+    (slice_get (macros_in first_numbers (trees s).row) m) given (new_run heard w) out w)
+nests_end host trees (suc n) (whole s) heard out w =
+    run_of_ends host (nests_of host trees n) (nests_end host trees n) trees (names_left host w) s (new_run heard w) out w
 
 -- ---------------------------------------------------------------- what runs keep
 unless_fault : (host : HostValue) (e : Ending) (w world1 : World) (A : Type 0) → EndingKeeps host w e world1 → (Kept w world1 → A) →
@@ -129,11 +191,12 @@ render_stays host trees w = run_stays host trees (host.limit + 1) (whole w.strea
 pub render_grows : (host : HostValue) (trees : Trees) (w : World) → Grows w (rendered host trees w)
 render_grows host trees w = run_grows host trees (host.limit + 1) (whole w.stream) true [] w
 
-pub render_ends_there : (host : HostValue) (trees : Trees) (w : World) → (rendered host trees w).world.stream ≡ w.stream
+pub render_ends_there : (host : HostValue) (trees : Trees) (w : World) → EndsThere w.stream (rendered host trees w)
 render_ends_there host trees w =
-    let o = rendered host trees w in
-    (ends_advance host w o.ending o.world (ends_as host w o
-    (nest_ends_there host trees (host.limit + 1) (whole w.stream) true [] w))).same_stream
+    let e : host.limit + 1 ≡ suc host.limit = omega arith in
+    subst (λ n. EndsThere w.stream (nests_of host trees n (whole w.stream) true [] w)) (sym e)
+    (run_of_there host (nests_of host trees host.limit) (nests_end host trees host.limit) trees (names_left host w) w.stream
+    (new_run true w) [] w)
 
 -- ---------------------------------------------------------------- what a block's tag puts back
 behind_world : (e : Ending) (c : NestedCall) (run : Run) (o : Outcome) → (behind e c run o).world ≡ undone c.undo o.world
@@ -148,7 +211,8 @@ choose_puts_back w true o q h k = h
 choose_puts_back w false o q h k = k
 
 puts_back_same : (w : World) → PutsBack w w
-puts_back_same w = record { same_scopes = refl; same_stream = refl; same_block = refl; same_escape = refl }
+puts_back_same w =
+    record { same_scopes = refl; same_stream = refl; same_block = refl; same_escape = refl; same_places = blocks_same w.blocks }
 
 entered_puts_back : (u : Under) (run : Run) (b : List ℕ) (out : List ℕ) (w : World) (stream : StreamId) →
     RunEnds u.host (in_block stream b w) (u.nests (whole stream) (audible run) out (in_block stream b w)) →
@@ -163,6 +227,7 @@ entered_puts_back u run b out w stream ends =
       same_stream = refl;
       same_block = refl;
       same_escape = refl;
+      same_places = (undone_kept (plain_scope (undefined false)) stream (Some b) w o.world l).advances.lasts.blocks;
     })
 
 pub tag_puts_back : (host : HostValue) (trees : Trees) (n : ℕ) (body : Body) (run : Run) (b : List ℕ) (out : List ℕ) (w : World) →
@@ -173,6 +238,31 @@ tag_puts_back host trees n body run b out w =
     (block_asks_by (λ q. PutsBack w (in_place_of u run out q).world) host b w (λ kind e. puts_back_same w) (λ stream room.
     entered_puts_back u run b out w stream (nests_end host trees n (whole stream) (audible run) out (in_block stream b w))))
     (puts_back_same w)
+
+super_entered_puts_back : (u : Under) (run : Run) (out : List ℕ) (w : World) (stream : StreamId) (x : List ℕ) (l : Layers) →
+    find x w.blocks ≡ Some l →
+    RunEnds u.host (in_super stream x l w) (u.nests (whole stream) (audible run) out (in_super stream x l w)) →
+    PutsBack w (in_place_of u run out (runs (super_call stream x w) (in_super stream x l w))).world
+super_entered_puts_back u run out w stream x l found ends =
+    let c : NestedCall = super_call stream x w in
+    let o = u.nests (whole stream) (audible run) out (in_super stream x l w) in
+    let began = in_stream o.world.stream (in_super stream x l w) in
+    let h = ends_advance u.host began o.ending o.world (run_ends_as u.host (in_super stream x l w) o ends) in
+    subst (PutsBack w) (sym (behind_world o.ending c run o)) (record {
+      same_scopes = super_undone_scopes (plain_scope (undefined false)) stream x l w o.world h;
+      same_stream = refl;
+      same_block = refl;
+      same_escape = refl;
+      same_places = (super_undone_kept (plain_scope (undefined false)) stream x l w o.world found h).advances.lasts.blocks;
+    })
+
+pub super_puts_back : (host : HostValue) (trees : Trees) (n : ℕ) (body : Body) (run : Run) (out : List ℕ) (w : World) →
+    PutsBack w (in_place_of (under host (nests_of host trees n) body) run out (enter_super host w)).world
+super_puts_back host trees n body run out w =
+    let u : Under = under host (nests_of host trees n) body in
+    super_asks_by (λ q. PutsBack w (in_place_of u run out q).world) host w (λ kind e. puts_back_same w) (λ stream x l found room.
+    super_entered_puts_back u run out w stream x l found
+    (nests_end host trees n (whole stream) (audible run) out (in_super stream x l w)))
 
 -- ---------------------------------------------------------------- of which kinds its fault is
 if_any : (Has : List ErrorKind → Type 0) (chain : List ErrorKind) → Has chain → IfAny Has chain

@@ -132,7 +132,7 @@ pub record Setting : Type 1 where
   pub level : ℕ
   pub again : Again
   pub again_kept : (m : ℕ) (items : List Val) (run : Run) (out : List ℕ) (w : World) →
-      OutcomeKeeps context.program.host w (again m items run out w)
+      OutcomeKeeps context.program.host run.parent w (again m items run out w)
   pub called_in_place : CalledInPlace context n id level again
   pub called_as_value : CalledAsValue context n id level again
 

@@ -1,6 +1,8 @@
+pub mod Parents
 pub mod Advances
 pub mod Raised
 pub mod Gives
+pub mod Loads
 pub mod Asks
 pub mod Evaluates
 pub mod Declares
@@ -12,6 +14,7 @@ pub mod Follow
 pub mod Forms
 mod Operands
 mod Levels
+mod BlockTags
 mod Arguments
 mod Expressions
 mod Targets

@@ -1,7 +1,7 @@
 -- The code of a macro pushes it as a value, and the code of its parameters takes the values of its arguments.
-use Rattle.std.proofs.Common.{◌≡◌, ℕ, ◌+◌, List, [], ◌∷◌, Option, Some, None, Bool, true, false, refl, sym, ap, ◌∙◌, subst, arith, length}
-use Rattle.std.specs.Prelude.{slice_get, map as each}
-use Rattle.tm_values.specs.Val.{Val, text, boolean, list_of, vals_of}
+use Rattle.std.proofs.Common.{◌≡◌, ℕ, ◌+◌, List, [], ◌∷◌, Option, Some, None, false, refl, sym, ap, ◌∙◌, subst, arith, length}
+use Rattle.std.specs.Prelude.{map as each}
+use Rattle.tm_values.specs.Val.{Val, text, boolean}
 use Rattle.tm_values.proofs.Lists.{list_of-vals_of}
 use Rattle.tm_syntax.specs.declared.tree.Expr.{Expr}
 use Rattle.tm_syntax.specs.declared.tree.Parameter.{Parameter}
@@ -11,14 +11,13 @@ use Rattle.tm_syntax.specs.Code.{expr_code, default_code, parameter_code, parame
 use Rattle.tm_syntax.specs.Entries.{entry_number}
 use Rattle.tm_syntax.specs.Fragments.{Fragment, Labels, MacroHead, name_list, building, declares, beyond, beyond_all}
 use Rattle.tm_meaning.specs.World.{World, Res, bind, tick, ticked, enclose, own_closure, make_macro}
-use Rattle.tm_meaning.specs.Meaning.{Run, Under, enclose_each, declared, or_default, take_parameter, take_parameters, eval, assign}
+use Rattle.tm_meaning.specs.Meaning.{Run, Under, enclose_each, declared, or_default, take_parameter, take_parameters}
 use Rattle.tm_meaning.specs.Operators.{is_undefined}
 use Rattle.tm_meaning.specs.Machine.{after, goes, onto}
 use Rattle.tm_meaning.specs.Instructions.{closure_value, closure_in, texts_in, names_in, and_text, build_macro_of}
 use Rattle.tm_syntax.proofs.Standing.{HasAt}
 use Rattle.tm_simulation.proofs.Gives.{tick_gives}
-use Rattle.tm_simulation.proofs.Evaluates.{eval_gives, assign_gives}
-use Rattle.tm_simulation.proofs.Declares.{enclose_gives, or_default_gives, take_parameter_gives, take_parameters_give}
+use Rattle.tm_simulation.proofs.Declares.{enclose_gives, or_default_gives, take_parameters_give}
 use Rattle.tm_simulation.proofs.Follow.{LeadsToEnd, Spot, told, cfg, Follows, bind_then, bound_twice, Go, silent, at, after_then, choose_then}
 use Rattle.tm_simulation.proofs.Levels.{Setting, Here, here_kept, meaning, nest_ends}
 use Rattle.tm_simulation.proofs.Arguments.{In}

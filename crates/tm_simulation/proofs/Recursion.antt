@@ -40,7 +40,7 @@ use Rattle.tm_simulation.proofs.Follow.{Go, silent, at, after_then}
 use Rattle.tm_simulation.proofs.Forms.{Stands}
 use Rattle.tm_meaning.specs.declared.stream.TemplateId.{TemplateId}
 use Rattle.tm_simulation.proofs.Levels.{DeepIn, HereIn, Setting, as_at, levels_called, meaning}
-use Rattle.tm_simulation.proofs.Targets.{stands_captured}
+use Rattle.tm_simulation.proofs.BlockTags.{stands_captured}
 use Rattle.tm_simulation.proofs.Rounds.{did_not_is, end_at, looped, round_code, round_labels, rounds_run, turn_of}
 use Rattle.tm_simulation.proofs.Statements.{stmts_run}
 

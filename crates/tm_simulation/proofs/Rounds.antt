@@ -121,7 +121,7 @@ module _ (setting : Setting) where
   turn_of t numbers body v run out w = use_it (assign u run t v w) run out (λ _ world1. exec_all u numbers body run out world1)
 
   pub turn_ends : {m : _} → (t : AssignmentTarget) (numbers : Numbers) (body : Row_of-Stmt m) (v : Val) (run : Run) (out : List ℕ) (w : World) →
-      OutcomeKeeps context.program.host w (turn_of t numbers body v run out w)
+      OutcomeKeeps context.program.host run.parent w (turn_of t numbers body v run out w)
   turn_ends t numbers body v run out w = ends_use _ w (assign u run t v w) run out _
       (assign_gives u (nest_ends setting) again_kept run t v w) (λ _ world1. execs_end u (nest_ends setting) again_kept numbers body run out
       world1)

@@ -1,12 +1,14 @@
 -- The code of streams and templates comes to what their trees mean.
-use Rattle.std.proofs.Common.{◌≡◌, ℕ, zero, suc, ◌+◌, inl, List, [], ◌∷◌, length, Option, Some, None, Bool}
+use Rattle.std.proofs.Common.{◌≡◌, ◌≤◌, ℕ, zero, suc, ◌+◌, inl, List, [], ◌∷◌, length, Option, Some, None, Bool}
 use Rattle.std.proofs.Common.{true, false, refl, sym, ap, ◌∙◌, subst, arith, eq-eqb, eqb-true}
 use Rattle.std.specs.Prelude.{slice_get, nat_eq, option_and_then}
 use Rattle.std.proofs.lemmas.Option.{slice_get_past}
 use Rattle.tm_syntax.specs.declared.instruction.Instruction.TheVariants as i
 use Rattle.tm_syntax.specs.Fragments.{Fragment, beyond, ending_at, whole_labels, assembled}
 use Rattle.tm_syntax.specs.Code.{statements_code, parameters_code, unnumbered_code}
-use Rattle.tm_meaning.specs.World.{choose, HostValue, World}
+use Rattle.tm_meaning.specs.World.{choose, root_of, HostValue, World}
+use Rattle.tm_values.specs.declared.error.ErrorKind.{ErrorKind}
+use Rattle.tm_values.specs.declared.escape.AutoEscape.{AutoEscape}
 use Rattle.tm_meaning.specs.World.{Res, Good, Bad, tick}
 use Rattle.tm_meaning.specs.World.{captured_text}
 use Rattle.tm_meaning.specs.Calls.{Callee, whole, macro_of}
@@ -15,10 +17,11 @@ use Rattle.tm_meaning.specs.Meaning.{under, again_of, Ending, done, leave, next}
 use Rattle.tm_meaning.specs.Meaning.{fault, Under}
 use Rattle.tm_meaning.specs.Meaning.{capturing}
 use Rattle.tm_meaning.specs.Meaning.{done_by, exec_all, macro_body, macro_run, take_parameters}
-use Rattle.tm_meaning.specs.Meaning.{new_run, at_end, failed, nests_of, rendered}
+use Rattle.tm_meaning.specs.Meaning.{new_run, at_end, failed, nests_of, rendered, Run, Outcome, stream_run, restarting, run_of}
+use Rattle.tm_meaning.specs.Inheritance.{names_left}
 use Rattle.tm_meaning.specs.Machine.{new_capture, recursion, Capture as OpenCapture, Finished}
-use Rattle.tm_meaning.specs.Machine.{Stuck, Failed, Over, Program, base_of, run_from, run_of_macro, onto}
-use Rattle.tm_meaning.specs.Steps.{act, begun, finish, return_of, step, Final, final, Leads, over as is_over}
+use Rattle.tm_meaning.specs.Machine.{Stuck, Over, Program, base_of, run_from, run_of_macro, onto, restarted}
+use Rattle.tm_meaning.specs.Steps.{act, begun, finish, parent_next, return_of, step, Final, final, Leads, over as is_over, restart as restarts}
 use Rattle.tm_meaning.specs.Compiled.{IsCompiled, code_of}
 use Rattle.tm_meaning.proofs.Ends.{one_end}
 use Rattle.tm_simulation.specs.Reached.{RunsTo, Renders, text_in, end_by, final_in, final_of, HasLevels}
@@ -37,9 +40,9 @@ use Rattle.tm_simulation.proofs.Begins.{Stands as BodyStands}
 use Rattle.tm_simulation.proofs.Declares.{take_parameters_give}
 use Rattle.tm_simulation.proofs.Macros.{parameters_run}
 use Rattle.tm_simulation.proofs.TreeLoops.{statements_begin}
-use Rattle.tm_simulation.proofs.Advances.{Kept, kept_frames, kept_then}
+use Rattle.tm_simulation.proofs.Advances.{Kept, in_stream, kept_frames, kept_depth, kept_then}
 use Rattle.tm_simulation.proofs.Advances.{within}
-use Rattle.tm_simulation.proofs.Gives.{EndingKeeps, ends_as, tick_gives}
+use Rattle.tm_simulation.proofs.Gives.{EndingKeeps, Gives, ends_as, ends_parents, parents_left, parents_kept, tick_gives}
 use Rattle.tm_simulation.proofs.Executes.{execs_end, body_ends}
 use Rattle.tm_simulation.proofs.Keeps.{again_end, nests_end}
 use Rattle.tm_simulation.proofs.Follow.{RunContext, LeadsToEnd, follows_map_kept}
@@ -80,22 +83,52 @@ module _ (p : Program) (trees : Trees) (compiled : IsUnnumbered trees p) where
   abbrev running : Bool → Bed → List ℕ → World → Final → RunContext
   running heard b out w end = in_program (base_of heard (captures_of b out) w) end
 
+  -- What a run comes to at its end, where this parent waits: no more may be asked for than at its start, and what follows is its end.
+  abbrev Ended : RunContext → Bed → World → (Outcome → Outcome) → Then
+  Ended context b w close q x v = (parents_left p.host q v ≤ parents_left p.host None w) ×
+      (context.final ≡ end_of b (close (whole_of done q x v)))
+
   -- where a loop that isn't there is left, or goes on
-  abbrev Stops : RunContext → Bed → Then
-  Stops context b q x v = Follows context (told_by b x) (tick v) (λ _ world1. context.final ≡ final (told_by b x)
-      (Finished (captures_of b x) world1))
+  abbrev Stops : RunContext → Bed → World → (Outcome → Outcome) → Then
+  Stops context b w close q x v = Follows context (told_by b x) (tick v) (λ _ world1. Ended context b w close q x world1)
 
   -- At this place the run is over, with all closed that it opened.
-  abbrev IsOver : RunContext → Spot → World → ℕ → Type 0
-  IsOver context s w stop =
-      (q : Option TemplateId) (x : List ℕ) (v : World) → Kept w v →
-      context.final ≡ final (told_by s.bed x) (Finished (captures_of s.bed x) v) → Go context (later s q x) stop [] v
+  abbrev IsOver : RunContext → Spot → World → (Outcome → Outcome) → ℕ → Type 0
+  IsOver context s w close stop =
+      (q : Option TemplateId) (x : List ℕ) (v : World) → Kept w v → Ended context s.bed w close q x v →
+      Go context (later s q x) stop [] v
+
+  -- What follows a stream: the run of a parent that waits, behind this text and in this world.
+  abbrev Restarted : Type 0
+  Restarted = TemplateId → List ℕ → World → Outcome
+
+  abbrev and_parent : Restarted → Outcome → Outcome
+  and_parent f o = restarting o.ending o (λ t. f t o.text o.world)
+
+  -- it is what the machine restarts in
+  abbrev Restarts : StreamId → Bool → Bed → List ℕ → World → Restarted → Type 0
+  Restarts id heard b out w f =
+      (t : TemplateId) (x : List ℕ) (v : World) → Kept w v → parents_left p.host (Some t) v ≤ parents_left p.host None w →
+      let g = base_of heard (captures_of b out) w in
+      let c = cfg (later (spot_of id b out) (Some t) x) (length (p.code id)) [] v in
+      Leads p g (told_by b x) (step p g (restarted t c)) (end_of b (f t x v))
 
   -- behind the last instruction
-  finishes : (id : StreamId) (heard : Bool) (b : Bed) (out : List ℕ) (w : World) (end : Final) →
-      IsOver (running heard b out w end) (spot_of id b out) w (length (p.code id))
-  finishes id heard b out w end q x v k e =
-      let f = base_of heard (captures_of b out) w in
+  finishes_by : (id : StreamId) (heard : Bool) (b : Bed) (out : List ℕ) (w : World) (f : Restarted) → Restarts id heard b out w f →
+      (end : Final) (q : Option TemplateId) (x : List ℕ) (v : World) → Kept w v →
+      let context = running heard b out w end in
+      Ended context b w (and_parent f) q x v →
+      LeadsToEnd context (told_by b x) (parent_next q (cfg (later (spot_of id b out) q x) (length (p.code id)) [] v))
+  finishes_by id heard b out w f again end None x v k e = is_over refl e.1
+  finishes_by id heard b out w f again end (Some t) x v k e =
+      let g = base_of heard (captures_of b out) w in
+      let c = cfg (later (spot_of id b out) (Some t) x) (length (p.code id)) [] v in
+      restarts refl (subst (λ o. Leads p g (told_by b x) (step p g (restarted t c)) o) (sym e.1) (again t x v k e.0))
+
+  finishes : (id : StreamId) (heard : Bool) (b : Bed) (out : List ℕ) (w : World) (f : Restarted) → Restarts id heard b out w f →
+      (end : Final) → IsOver (running heard b out w end) (spot_of id b out) w (and_parent f) (length (p.code id))
+  finishes id heard b out w f again end q x v k e =
+      let g = base_of heard (captures_of b out) w in
       let s = later (spot_of id b out) q x in
       let c = cfg s (length (p.code id)) [] v in
       let past : slice_get (p.code id) (length (p.code id)) ≡ None = slice_get_past (p.code id) (length (p.code id)) (omega arith) in
@@ -103,12 +136,13 @@ module _ (p : Program) (trees : Trees) (compiled : IsUnnumbered trees p) where
       let captures : nat_eq (length (captures_of b out)) (length (captures_of b x)) ≡ true = eq-eqb _ _ (same_captures b out x) in
       let scopes : nat_eq (length w.scopes.frames) (length v.scopes.frames) ≡ true = eq-eqb (length w.scopes.frames)
       (length v.scopes.frames) (sym (kept_frames k)) in
-      let ends : finish (length (p.code id)) f c ≡ Over (Finished (captures_of b x) v) = rw (place, captures, scopes) refl in
-      is_over (ap (λ o. act p f o c) past ∙ ends) e
+      let ends : finish (length (p.code id)) g c ≡ parent_next q c = rw (place, captures, scopes) refl in
+      subst (λ n. LeadsToEnd (running heard b out w end) (told_by b x) n) (sym (ap (λ o. act p g o c) past ∙ ends))
+      (finishes_by id heard b out w f again end q x v k e)
 
-  -- and at a return
+  -- and at a macro's return, whatever parent waits
   returns : (id : StreamId) (heard : Bool) (b : Bed) (out : List ℕ) (w : World) (end : Final) (stop : ℕ) →
-      slice_get (p.code id) stop ≡ Some i.Return → IsOver (running heard b out w end) (spot_of id b out) w stop
+      slice_get (p.code id) stop ≡ Some i.Return → IsOver (running heard b out w end) (spot_of id b out) w (λ o. o) stop
   returns id heard b out w end stop there q x v k e =
       let f = base_of heard (captures_of b out) w in
       let s = later (spot_of id b out) q x in
@@ -116,34 +150,42 @@ module _ (p : Program) (trees : Trees) (compiled : IsUnnumbered trees p) where
       let scopes : nat_eq (length w.scopes.frames) (length v.scopes.frames) ≡ true = eq-eqb (length w.scopes.frames)
       (length v.scopes.frames) (sym (kept_frames k)) in
       let ends : return_of f (cfg s stop [] v) ≡ Over (Finished (captures_of b x) v) = rw (captures, scopes) refl in
-      at (running heard b out w end) i.Return s stop [] v there (is_over ends e)
+      at (running heard b out w end) i.Return s stop [] v there (is_over ends e.1)
 
-  stopped_by : (context : RunContext) (b : Bed) (q : Option TemplateId) (x : List ℕ) (v : World) (e : Ending) (m : Res (Unit {0})) →
-      context.final ≡ end_of b (done_by m (whole_of e q x v)) →
-      Follows context (told_by b x) m (λ _ world1. context.final ≡ final (told_by b x) (Finished (captures_of b x) world1))
-  stopped_by context b q x v e (Good _ world1) is = is
-  stopped_by context b q x v e (Bad chain world1) is = is
+  -- what closes a run leaves its fault as it is
+  abbrev LeavesFaults : (Outcome → Outcome) → Type 0
+  LeavesFaults close =
+      (chain : List ErrorKind) (q : Option TemplateId) (x : List ℕ) (v : World) →
+      close (whole_of (fault chain) q x v) ≡ whole_of (fault chain) q x v
+
+  stopped_by : (context : RunContext) (b : Bed) (w : World) (close : Outcome → Outcome) → LeavesFaults close → (q : Option TemplateId)
+      (x : List ℕ) (v : World) (e : Ending) (m : Res (Unit {0})) → Gives p.host v m →
+      parents_left p.host q v ≤ parents_left p.host None w →
+      context.final ≡ end_of b (close (done_by m (whole_of e q x v))) →
+      Follows context (told_by b x) m (λ _ world1. Ended context b w close q x world1)
+  stopped_by context b w close plain q x v e (Good _ world1) k left is = (omega (arith, left, parents_kept p.host q k), is)
+  stopped_by context b w close plain q x v e (Bad chain world1) k left is = is ∙ ap (end_of b) (plain chain q x world1)
 
   -- What a run's statements come to is its end, where that is at this place.
-  end_then : (id : StreamId) (heard : Bool) (b : Bed) (out : List ℕ) (w : World) (stop : ℕ) (e : Ending) (q : Option TemplateId)
-      (x : List ℕ) (v : World) → EndingKeeps p.host w e v →
-      let context = running heard b out w (end_of b (at_end e (whole_of e q x v))) in
-      IsOver context (spot_of id b out) w stop →
-      Ends context b (whole_of e q x v) (λ q1 x1 v1. Go context (later (spot_of id b out) q1 x1) stop [] v1)
-      (Stops context b) (Stops context b)
+  end_then : (context : RunContext) (s : Spot) (w : World) (close : Outcome → Outcome) → LeavesFaults close → (stop : ℕ) (e : Ending)
+      (q : Option TemplateId) (x : List ℕ) (v : World) → EndingKeeps p.host w e v →
+      parents_left p.host q v ≤ parents_left p.host None w → context.final ≡ end_of s.bed (close (at_end e (whole_of e q x v))) →
+      IsOver context s w close stop → Ends context s.bed (whole_of e q x v) (λ q1 x1 v1. Go context (later s q1 x1) stop [] v1)
+      (Stops context s.bed w close) (Stops context s.bed w close)
   unfolding Ends
-  end_then id heard b out w stop done q x v k z = z q x v k refl
-  end_then id heard b out w stop leave q x v k z = stopped_by (running heard b out w (end_of b (at_end leave (whole_of leave q x v)))) b q
-      x v leave (tick v) refl
-  end_then id heard b out w stop next q x v k z = stopped_by (running heard b out w (end_of b (at_end next (whole_of next q x v)))) b q x
-      v next (tick v) refl
-  end_then id heard b out w stop (fault chain) q x v k z = refl
+  end_then context s w close plain stop done q x v k left is z = z q x v k (left, is)
+  end_then context s w close plain stop leave q x v k left is z =
+      stopped_by context s.bed w close plain q x v leave (tick v) (tick_gives p.host v) left is
+  end_then context s w close plain stop next q x v k left is z =
+      stopped_by context s.bed w close plain q x v next (tick v) (tick_gives p.host v) left is
+  end_then context s w close plain stop (fault chain) q x v k left is z = is ∙ ap (end_of s.bed) (plain chain q x v)
 
   -- a loop that isn't there is left, or goes on, by a jump to where the run is over
-  stops_then : (context : RunContext) (s : Spot) (w : World) (stop : ℕ) → IsOver context s w stop →
+  stops_then : (context : RunContext) (s : Spot) (w : World) (close : Outcome → Outcome) (stop : ℕ) → IsOver context s w close stop →
       (q : Option TemplateId) (x : List ℕ) (v : World) (pc : ℕ) → Kept w v →
-      slice_get (context.program.code s.run.stream) pc ≡ Some (i.Jump stop) → Stops context s.bed q x v → Go context (later s q x) pc [] v
-  stops_then context s w stop z q x v pc kept is l =
+      slice_get (context.program.code s.run.stream) pc ≡ Some (i.Jump stop) → Stops context s.bed w close q x v →
+      Go context (later s q x) pc [] v
+  stops_then context s w close stop z q x v pc kept is l =
       at context (i.Jump stop) (later s q x) pc [] v is (after_then context (told_by s.bed x) (tick v) _
       (follows_map_kept context (told_by s.bed x) v (tick v) _ _ (tick_gives _ v) l (λ _ v1 k1 e.
       silent context (told_by s.bed x) _ (z q x v1 (kept_then kept k1) e))))
@@ -253,32 +295,77 @@ module _ (p : Program) (trees : Trees) (compiled : IsUnnumbered trees p) where
     refl,
   )
 
-  -- A stream's run comes to what its tree means, where what nests does so a level below.
+  -- A stream's run comes to what its tree means, and then to what the parent's run is that waits, where what nests does so a level below.
   stream_runs : (n : ℕ) (id : StreamId) (heard : Bool) (b : Bed) (out : List ℕ) (w : World) → HasLevels p.host (suc n) w →
-      AllNested p trees n →
-      Entered p (whole id) heard b out w (nests_of p.host trees (suc n) (whole id) heard out w)
-  stream_runs n id heard b out w deep below =
+      AllNested p trees n → (f : Restarted) → Restarts id heard b out w f →
+      let u = under p.host (nests_of p.host trees n) (trees id) in
+      Entered p (whole id) heard b out w (and_parent f (stream_run u (trees id) (new_run heard w) out w))
+  stream_runs n id heard b out w deep below f again =
       let nests = nests_of p.host trees n in
       let kept_again = again_end p.host nests (nests_end p.host trees n) (trees id) (p.host.limit + 1) in
       let u : Under = under p.host nests (trees id) in
       let row = (trees id).row in
       let o = exec_all u first_numbers row (new_run heard w) out w in
-      let end = end_of b (at_end o.ending o) in
+      let end = end_of b (and_parent f (at_end o.ending o)) in
       let context = running heard b out w end in
       let s = spot_of id b out in
       let c = code_at id in
       let stop = beyond 0 c in
       let size : stop ≡ length (p.code id) = beyond_is (whole_labels c) 0 c ∙ ap (λ is. 0 + length is) (sym (coded id)) ∙ omega arith in
-      let is_over_there : IsOver context s w stop =
-      λ q x v k e. move context (later s q x) stop (length (p.code id)) [] v size (finishes id heard b out w end q x v k e) in
-      let ends = end_then id heard b out w stop o.ending o.parent o.text o.world
-      (ends_as _ w o (execs_end u (nests_end p.host trees n) kept_again first_numbers row (new_run heard w) out w)) is_over_there in
+      let is_over_there : IsOver context s w (and_parent f) stop =
+      λ q x v k e. move context (later s q x) stop (length (p.code id)) [] v size (finishes id heard b out w f again end q x v k e) in
+      let keeps = execs_end u (nests_end p.host trees n) kept_again first_numbers row (new_run heard w) out w in
+      let ends = end_then context s w (and_parent f) (λ chain q x v. refl) stop o.ending o.parent o.text o.world (ends_as _ w o keeps)
+      (ends_parents _ w o keeps) refl is_over_there in
       stmts_run (setting_of n id (base_of heard (captures_of b out) w) end below) [] first_numbers (whole_labels c) row (new_run heard w) s
-      0 [] w (Stops context b) (Stops context b) (stands_start id b out heard w) (deep_at n id heard b out w end deep) (
-        λ q x v pc k none is e. stops_then context s w stop is_over_there q x v pc k is e,
-        λ q x v pc k none is e. stops_then context s w stop is_over_there q x v pc k is e,
+      0 [] w (Stops context b w (and_parent f)) (Stops context b w (and_parent f)) (stands_start id b out heard w)
+      (deep_at n id heard b out w end deep) (
+        λ q x v pc k none is e. stops_then context s w (and_parent f) stop is_over_there q x v pc k is e,
+        λ q x v pc k none is e. stops_then context s w (and_parent f) stop is_over_there q x v pc k is e,
       )
       (stands_at id) (counts_at id) ends
+
+  -- where a run restarts it stands on what it stood on before, and begins as it did
+  same_base : (heard : Bool) (b : Bed) (out x : List ℕ) {w v : World} (s : StreamId) → Kept w v →
+      base_of heard (captures_of b x) (in_stream s v) ≡ base_of heard (captures_of b out) w
+  same_base heard b out x s k = rw (same_captures b x out, kept_frames k, k.same_escape) refl
+
+  same_run : (heard : Bool) {w v : World} (s : StreamId) → Kept w v → new_run heard (in_stream s v) ≡ new_run heard w
+  same_run heard s k = ap (λ (e : AutoEscape). record { first = e; heard = heard; inside = false; parent = None }) k.same_escape
+
+  -- what the parent's run comes to is what the restart comes to
+  restarts_as : (id : StreamId) (heard : Bool) (b : Bed) (out x : List ℕ) (w v : World) (t : TemplateId) → Kept w v →
+      (meant : Run → Outcome) →
+      Entered p (whole (root_of t)) heard b x (in_stream (root_of t) v) (meant (new_run heard (in_stream (root_of t) v))) →
+      let g = base_of heard (captures_of b out) w in
+      let c = cfg (later (spot_of id b out) (Some t) x) (length (p.code id)) [] v in
+      Leads p g (told_by b x) (step p g (restarted t c)) (end_of b (meant (new_run heard w)))
+  restarts_as id heard b out x w v t k meant h =
+      let s = root_of t in
+      let there : Base → ℕ → Run → Type 0 = λ g floor run.
+      Leads p g (told_by b x) (step p g (record { run = run_from s floor; captures = captures_of b x; world = in_stream s v }))
+      (end_of b (meant run)) in
+      let g = base_of heard (captures_of b out) w in
+      let floor = length (captures_of b x) in
+      let one : there g floor (new_run heard (in_stream s v)) =
+      subst (λ f. there f floor (new_run heard (in_stream s v))) (same_base heard b out x s k) h in
+      let two : there g floor (new_run heard w) = subst (λ run. there g floor run) (same_run heard s k) one in
+      subst (λ m. there g m (new_run heard w)) (same_captures b x out) two
+
+  -- A stream and its parents, where no more names are left than so many: each parent's was not loaded before.
+  chain_runs : (n : ℕ) → AllNested p trees n → (m : ℕ) (id : StreamId) (heard : Bool) (b : Bed) (out : List ℕ) (w : World) →
+      HasLevels p.host (suc n) w → names_left p.host w ≤ m →
+      Entered p (whole id) heard b out w (run_of p.host (nests_of p.host trees n) trees m id (new_run heard w) out w)
+  chain_runs n below zero id heard b out w deep left =
+      stream_runs n id heard b out w deep below (λ t x v. failed InvalidOperation (new_run heard w) x v) (λ t x v k few.
+      absurd (omega (arith, few, left)))
+  chain_runs n below (suc m) id heard b out w deep left =
+      let nests = nests_of p.host trees n in
+      stream_runs n id heard b out w deep below
+      (λ t x v. run_of p.host nests trees m (root_of t) (new_run heard w) x (in_stream (root_of t) v)) (λ t x v k few.
+      let v1 = in_stream (root_of t) v in
+      restarts_as id heard b out x w v t k (λ run. run_of p.host nests trees m (root_of t) run x v1)
+      (chain_runs n below m (root_of t) heard b x v1 (omega (arith, deep, kept_depth k)) (omega (arith, few, left))))
 
   -- So does the run of a macro that is there, over as many arguments as it takes.
   body_runs : (n : ℕ) (id : StreamId) (m : FoundMacro) (place : ℕ) → BodyStands (p.code id) m place → (given : List Val) →
@@ -303,17 +390,19 @@ module _ (p : Program) (trees : Trees) (compiled : IsUnnumbered trees p) where
       let l = ending_at stop in
       let setting = setting_of n id f end below in
       let deep_here = deep_at n id heard b out w end deep in
+      let close : Outcome → Outcome = λ o1. o1 in
       let is_over_there = returns id heard b out w end stop there.exit in
-      let ends = end_then id heard b out w stop o.ending o.parent o.text o.world
-      (ends_as _ w o (body_ends u nest_ends kept_again m given run out w)) is_over_there in
+      let keeps = body_ends u nest_ends kept_again m given run out w in
+      let ends = end_then context s w close (λ chain q x v. refl) stop o.ending o.parent o.text o.world (ends_as _ w o keeps)
+      (ends_parents _ w o keeps) refl is_over_there in
       parameters_run setting m.parameters given run s l place [] w many (here setting run s w deep_here) there.code.0
       (use_then context b w (take_parameters u run m.parameters given w) run out (λ _ v. exec_all u m.at m.body.row run out v)
-      (λ q x v. Go context (later s q x) stop [] v) (Stops context b) (Stops context b) _
+      (λ q x v. Go context (later s q x) stop [] v) (Stops context b w close) (Stops context b w close) _
       (take_parameters_give u nest_ends kept_again run m.parameters given w) ends (λ _ v k h.
-      stmts_run setting [] m.at l m.body.row run s start [] v (Stops context b) (Stops context b) (stands_start id b out heard w)
-      (deep_kept setting run s k deep_here) (
-        λ q x v1 pc k1 none is e. stops_then context s w stop is_over_there q x v1 pc (kept_then k k1) is e,
-        λ q x v1 pc k1 none is e. stops_then context s w stop is_over_there q x v1 pc (kept_then k k1) is e,
+      stmts_run setting [] m.at l m.body.row run s start [] v (Stops context b w close) (Stops context b w close)
+      (stands_start id b out heard w) (deep_kept setting run s k deep_here) (
+        λ q x v1 pc k1 none is e. stops_then context s w close stop is_over_there q x v1 pc (kept_then k k1) is e,
+        λ q x v1 pc k1 none is e. stops_then context s w close stop is_over_there q x v1 pc (kept_then k k1) is e,
       )
       there.code.1 there.numbered h))
 
@@ -355,7 +444,8 @@ module _ (p : Program) (trees : Trees) (compiled : IsUnnumbered trees p) where
   nests_run (suc n) (macro_of id m given) heard b out w deep within =
       macro_runs n id (slice_get (macros_in first_numbers (trees id).row) m) (slice_get (entries (p.code id)) m) (all_entered id m) given
       heard b out w deep (nests_run n)
-  nests_run (suc n) (whole id) heard b out w deep within = stream_runs n id heard b out w deep (nests_run n)
+  nests_run (suc n) (whole id) heard b out w deep within =
+      chain_runs n (nests_run n) (names_left p.host w) id heard b out w deep (omega arith)
 
   -- And so does any run that has levels enough, from any world, heard or not.
   level_runs : (n : ℕ) (k : Callee) (heard : Bool) (b : Bed) (out : List ℕ) (w : World) → HasLevels p.host (suc n) w →
@@ -363,7 +453,8 @@ module _ (p : Program) (trees : Trees) (compiled : IsUnnumbered trees p) where
   level_runs n (macro_of id m given) heard b out w deep =
       macro_runs n id (slice_get (macros_in first_numbers (trees id).row) m) (slice_get (entries (p.code id)) m) (all_entered id m) given
       heard b out w deep (nests_run n)
-  level_runs n (whole id) heard b out w deep = stream_runs n id heard b out w deep (nests_run n)
+  level_runs n (whole id) heard b out w deep =
+      chain_runs n (nests_run n) (names_left p.host w) id heard b out w deep (omega arith)
 
   -- A render's run comes to what its trees mean.
   unnumbered_render : (b : Bed) (w : World) → Entered p (whole w.stream) true b [] w (rendered p.host trees w)
@@ -442,6 +533,21 @@ same_with_levels host trees n m k heard out w enough also =
     let compiled : IsCompiled trees p = λ s. refl in
     one_end (nested_comes_to_meaning trees p n k heard [] out w compiled enough)
     (nested_comes_to_meaning trees p m k heard [] out w compiled also)
+
+-- A stream and its parents come to one end, over as many names as there are left or more.
+pub same_with_names : (host : HostValue) (trees : Trees) (n m k : ℕ) (s : StreamId) (heard : Bool) (out : List ℕ) (w : World) →
+    HasLevels host (suc n) w → names_left host w ≤ m → names_left host w ≤ k →
+    let nests = nests_of host trees n in
+    final_of (run_of host nests trees m s (new_run heard w) out w) ≡ final_of (run_of host nests trees k s (new_run heard w) out w)
+same_with_names host trees n m k s heard out w enough left also =
+    let p : Program = record { host = host; code = λ r. unnumbered_code (trees r).row } in
+    let nests = nests_of host trees n in
+    let o = run_of host nests trees m s (new_run heard w) out w in
+    let q = run_of host nests trees k s (new_run heard w) out w in
+    sym (unheard_end o.ending o.text o.world)
+    ∙ one_end (chain_runs p trees (λ r. refl) n (nests_run p trees (λ r. refl) n) m s heard air out w enough left)
+    (chain_runs p trees (λ r. refl) n (nests_run p trees (λ r. refl) n) k s heard air out w enough also)
+    ∙ unheard_end q.ending q.text q.world
 
 -- ---------------------------------------------------------------- renders
 -- A render's run comes to what its trees mean, heard by the writer or by captures.

@@ -1,10 +1,11 @@
 -- The code of statements does what they mean.
 use Rattle.std.proofs.Common.{◌≡◌, ℕ, ◌+◌, List, [], ◌∷◌, length, Option, Some, None}
-use Rattle.std.proofs.Common.{true, false, refl, sym, ap, ◌∙◌, subst, arith}
+use Rattle.std.proofs.Common.{true, false, refl, sym, subst, arith}
 use Rattle.std.specs.Prelude.{slice_get, nat_lt, codes}
 use Rattle.tm_values.specs.Val.{Val, undefined, boolean}
-use Rattle.tm_syntax.specs.declared.tree.Stmt.{Stmt, EmitRaw, EmitExpr, EmitLoop, If', For', Break, Continue, Block', Set, CaptureBlock'}
-use Rattle.tm_syntax.specs.declared.tree.Stmt.{With', Do, AutoEscape', Macro', CallBlock', Row_of-Stmt, end_of-Stmt as no_statement}
+use Rattle.tm_syntax.specs.declared.tree.Stmt.{Stmt, EmitRaw, EmitExpr, EmitLoop, EmitBlock, EmitSuper, If', For', Break, Continue, Block'}
+use Rattle.tm_syntax.specs.declared.tree.Stmt.{Extends, Set, CaptureBlock', With', Do, AutoEscape', Macro', CallBlock', Row_of-Stmt}
+use Rattle.tm_syntax.specs.declared.tree.Stmt.{end_of-Stmt as no_statement}
 use Rattle.tm_syntax.specs.declared.tree.AssignmentTarget.{Name as To}
 use Rattle.tm_syntax.specs.declared.tree.Stmt.{more_of-Stmt as statement, Held-Stmt-If-2 as Otherwise, None' as no_else}
 use Rattle.tm_syntax.specs.declared.tree.Stmt.{Some' as otherwise}
@@ -21,7 +22,8 @@ use Rattle.tm_syntax.specs.declared.opened.Opened.TheVariants.{Scope as a_scope,
 use Rattle.tm_meaning.specs.World.{choose, World, Loop, loop_scope, new_loop, open_loop}
 use Rattle.tm_meaning.specs.World.{tick, depth, push, pop, plain_scope}
 use Rattle.tm_meaning.specs.World.{answered, escape_for, with_escape, captured_text}
-use Rattle.tm_meaning.specs.Calls.{call_innermost}
+use Rattle.tm_meaning.specs.Inheritance.{load}
+use Rattle.tm_meaning.specs.Calls.{call_innermost, enter_super}
 use Rattle.tm_meaning.specs.Meaning.{Run}
 use Rattle.tm_meaning.specs.Meaning.{Under, so_far, say, use_it}
 use Rattle.tm_meaning.specs.Operators.{truth}
@@ -31,7 +33,7 @@ use Rattle.tm_meaning.specs.Meaning.{filtered, set_to, set_each, capturing}
 use Rattle.tm_meaning.specs.Meaning.{rounds, loop_over, has_none, exec_behind_loop, behind_first, exec, exec_all}
 use Rattle.tm_meaning.specs.Meaning.{exec_else, declared, assign, call, with_caller}
 use Rattle.tm_meaning.specs.Machine.{after, goes}
-use Rattle.tm_meaning.specs.Instructions.{replacing}
+use Rattle.tm_meaning.specs.Instructions.{replacing, awaiting}
 use Rattle.tm_meaning.specs.Instructions.{looping}
 use Rattle.tm_simulation.specs.Kept.{shapes}
 use Rattle.tm_syntax.specs.Loops.{Numbers, loops_before, passes, within_loop, past, pasts}
@@ -45,7 +47,8 @@ use Rattle.tm_simulation.proofs.Advances.{Kept, kept_top, kept_frames, kept_same
 use Rattle.tm_simulation.proofs.Advances.{mark_behind, in_loop_of, opened, opened_kept, within}
 use Rattle.tm_simulation.proofs.Gives.{loop_ends, tick_gives}
 use Rattle.tm_simulation.proofs.Asks.{escape_gives}
-use Rattle.tm_simulation.proofs.Asks.{innermost_asks}
+use Rattle.tm_simulation.proofs.Asks.{innermost_asks, super_asks}
+use Rattle.tm_simulation.proofs.Loads.{load_does, load_gives}
 use Rattle.tm_simulation.proofs.Evaluates.{eval_gives}
 use Rattle.tm_simulation.proofs.Evaluates.{loop_items_give}
 use Rattle.tm_simulation.proofs.Evaluates.{filtered_gives, set_gives, set_each_gives, assign_gives}
@@ -56,14 +59,15 @@ use Rattle.tm_simulation.proofs.Follow.{opened_then, told_by, Spot, told, cfg}
 use Rattle.tm_simulation.proofs.Follow.{later, Then, Ends, use_then, so_far_then}
 use Rattle.tm_simulation.proofs.Follow.{do_then, within_then, Closed, closed_then, captured_in, Dropped, captured_then}
 use Rattle.tm_simulation.proofs.Follow.{Go, silent, at, after_then, choose_ends}
-use Rattle.tm_simulation.proofs.Forms.{Stands, writes_then}
+use Rattle.tm_simulation.proofs.Forms.{Stands, inside_is, writes_then}
 use Rattle.tm_meaning.specs.declared.stream.TemplateId.{TemplateId}
 use Rattle.tm_simulation.proofs.Levels.{Deep, Setting, as_at, deep_escaped, deep_kept, deep_later, deep_within, here, meaning, nest_ends}
 use Rattle.tm_simulation.proofs.Levels.{placed_then, stands_later}
 use Rattle.tm_simulation.proofs.Arguments.{In}
 use Rattle.tm_simulation.proofs.Expressions.{expr_runs}
 use Rattle.tm_simulation.proofs.Targets.{Around, StmtsRun, around_capture, around_escape, around_kept, around_scope, emit_then, filters_run}
-use Rattle.tm_simulation.proofs.Targets.{ended_then, popped_then, set_runs, sets_run, stands_captured, tag_then, target_runs, tested_then}
+use Rattle.tm_simulation.proofs.BlockTags.{ended_then, stands_captured, tag_then}
+use Rattle.tm_simulation.proofs.Targets.{popped_then, set_runs, sets_run, target_runs, tested_then}
 use Rattle.tm_simulation.proofs.Targets.{used_then}
 use Rattle.tm_simulation.proofs.Macros.{declared_then}
 use Rattle.tm_simulation.proofs.CallTags.{caller_runs, call_then}
@@ -158,8 +162,28 @@ module _ (setting : Setting) where
         (leave_then context s.bed (as_at run s) s.out w _ L N h)
     stmt_runs os numbers Continue run s l pc stack w L N fits d j is nth h = j.1 s.parent s.out w pc (kept_same w) is.0 is.1
         (next_then context s.bed (as_at run s) s.out w _ L N h)
-    stmt_runs os numbers (Block' b _ body) run s l pc stack w L N fits d j is nth h = tag_then setting run s pc b stack w _ L N fits d is.0
-        h (λ q1 out1 world1 g. g)
+    stmt_runs os numbers (Block' b required _ body) run s l pc stack w L N fits d j is nth h =
+        tag_then setting run s pc b stack w _ L N fits d is.0 h (λ q1 out1 world1 g. g)
+    stmt_runs os numbers (EmitBlock b) run s l pc stack w L N fits d j is nth h =
+        tag_then setting run s pc b stack w _ L N fits d is.0 h (λ q1 out1 world1 g. g)
+    stmt_runs os numbers EmitSuper run s l pc stack w L N fits d j is nth h =
+        at context i.FastSuper s pc stack w is.0 (after_then context (told s) (tick w) _
+        (use_then context s.bed w (tick w) (as_at run s) s.out _ _ L N _ (tick_gives _ w) h (λ _ world1 k1 h1.
+        placed_then setting run s pc stack stack world1 world1 (enter_super context.program.host world1) _ L N fits.2
+        (super_asks context.program.host world1) (deep_kept setting run s k1 d) h1 (λ q1 out1 world2 g. g))))
+    stmt_runs os numbers (Extends e) run s l pc stack w L N fits d j is nth h =
+        expr_runs setting e (as_at run s) s l pc stack w (here setting run s w d) is.0
+        (use_then context s.bed w (eval u (as_at run s) e w) (as_at run s) s.out _ _ L N _
+        (eval_gives u (nest_ends setting) again_kept (as_at run s) e w) h (λ v world1 k1 h1.
+        let host = context.program.host in
+        let c = cfg s (beyond pc (expr_code e)) (v ∷ stack) world1 in
+        at context i.LoadBlocks s _ (v ∷ stack) world1 is.1.0
+        (subst (λ b. LeadsToEnd context (told s) (after (load host v s.parent b world1) (λ t x. goes stack x (awaiting t c))))
+        (sym (inside_is context.base run s.bed s.out fits.2))
+        (after_then context (told s) (load host v s.parent run.inside world1) _
+        (use_then context s.bed world1 (load host v s.parent run.inside world1) (as_at run s) s.out _ _ L N _
+        (load_gives host s.parent world1 _ (load_does host v s.parent run.inside world1)) h1 (λ t world2 k2 h2.
+        silent context (told s) _ (so_far_then context s.bed (record run { parent = Some t }) s.out world2 _ L N h2)))))))
     stmt_runs os numbers (Set t e) run s l pc stack w L N fits d j is nth h =
         set_runs setting t e (as_at run s) s l pc stack w (here setting run s w d) is
         (use_then context s.bed w (set_to u (as_at run s) t e w) (as_at run s) s.out _ _ L N _

@@ -23,17 +23,15 @@ use Rattle.tm_syntax.specs.declared.opened.Opened.TheVariants.{Scope as a_scope,
 use Rattle.tm_meaning.specs.World.{choose, World}
 use Rattle.tm_meaning.specs.World.{top_mark, tick, pop, plain_scope}
 use Rattle.tm_meaning.specs.World.{unpacked_items, set_member, emitted, with_escape, captured_text}
-use Rattle.tm_meaning.specs.Calls.{enter_block}
 use Rattle.tm_meaning.specs.Meaning.{Run, Outcome}
-use Rattle.tm_meaning.specs.Meaning.{Under, so_far, say, use_it, in_place_of, block_tag}
+use Rattle.tm_meaning.specs.Meaning.{Under, say, use_it}
 use Rattle.tm_meaning.specs.Operators.{truth}
-use Rattle.tm_meaning.specs.Meaning.{audible as heard_here}
-use Rattle.tm_meaning.specs.Meaning.{none_waits, eval, eval_step, filtered, use_text}
-use Rattle.tm_meaning.specs.Meaning.{assign, assign_all, set_to, set_each, capturing}
+use Rattle.tm_meaning.specs.Meaning.{eval, eval_step, filtered, use_text}
+use Rattle.tm_meaning.specs.Meaning.{assign, assign_all, set_to, set_each}
 use Rattle.tm_meaning.specs.Meaning.{emit, exec_all}
-use Rattle.tm_meaning.specs.Machine.{goes, asked_in_place}
+use Rattle.tm_meaning.specs.Machine.{goes}
 use Rattle.tm_meaning.specs.Machine.{stuck}
-use Rattle.tm_meaning.specs.Instructions.{end_capture_of, is_no_loop}
+use Rattle.tm_meaning.specs.Instructions.{is_no_loop}
 use Rattle.tm_syntax.proofs.Standing.{HasAt}
 use Rattle.tm_syntax.specs.Loops.{Numbers}
 use Rattle.tm_simulation.proofs.Counts.{Counts}
@@ -41,7 +39,7 @@ use Rattle.tm_simulation.proofs.Advances.{Kept, kept_top, kept_frames, kept_then
 use Rattle.tm_simulation.proofs.Advances.{within}
 use Rattle.tm_simulation.proofs.Advances.{kept_unescaped}
 use Rattle.tm_simulation.proofs.Gives.{tick_gives}
-use Rattle.tm_simulation.proofs.Asks.{unpacked_gives, emitted_gives, block_asks}
+use Rattle.tm_simulation.proofs.Asks.{unpacked_gives, emitted_gives}
 use Rattle.tm_simulation.proofs.Evaluates.{eval_gives, step_gives}
 use Rattle.tm_simulation.proofs.Evaluates.{assign_gives, set_gives, truth_gives}
 use Rattle.tm_simulation.proofs.Follow.{LeadsToEnd, follows_map_kept}
@@ -49,11 +47,12 @@ use Rattle.tm_simulation.proofs.Follow.{captures_of, told_by, Spot, told, cfg}
 use Rattle.tm_simulation.proofs.Follow.{later, Follows, Then, Ends, follows_map, bind_then, use_then, so_far_then}
 use Rattle.tm_simulation.proofs.Follow.{Closed, captured_in, Dropped}
 use Rattle.tm_simulation.proofs.Follow.{Go, silent, at, after_then, choose_ends}
-use Rattle.tm_simulation.proofs.Forms.{Stands, fits_captured, audible_is, writes_then}
+use Rattle.tm_simulation.proofs.Forms.{Stands, writes_then}
 use Rattle.tm_meaning.specs.declared.stream.TemplateId.{TemplateId}
 use Rattle.tm_simulation.proofs.Operands.{bind_long, items_long}
-use Rattle.tm_simulation.proofs.Levels.{Deep, Here, Setting, as_at, deep_kept, here, here_kept, meaning, nest_ends, placed_then}
+use Rattle.tm_simulation.proofs.Levels.{Deep, Here, Setting, as_at, here, here_kept, meaning, nest_ends}
 use Rattle.tm_simulation.proofs.Arguments.{In}
+use Rattle.tm_simulation.proofs.BlockTags.{ended_then}
 use Rattle.tm_simulation.proofs.Expressions.{expr_runs, step_runs}
 
 abbrev escaping : Spot → AutoEscape → Spot
@@ -148,21 +147,6 @@ module _ (setting : Setting) where
       (subst (λ b. LeadsToEnd context (told s) (choose b (λ _. goes stack (pop w) (cfg s pc stack w)) (λ _. stuck w)))
       (sym b) (silent context (told s) _ g))
 
-  -- A capture above the run's floor is ended, and its text pushed.
-  pub ended_then : (s : Spot) (q : Option TemplateId) (x : List ℕ) (pc : ℕ) (stack : List Val) (w : World) →
-      s.run.floor < suc (length (captures_of s.bed s.out)) →
-      Go context (later s q s.out) (pc + 1) (captured_text x w ∷ stack) w →
-      LeadsToEnd context (told s) (end_capture_of (cfg (later (record s { bed = captured_in s.bed s.out; out = [] }) q x) pc stack w))
-  ended_then s q x pc stack w stands g =
-      subst (λ b. LeadsToEnd context (told s) (choose b (λ _. goes (captured_text x w ∷ stack) w (cfg (later s q s.out) pc stack w))
-      (λ _. stuck w)))
-      (sym (lt-ltb s.run.floor (suc (length (captures_of s.bed s.out))) stands)) (silent context (told s) _ g)
-
-  -- a run in a capture of its own
-  pub stands_captured : (run : Run) (s : Spot) → Stands context.base run s →
-      Stands context.base (capturing true run) (record s { bed = captured_in s.bed s.out; out = [] })
-  stands_captured run s stands = (stands.0, omega (arith, stands.1), fits_captured context.base run s.bed s.out stands.2)
-
   -- what is emitted
   pub emit_then : (run : Run) (s : Spot) (pc : ℕ) (v : Val) (stack : List Val) (w : World) (D L N : Then) → Stands context.base run s →
       slice_get (context.program.code s.run.stream) pc ≡ Some i.Emit →
@@ -189,26 +173,6 @@ module _ (setting : Setting) where
       (use_then context s.bed w (assign u (as_at run s) t v w) (as_at run s) s.out _ _ L N _
       (assign_gives u (nest_ends setting) again_kept (as_at run s) t v w) h (λ _ world1 k h1.
       so_far_then context s.bed (as_at run s) s.out world1 _ L N h1))
-
-  -- a block's tag: where it is heard the block is run in place, and else nothing is
-  pub tag_then : (run : Run) (s : Spot) (pc : ℕ) (b : List ℕ) (stack : List Val) (w : World) (D L N : Then) → Stands context.base run s →
-      Deep setting run s w → slice_get (context.program.code s.run.stream) pc ≡ Some (i.CallBlock b) →
-      Ends context s.bed (use_it (tick w) (as_at run s) s.out (λ _ world1. block_tag u (as_at run s) b s.out world1)) D L N →
-      ((q1 : Option TemplateId) (out1 : List ℕ) (world1 : World) → D q1 out1 world1 → Go context (later s q1 out1) (pc + 1) stack world1)
-      → Go context s pc stack w
-  tag_then run s pc b stack w D L N fits d e h g =
-      at context (i.CallBlock b) s pc stack w e (after_then context (told s) (tick w) _
-      (use_then context s.bed w (tick w) (as_at run s) s.out _ D L N _ (tick_gives _ w) h (λ _ world1 k h1.
-      subst (λ x. LeadsToEnd context (told s) (choose (none_waits s.parent && x)
-      (λ _. asked_in_place context.program context.base (cfg s pc stack world1) stack (enter_block context.program.host b world1))
-      (λ _. goes stack world1 (cfg s pc stack world1))))
-      (sym (audible_is context.base (as_at run s) s.run s.parent s.bed s.out pc stack world1 refl fits.2))
-      (choose_ends context (none_waits s.parent && heard_here (as_at run s))
-      (in_place_of u (as_at run s) s.out (enter_block context.program.host b world1)) (so_far (as_at run s) s.out world1) _ _ (told s)
-      s.bed D L N h1
-      (λ h2. placed_then setting run s pc stack stack world1 world1 (enter_block context.program.host b world1) D L N fits.2
-      (block_asks context.program.host b world1) (deep_kept setting run s k d) h2 g)
-      (λ h2. silent context (told s) _ (g s.parent s.out world1 (so_far_then context s.bed (as_at run s) s.out world1 D L N h2)))))))
 
   -- A value's truth is asked, and what stands at the jump's place follows where it is false.
   pub tested_then : (run : Run) (s : Spot) (pc to : ℕ) (v : Val) (stack : List Val) (w : World) (first second : World → Outcome)
@@ -278,7 +242,7 @@ module _ (setting : Setting) where
       at context i.EndCapture (later (record s { bed = captured_in s.bed s.out; out = [] }) q x) pc stack v is.0
       (after_then context (told s) (tick v) _
       (follows_map_kept context (told s) v (tick v) _ _ (tick_gives _ v) l (λ _ world1 k1 left_first.
-      ended_then s q x pc stack world1 stands
+      ended_then setting s q x pc stack world1 stands
       (at context i.DiscardTop (later s q s.out) (pc + 1) (captured_text x world1 ∷ stack) world1 is.1.0
       (silent context (told s) _ (j q s.out world1 (pc + 1 + 1) (kept_then h k1) is.1.1 there left_first))))))
 

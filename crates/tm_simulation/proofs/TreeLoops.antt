@@ -9,7 +9,7 @@ use Rattle.tm_syntax.specs.declared.tree.UnaryOperator.{UnaryOperator}
 use Rattle.tm_syntax.specs.declared.tree.UnaryOperator.TheVariants as unaries
 use Rattle.tm_syntax.specs.declared.tree.BinaryOperator.{BinaryOperator}
 use Rattle.tm_syntax.specs.declared.tree.BinaryOperator.TheVariants as binaries
-use Rattle.tm_syntax.specs.declared.tree.Expr.{Expr, Var, Const, List', Tuple', Map', Call', Row_of-Expr, end_of-Expr as no_expr}
+use Rattle.tm_syntax.specs.declared.tree.Expr.{Expr, Var, Const, List', Tuple', Map', Call', SelfBlock, Row_of-Expr, end_of-Expr as no_expr}
 use Rattle.tm_syntax.specs.declared.tree.Expr.{more_of-Expr as expr, Row_of-Pair, end_of-Pair as no_pair}
 use Rattle.tm_syntax.specs.declared.tree.Expr.{Row_of-Argument, end_of-Argument as no_argument, more_of-Argument as argument}
 use Rattle.tm_syntax.specs.declared.tree.Expr.{Row_of-Keyword, end_of-Keyword as no_keyword, more_of-Keyword as keyword_and, Row_of-Step}
@@ -28,8 +28,9 @@ use Rattle.tm_syntax.specs.declared.tree.Assignment.{Assignment}
 use Rattle.tm_syntax.specs.declared.tree.Parameter.{Parameter}
 use Rattle.tm_syntax.specs.declared.tree.CaptureUse.{CaptureUse}
 use Rattle.tm_syntax.specs.declared.tree.CaptureUse.TheVariants as uses
-use Rattle.tm_syntax.specs.declared.tree.Stmt.{Stmt, EmitRaw, EmitExpr, EmitLoop, If', For', Break, Continue, Block', Set, CaptureBlock'}
-use Rattle.tm_syntax.specs.declared.tree.Stmt.{With', Do, AutoEscape', Macro', CallBlock', Row_of-Stmt, end_of-Stmt as no_statement}
+use Rattle.tm_syntax.specs.declared.tree.Stmt.{Stmt, EmitRaw, EmitExpr, EmitLoop, EmitBlock, EmitSuper, If', For', Break, Continue, Block'}
+use Rattle.tm_syntax.specs.declared.tree.Stmt.{Extends, Set, CaptureBlock', With', Do, AutoEscape', Macro', CallBlock', Row_of-Stmt}
+use Rattle.tm_syntax.specs.declared.tree.Stmt.{end_of-Stmt as no_statement}
 use Rattle.tm_syntax.specs.declared.tree.Stmt.{more_of-Stmt as statement, Held-Stmt-If-2 as Otherwise, None' as no_else}
 use Rattle.tm_syntax.specs.declared.tree.Stmt.{Some' as otherwise}
 use Rattle.tm_syntax.specs.declared.opened.Opened.{Opened}
@@ -37,13 +38,13 @@ use Rattle.tm_syntax.specs.declared.opened.Opened.TheVariants.{Scope as a_scope,
 use Rattle.tm_syntax.specs.Forms.{unary, chained, conditional, with_condition, with_comparison, with_pair, plain, spread, keyword}
 use Rattle.tm_syntax.specs.Forms.{spread_keywords, item, slice, binary, compare, and_then, or_else}
 use Rattle.tm_syntax.specs.Code.{unary_code, binary_code, application_code, passed_count, merging, passing_by, close_all, for_flags}
-use Rattle.tm_syntax.specs.Code.{RowEnd, row_end, caller_end, passing_code, step_call_code, steps_call_code, call_code, called_alone}
+use Rattle.tm_syntax.specs.Code.{row_end, caller_end, passing_code, step_call_code, steps_call_code, call_code, called_alone}
 use Rattle.tm_syntax.specs.Code.{together}
 use Rattle.tm_syntax.specs.Code.{list_of_row, map_of_row, merged_code, has_spread, has_spread_keyword, row_behind, keywords_behind}
 use Rattle.tm_syntax.specs.Blocks.{body_of}
 use Rattle.tm_syntax.specs.Loops.{Numbers, FoundLoop, FoundMacro, with_pass, within_loop, within_macro, passes, past, pasts, past_else}
 use Rattle.tm_syntax.specs.Loops.{loops_of, loops_in, loops_else, macros_of, macros_in, macros_else}
-use Rattle.tm_syntax.specs.Fragments.{Fragment, straight, ◌⨾◌, looped, declares, Labels, beyond}
+use Rattle.tm_syntax.specs.Fragments.{Fragment, straight, ◌⨾◌, looped, Labels, beyond}
 use Rattle.tm_syntax.specs.Names.{parameter_names}
 use Rattle.tm_syntax.specs.declared.jump.JumpKind.TheVariants.{IfFalse}
 use Rattle.tm_syntax.specs.Code.{expr_code, conditions_code, exprs_code, pairs_code, argument_code}
@@ -104,6 +105,7 @@ mutual
             (lists_loopless 0 given _ _ by_name),
         (refl, tt),
       )
+  expr_loopless (SelfBlock x) = (refl, (refl, (refl, tt)))
   expr_loopless (unary op a) = (expr_loopless a, unary_loopless op)
   expr_loopless (chained a _ ss) = (expr_loopless a, steps_loopless ss)
   expr_loopless (conditional a _ cs) = conditions_loopless cs (expr_code a) (expr_loopless a)
@@ -347,7 +349,10 @@ mutual
       other)
   statement_begins os at Break = none_begin at (statement_code os Break) (closed_loopless os, tt)
   statement_begins os at Continue = none_begin at (statement_code os Continue) (closed_loopless os, tt)
-  statement_begins os at (Block' x _ body) = none_begin at (straight (i.CallBlock x ∷ [])) (refl, tt)
+  statement_begins os at (Block' x required _ body) = none_begin at (straight (i.CallBlock x ∷ [])) (refl, tt)
+  statement_begins os at (EmitBlock x) = none_begin at (statement_code os (EmitBlock x)) (refl, tt)
+  statement_begins os at EmitSuper = none_begin at (statement_code os EmitSuper) (refl, tt)
+  statement_begins os at (Extends e) = none_begin at (statement_code os (Extends e)) (expr_loopless e, (refl, tt))
   statement_begins os at (Set t e) = none_begin at (set_code t e) (expr_loopless e, target_loopless t)
   statement_begins os at (CaptureBlock' u filters _ body) =
       after_none (straight _) (refl, tt) (before_none (straight (i.EndCapture ∷ []) ⨾ filters_code filters ⨾ use_code u)

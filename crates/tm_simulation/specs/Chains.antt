@@ -22,6 +22,7 @@ is_raised kinds.UnknownTest = true
 is_raised kinds.UnknownFunction = true
 is_raised kinds.UnknownMethod = true
 is_raised kinds.UnknownBlock = true
+is_raised kinds.TemplateNotFound = true
 is_raised kinds.UndefinedError = true
 is_raised kinds.CannotUnpack = true
 is_raised kinds.BadSerialization = true
@@ -36,7 +37,8 @@ pub data IsObject (host : HostValue) (f : Object) : Type 0 where
   is_test : (x : List ℕ) → find x host.tests ≡ Some f → IsObject host f
   is_method : (v : Val) (x : List ℕ) → method_object host.unknown_method v x ≡ Some f → IsObject host f
 
--- A chain arises in a render: it raises a kind, a kind wraps a chain that arises, or an object of the caller states it.
+-- A chain arises in a render: it raises a kind, a kind wraps a chain that arises, or an object of the caller states it, or its formatter,
+-- or what joins the names of templates.
 pub data Arises (host : HostValue) : List ErrorKind → Type 0 where
   raised : {kind : ErrorKind} → is_raised kind ≡ true → Arises host (kind ∷ [])
   wrapped : {kind : ErrorKind} {chain : List ErrorKind} → is_wrapping kind ≡ true → Arises host chain → Arises host (kind ∷ chain)
@@ -44,6 +46,7 @@ pub data Arises (host : HostValue) : List ErrorKind → Type 0 where
       IsObject host f → (f args view).reply ≡ faults chain → Arises host chain
   by_formatter : {chain : List ErrorKind} (f : Format) (v : Val) (view : View) →
       host.formatter ≡ Some f → f v view ≡ Err chain → Arises host chain
+  by_join : {chain : List ErrorKind} (name parent : List ℕ) → host.join name parent ≡ Err chain → Arises host chain
 
 -- a property of a chain, where there is one
 abbrev pub IfAny : (List ErrorKind → Type 0) → List ErrorKind → Type 0
@@ -82,17 +85,22 @@ abbrev pub FormatterStates : (List ErrorKind → Type 0) → Option Format → T
 FormatterStates Has None = Unit {0}
 FormatterStates Has (Some f) = (v : Val) (view : View) → AnswersOnly Has (f v view)
 
+abbrev pub JoinStates : (List ErrorKind → Type 0) → (List ℕ → List ℕ → Answer (List ℕ)) → Type 0
+JoinStates Has join = (name parent : List ℕ) → AnswersOnly Has (join name parent)
+
 -- The same of the object of a name.
 abbrev pub NamedStates : (List ErrorKind → Type 0) → List ℕ × Object → Type 0
 NamedStates Has named = ObjectStates Has named.1
 
--- The functions, the filters, the tests, the method object and the formatter of the caller state only faults that have the property.
+-- The functions, the filters, the tests, the method object and the formatter of the caller, and what joins names, state only faults that
+-- have the property.
 pub record StatesOnly (Has : List ErrorKind → Type 0) (host : HostValue) : Type 0 where
   pub functions : All (FunctionStates Has) host.functions
   pub filters : All (NamedStates Has) host.filters
   pub tests : All (NamedStates Has) host.tests
   pub unknown_method : FallbackStates Has host.unknown_method
   pub formatter : FormatterStates Has host.formatter
+  pub join : JoinStates Has host.join
 
 -- ---------------------------------------------------------------- out of memory
 -- the last kind is OutOfMemory
@@ -105,7 +113,7 @@ ends_in_memory (k ∷ c ∷ cs) = ends_in_memory (c ∷ cs)
 abbrev pub MayWrap : ErrorKind → Type 0
 MayWrap kind = (kind ≡ kinds.EvalBlock) ⊎ (kind ≡ kinds.BadInclude) ⊎ (kind ≡ kinds.InvalidOperation)
 
--- No object and no formatter of the caller states a fault that ends in OutOfMemory.
+-- No object and no formatter of the caller, nor what joins names, states a fault that ends in OutOfMemory.
 abbrev pub StatesNoMemory : HostValue → Type 0
 StatesNoMemory host = StatesOnly (λ chain. ends_in_memory chain ≡ false) host
 

@@ -1,6 +1,7 @@
 -- What runs keep of their world.
-use Rattle.std.specs.Prelude.{◌≡◌, ◌≤◌, List, [], ◌∷◌, ◌++◌, length, None, Some, ℕ}
-use Rattle.tm_meaning.specs.World.{World, Loop, Scope, Named, Layers, find}
+use Rattle.std.specs.Prelude.{◌≡◌, ◌≤◌, ◌⊎◌, List, [], ◌∷◌, ◌++◌, length, None, Some, ℕ}
+use Rattle.tm_meaning.specs.World.{World, Loop, Scope, Named, Layers, find, root_of}
+use Rattle.tm_meaning.specs.declared.stream.StreamId.{StreamId}
 use Rattle.tm_meaning.specs.declared.stream.TemplateId.{TemplateId}
 use Rattle.tm_meaning.specs.Meaning.{Ending, fault, Outcome}
 
@@ -37,6 +38,10 @@ BlocksGrow old new =
     (x : List ℕ) (l : Layers) → find x old ≡ Some l →
     (more : List TemplateId) × (find x new ≡ Some (record l { templates = l.templates ++ more }))
 
+-- The names that were loaded are there still, and perhaps more behind them.
+abbrev pub NamesGrow : List (List ℕ) → List (List ℕ) → Type 0
+NamesGrow old new = (more : List (List ℕ)) × (new ≡ old ++ more)
+
 -- The state is the same one, with the fuel that was set, and no fuel comes back, and its scopes lie over those that stood, however the
 -- run ends.
 -- Where that is no fault they are those that stood, but for the names of the innermost one and the closure that was made in it.
@@ -57,14 +62,19 @@ pub record Grows (old : World) (o : Outcome) : Type 0 where
   pub closures : length old.closures ≤ length o.world.closures
   pub streams : length old.streams ≤ length o.world.streams
   pub temps : length old.temps ≤ length o.world.temps
-  pub loaded : length old.loaded ≤ length o.world.loaded
+  pub loaded : NamesGrow old.loaded o.world.loaded
   pub blocks : BlocksGrow old.blocks o.world.blocks
   pub same_block : o.world.block ≡ old.block
   pub same_escape : UnlessFault o.ending (o.world.escape ≡ old.escape)
 
--- What a call replaced is put back: the scopes, the stream, the block and the escape.
+-- A run ends in this stream, or in the root of a template.
+abbrev pub EndsThere : StreamId → Outcome → Type 0
+EndsThere stream o = (o.world.stream ≡ stream) ⊎ ((t : TemplateId) × (o.world.stream ≡ root_of t))
+
+-- What a call replaced is put back: the scopes, the stream, the block and the escape, and each list of blocks is at its place.
 pub record PutsBack (old new : World) : Type 0 where
   pub same_scopes : new.scopes ≡ old.scopes
   pub same_stream : new.stream ≡ old.stream
   pub same_block : new.block ≡ old.block
   pub same_escape : new.escape ≡ old.escape
+  pub same_places : BlocksGrow old.blocks new.blocks

@@ -2,19 +2,23 @@
 //! nothing, and their contracts say what is proved.
 #![tactic(auto)]
 
-ghost use Rattle.std.specs.Prelude.{◌≡◌, ◌++◌, ℕ, suc, List, [], ◌∷◌, Bool, true, false};
+ghost use Rattle.std.specs.Prelude.{◌≡◌, ◌≤◌, ◌++◌, ℕ, None, suc, List, [], ◌∷◌, Bool, true, false};
 ghost use Rattle.tm_values.specs.declared.error.ErrorKind.{ErrorKind};
 ghost use Rattle.tm_values.specs.declared.error.ErrorKind.TheVariants as kinds;
 ghost use Rattle.std.specs.List.{All};
 ghost use Rattle.tm_meaning.specs.Memory.{is_want_of_memory};
-ghost use Rattle.tm_meaning.specs.World.{HostValue, World};
-ghost use Rattle.tm_meaning.specs.Calls.{Callee};
+ghost use Rattle.tm_values.specs.Val.{Val};
+ghost use Rattle.tm_meaning.specs.World.{Good, HostValue, World};
+ghost use Rattle.tm_meaning.specs.declared.stream.StreamId.{StreamId};
+ghost use Rattle.tm_meaning.specs.declared.stream.TemplateId.{TemplateId};
+ghost use Rattle.tm_meaning.specs.Inheritance.{load, names_left};
+ghost use Rattle.tm_meaning.specs.Calls.{Callee, enter_super};
 ghost use Rattle.tm_meaning.specs.Tree.{Body, Trees};
-ghost use Rattle.tm_meaning.specs.Meaning.{Run, block_tag, chain_of, nests_of, rendered, under};
+ghost use Rattle.tm_meaning.specs.Meaning.{Run, block_tag, chain_of, in_place_of, nests_of, new_run, rendered, run_of, under};
 ghost use Rattle.tm_meaning.specs.Machine.{Program, Capture, Stuck};
 ghost use Rattle.tm_meaning.specs.Steps.{Final, final};
 ghost use Rattle.tm_meaning.specs.Compiled.{IsCompiled};
-ghost use Rattle.tm_simulation.specs.Kept.{Stays, Grows, PutsBack};
+ghost use Rattle.tm_simulation.specs.Kept.{Stays, Grows, EndsThere, PutsBack};
 ghost use Rattle.tm_simulation.specs.Chains.{Arises, IfAny, HasRaised, StatesOnly};
 ghost use Rattle.tm_simulation.specs.Chains.{StatesNoMemory, ends_in_memory, MayWrap, is_foreign, HasNoForeign};
 ghost use Rattle.tm_simulation.specs.Reached.{RunsTo, Renders, HasLevels};
@@ -54,6 +58,23 @@ pub fn levels_change_no_meaning()
         final_of (nests_of host trees (suc m) k heard out w) }
 {}
 
+/// Nor does it matter how many parents a stream may ask for, where that is as many as there are
+/// names left to be loaded.
+pub fn names_change_no_meaning()
+    ensures { (host : HostValue) (trees : Trees) (n m k : ℕ) (s : StreamId) (heard : Bool)
+        (out : List ℕ) (w : World) → HasLevels host (suc n) w →
+        names_left host w ≤ m → names_left host w ≤ k →
+        let nests = nests_of host trees n in
+        final_of (run_of host nests trees m s (new_run heard w) out w) ≡
+        final_of (run_of host nests trees k s (new_run heard w) out w) }
+{}
+
+/// A parent that is given leaves a name fewer to be loaded, so every run ends.
+pub fn a_parent_leaves_a_name_fewer()
+    ensures { (host : HostValue) (v : Val) (inside : Bool) (w left : World) (t : TemplateId) →
+        load host v None inside w ≡ Good t left → suc (names_left host left) ≤ names_left host w }
+{}
+
 /// The code of trees is never stuck.
 pub fn code_is_never_stuck()
     ensures { (trees : Trees) (p : Program) (w left : World) (got : List ℕ) → IsCompiled trees p →
@@ -78,17 +99,27 @@ pub fn a_render_loses_nothing()
     ensures { (host : HostValue) (trees : Trees) (w : World) → Grows w (rendered host trees w) }
 {}
 
-/// A render ends in the stream in which it began, also where it ends in a fault.
-pub fn a_render_ends_in_its_stream()
+/// A render ends in the stream in which it began, or in the root of a parent, also where it ends in
+/// a fault.
+pub fn a_render_ends_in_its_stream_or_a_root()
     ensures { (host : HostValue) (trees : Trees) (w : World) →
-        (rendered host trees w).world.stream ≡ w.stream }
+        EndsThere w.stream (rendered host trees w) }
 {}
 
-/// Whatever its run comes to, also a fault, a block's tag leaves the scopes, the stream, the block and the escape as they were before it.
+/// Whatever its run comes to, also a fault, a block's tag leaves the scopes, the stream, the block and the escape as they were before it,
+/// and each list of blocks at its place.
 pub fn a_block_puts_back_what_it_replaced()
     ensures { (host : HostValue) (trees : Trees) (n : ℕ) (body : Body) (run : Run) (b : List ℕ)
         (out : List ℕ) (w : World) →
         PutsBack w (block_tag (under host (nests_of host trees n) body) run b out w).world }
+{}
+
+/// So does `super()`.
+pub fn a_super_puts_back_what_it_replaced()
+    ensures { (host : HostValue) (trees : Trees) (n : ℕ) (body : Body) (run : Run) (out : List ℕ)
+        (w : World) →
+        let u = under host (nests_of host trees n) body in
+        PutsBack w (in_place_of u run out (enter_super host w)).world }
 {}
 
 /// The chain of a render's fault arises in it: what ends it is a kind that renders raise, or a chain that an object of the caller states,

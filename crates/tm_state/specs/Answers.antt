@@ -34,9 +34,11 @@ abbrev pub StaysInPlace : World → World → Type 0
 StaysInPlace old new =
     SameScopes old new × (new.stream ≡ old.stream) × (new.block ≡ old.block) × (new.escape ≡ old.escape)
 
--- There is a scope more for a block, which may stand deeper; or there are two for a macro, deeper than those that stood.
+-- There is a scope more for a block or a `super()`, which may stand deeper; or there are two for a macro, deeper than those that stood.
 abbrev pub HasMore : Saved → World → World → Type 0
 HasMore (saved.Block s) old new =
+    (length new.scopes.frames ≡ length old.scopes.frames + 1) × (old.scopes.outer ≤ new.scopes.outer)
+HasMore (saved.Super s) old new =
     (length new.scopes.frames ≡ length old.scopes.frames + 1) × (old.scopes.outer ≤ new.scopes.outer)
 HasMore (saved.Macro s) old new = (length new.scopes.frames ≡ 2) × (depth old.scopes + 1 ≤ depth new.scopes)
 
@@ -50,15 +52,14 @@ pub record KeepsFixed (old new : World) : Type 0 where
   pub same_fuel_set : new.fuel_set ≡ old.fuel_set
   pub no_more_fuel : new.fuel ≤ old.fuel
 
--- The same, and the lists of blocks and of loaded names, so long as no template is extended.
-pub record KeepsFixedAndLists (old new : World) : Type 0 where
+-- The same, and the names that are loaded, so long as no template is extended.
+pub record KeepsFixedAndNames (old new : World) : Type 0 where
   pub same_id : new.id ≡ old.id
   pub same_fuel_set : new.fuel_set ≡ old.fuel_set
   pub no_more_fuel : new.fuel ≤ old.fuel
-  pub same_blocks : new.blocks ≡ old.blocks
   pub same_loaded : new.loaded ≡ old.loaded
 
-pub fixed_of : {old new : World} → KeepsFixedAndLists old new → KeepsFixed old new
+pub fixed_of : {old new : World} → KeepsFixedAndNames old new → KeepsFixed old new
 fixed_of k = record { same_id = k.same_id; same_fuel_set = k.same_fuel_set; no_more_fuel = k.no_more_fuel }
 
 -- A value can be emitted as this text, or it can't be.
@@ -96,19 +97,25 @@ Recurs (Err chain) asked w = is_want_of_memory chain ≡ false → asked ≡ ref
 abbrev pub call_of : NestedRun → World → NestedCall
 call_of e b = record { callee = callee_of e.run; undo = undo_of e.saved b; wrap = e.wrap; text = e.text }
 
--- What is put back is of this world, whose lists of blocks and of loaded names are those of the world in which the run is needed.
-abbrev pub IsBefore : Saved → World → World → Type 0
-IsBefore kept b w = IsSaved kept b × (w.blocks ≡ b.blocks) × (w.loaded ≡ b.loaded)
-
 -- A call needs this run first, from this world; its text is the call's value, and its fault the call's.
 abbrev pub NeedsRun : NestedRun → Asked → World → Type 0
 NeedsRun e asked w =
-    (e.heard ≡ true) × (e.value ≡ true) × (e.wrap ≡ None) × ((b : World) × IsBefore e.saved b w × (asked ≡ runs (call_of e b) w))
+    (e.heard ≡ true) × (e.value ≡ true) × (e.wrap ≡ None) × ((b : World) × IsSaved e.saved b × (asked ≡ runs (call_of e b) w))
+
+-- The same, and a kind may stand before its fault.
+abbrev pub NeedsAny : NestedRun → Asked → World → Type 0
+NeedsAny e asked w =
+    (e.heard ≡ true) × (e.value ≡ true) × ((b : World) × IsSaved e.saved b × (asked ≡ runs (call_of e b) w))
+
+-- A `super()` needs this run first, from this world; the world before it was b.
+abbrev pub NeedsSuper : Bool → Bool → NestedRun → Asked → World → World → Type 0
+NeedsSuper heard value e asked b w =
+    (e.heard ≡ heard) × (e.value ≡ value) × IsSaved e.saved b × (asked ≡ runs (call_of e b) w)
 
 -- A macro's run is needed first, from this world; the world before it was b. Its text is this.
 abbrev pub NeedsMacro : RunText → NestedRun → Asked → World → World → Type 0
 NeedsMacro text e asked b w =
-    (e.heard ≡ true) × (e.value ≡ true) × (e.wrap ≡ None) × (e.text ≡ text) × IsBefore e.saved b w ×
+    (e.heard ≡ true) × (e.value ≡ true) × (e.wrap ≡ None) × (e.text ≡ text) × IsSaved e.saved b ×
     (asked ≡ runs (record (call_of e b) { text = texts.Captured }) w)
 
 -- What a call came to, but for want of memory: a value, a loop that is called, a run that is needed, or a fault, and the world behind it.
@@ -118,6 +125,13 @@ Becomes (Ok (outcome.Recursion r)) asked w = asked ≡ recurs r.number r.items.v
 Becomes (Ok (outcome.Run e)) asked w = NeedsRun e.value asked w
 Becomes (Err chain) asked w = is_want_of_memory chain ≡ false → asked ≡ refused chain w
 
+-- The same of what a name is called for, where a kind may stand before the fault of a run.
+abbrev pub NamedBecomes : Result CallResult (List ErrorKind) → Asked → World → Type 0
+NamedBecomes (Ok (outcome.Value v)) asked w = asked ≡ has v w
+NamedBecomes (Ok (outcome.Recursion r)) asked w = asked ≡ recurs r.number r.items.value.items w
+NamedBecomes (Ok (outcome.Run e)) asked w = NeedsAny e.value asked w
+NamedBecomes (Err chain) asked w = is_want_of_memory chain ≡ false → asked ≡ refused chain w
+
 -- How the scopes lie behind a call: as before, or with one more for the run that it needs.
 abbrev pub CallLies : ℕ → Result CallResult (List ErrorKind) → World → World → Type 0
 CallLies limit (Ok (outcome.Run e)) old new = OneDeeper limit e.value.saved old new
@@ -125,7 +139,7 @@ CallLies limit _ old new = StaysInPlace old new
 
 -- What a call leaves, whatever it came to.
 pub record Leaves (limit : ℕ) (result : Result CallResult (List ErrorKind)) (old new : World) : Type 0 where
-  pub kept : KeepsFixedAndLists old new
+  pub kept : KeepsFixedAndNames old new
   pub lies : CallLies limit result old new
 
 -- ---------------------------------------------------------------- further calls
@@ -152,7 +166,7 @@ is_macro _ = false
 abbrev pub NeedsPlain : Bool → NestedRun → Asked → World → Type 0
 NeedsPlain test e asked w =
     (e.heard ≡ true) × (e.value ≡ true) × (e.wrap ≡ None) × (e.text ≡ text_for test) ×
-    ((b : World) × IsBefore e.saved b w × (asked ≡ runs (record (call_of e b) { text = texts.Plain }) w))
+    ((b : World) × IsSaved e.saved b × (asked ≡ runs (record (call_of e b) { text = texts.Plain }) w))
 
 -- What a further call came to, whatever makes those behind it: what was answered to it, or a run; or it is refused.
 abbrev pub FurtherComes : MakesFurther → Bool → Call → Result Further (List ErrorKind) → Asked → World → Type 0
@@ -167,7 +181,7 @@ PrintedComes make test result asked w = FurtherComes make test (calls.Macro [] [
 
 -- How the scopes lie behind it.
 abbrev pub FurtherLies : ℕ → Result Further (List ErrorKind) → World → World → Type 0
-FurtherLies limit (Ok (further.Run e)) old new = OneDeeper limit e.value.saved old new × KeepsFixedAndLists old new
+FurtherLies limit (Ok (further.Run e)) old new = OneDeeper limit e.value.saved old new × KeepsFixedAndNames old new
 FurtherLies limit _ old new = new ≡ record old { namespaces = new.namespaces }
 
 -- InvalidOperation for this cause, unless it is want of memory

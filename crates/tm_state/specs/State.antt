@@ -1,20 +1,24 @@
 -- What a state's fields stand for, and what is put back behind a run.
-use Rattle.std.specs.Prelude.{◌≡◌, ℕ, List, [], ◌∷◌, ◌++◌, length, map as each, Option, Some, None, Bool, true, false}
+use Rattle.std.specs.Prelude.{◌≡◌, ℕ, ◌+◌, List, [], ◌∷◌, ◌++◌, length, Option, Some, None, Bool, true, false, nat_eq, slice_get}
+use Rattle.std.specs.Prelude.{option_and_then}
+use Rattle.std.specs.Map.{keys_of}
 use Rattle.tm_syntax.specs.Named.{find}
 use Rattle.tm_values.specs.Val.{MacroData, Val, undefined}
 use Rattle.tm_values.specs.declared.escape.AutoEscape.{AutoEscape}
 use Rattle.tm_syntax.specs.declared.instruction.Instruction.{Instruction}
 use Rattle.tm_meaning.specs.World.{Named, World, Loop, loop_scope, new_loop, Layers, root_of, block_of, plain_scope, with_frames}
-use Rattle.tm_meaning.specs.Calls.{Asked, runs, cut_to, block_call, macro_call, Undo, of_block, of_macro, Callee, whole, macro_of}
+use Rattle.tm_meaning.specs.Calls.{Asked, runs, cut_to, block_call, macro_call, Undo, of_block, of_super, of_macro, Callee, whole, macro_of}
 use Rattle.tm_meaning.specs.Meaning.{first_fuel}
 use Rattle.tm_meaning.specs.declared.stream.TemplateId.{TemplateId}
 use Rattle.tm_meaning.specs.declared.stream.StreamId.{StreamId}
 use Rattle.tm_syntax.specs.declared.instruction.LoopFlags.{LoopFlags}
 use Rattle.tm_tables.specs.Fuel.{Fuel}
+use Rattle.tm_tables.specs.Lists.{ListsValue, placed_at, with_each}
 use Rattle.tm_tables.specs.Scopes.{exported_of}
 use Rattle.tm_state.specs.declared.saved.Saved.{Saved}
 use Rattle.tm_state.specs.declared.saved.Saved.TheVariants as saved
 use Rattle.tm_state.specs.declared.saved.SavedBlock.{SavedBlock}
+use Rattle.tm_state.specs.declared.saved.SavedSuper.{SavedSuper}
 use Rattle.tm_state.specs.declared.saved.SavedMacro.{SavedMacro}
 use Rattle.tm_state.specs.declared.nested.RunOf.{RunOf}
 use Rattle.tm_state.specs.declared.nested.RunOf.TheVariants as run_of
@@ -24,16 +28,9 @@ abbrev pub fuel_set_of : Bool → Fuel → Option ℕ
 fuel_set_of true fuel = Some fuel.set
 fuel_set_of false fuel = None
 
--- The layers of one template.
-abbrev pub alone : TemplateId → Layers
-alone t = record { templates = t ∷ []; place = 0 }
-
--- the blocks of a template, each alone
-abbrev pub layered : TemplateId → List ℕ × List Instruction → List ℕ × Layers
-layered t b = (b.0, alone t)
-
-abbrev pub layers_of : TemplateId → Named (List Instruction) → Named Layers
-layers_of t bs = each (layered t) bs
+-- a world's lists of blocks and its loaded names
+abbrev pub lists_of : World → ListsValue
+lists_of w = record { blocks = w.blocks; loaded = w.loaded }
 
 -- What a render of a template starts from, whose blocks have this code.
 abbrev pub started : ℕ → TemplateId → Named (List Instruction) → AutoEscape → Option ℕ → Val → World
@@ -45,7 +42,7 @@ started id t blocks escape fuel context = record {
   closures = [];
   streams = [];
   temps = [];
-  blocks = layers_of t blocks;
+  blocks = with_each t (keys_of blocks) [];
   loaded = [];
   block = None;
   escape = escape;
@@ -60,28 +57,46 @@ saved_of w = record { stream = w.stream; block = w.block; escape = w.escape; sco
 
 -- what is put back behind a macro
 abbrev pub saved_scopes : World → SavedMacro
-saved_scopes w = record { context = w.scopes; stream = w.stream; block = w.block; escape = w.escape }
+saved_scopes w = record { context = w.scopes; stream = w.stream; block = w.block; escape = w.escape; lists = lists_of w }
+
+-- What is put back behind a `super()`: as behind a block, and the place of the list of its name.
+abbrev pub IsSavedSuper : SavedSuper → World → Type 0
+IsSavedSuper s w =
+    (s.replaced ≡ saved_of w) × (w.block ≡ Some s.name) × ((l : Layers) × (find s.name w.blocks ≡ Some l) × (s.place ≡ l.place))
 
 -- What is put back is of this world,
 abbrev pub IsSaved : Saved → World → Type 0
 IsSaved (saved.Block s) w = s ≡ saved_of w
+IsSaved (saved.Super s) w = IsSavedSuper s w
 IsSaved (saved.Macro s) w = s ≡ saved_scopes w
 
 -- and how it is undone.
 abbrev pub undo_of : Saved → World → Undo
 undo_of (saved.Block s) w = of_block w
+undo_of (saved.Super s) w = of_super s.name w
 undo_of (saved.Macro s) w = of_macro w
 
--- the world behind a block, however that ended; and behind a macro
+-- the world behind a block, however that ended; behind a `super()`; and behind a macro
 abbrev pub behind_block : SavedBlock → World → World
 behind_block s w = record (cut_to s.scopes s.outer w) { stream = s.stream; block = s.block; escape = s.escape }
 
+abbrev pub behind_super : SavedSuper → World → World
+behind_super s w = record (behind_block s.replaced w) { blocks = placed_at s.place s.name w.blocks }
+
 abbrev pub behind_macro : SavedMacro → World → World
-behind_macro s w = record w { scopes = s.context; stream = s.stream; block = s.block; escape = s.escape }
+behind_macro s w = record w {
+  scopes = s.context;
+  stream = s.stream;
+  block = s.block;
+  escape = s.escape;
+  blocks = s.lists.blocks;
+  loaded = s.lists.loaded;
+}
 
 -- the world behind a run
 abbrev pub put_back : Saved → World → World
 put_back (saved.Block s) w = behind_block s w
+put_back (saved.Super s) w = behind_super s w
 put_back (saved.Macro s) w = behind_macro s w
 
 -- what runs
@@ -97,9 +112,26 @@ runs_block s b w = runs (block_call s b) w
 abbrev pub runs_macro : StreamId → MacroData → List Val → World → World → Asked
 runs_macro s m given b w = runs (macro_call s m given b) w
 
--- The stream is the block of this name of the one template that has it.
-abbrev pub IsBlockOf : StreamId → List ℕ → World → Type 0
-IsBlockOf s x w = (s ≡ block_of s.template x) × (find x w.blocks ≡ Some (alone s.template))
+-- The stream is the block of this name at its list's place, and whether no other template has it.
+abbrev pub IsBlockOf : StreamId → Bool → List ℕ → World → Type 0
+IsBlockOf s alone x w =
+    (l : Layers) × (find x w.blocks ≡ Some l) × (slice_get l.templates l.place ≡ Some s.template)
+    × (s ≡ block_of s.template x) × (alone ≡ nat_eq (length l.templates) 1)
+
+-- the template whose block of this name is meant
+abbrev pub template_of_block : List ℕ → World → Option TemplateId
+template_of_block x w = option_and_then (λ (l : Layers). slice_get l.templates l.place) (find x w.blocks)
+
+-- The stream is the block behind the one of this name, which runs, and n the place behind that of the name's list.
+abbrev pub IsNextOf : StreamId → List ℕ → ℕ → World → Type 0
+IsNextOf s x n w =
+    (w.block ≡ Some x) × ((l : Layers) × (find x w.blocks ≡ Some l) × (n ≡ l.place + 1)
+    × (slice_get l.templates (l.place + 1) ≡ Some s.template) × (s ≡ block_of s.template x))
+
+-- the template behind the one whose block runs
+abbrev pub template_behind : World → Option TemplateId
+template_behind w =
+    option_and_then (λ x. option_and_then (λ (l : Layers). slice_get l.templates (l.place + 1)) (find x w.blocks)) w.block
 
 -- one scope more, over no context
 abbrev pub scoped : World → World

@@ -12,7 +12,7 @@ use tm_syntax::Application;
 use tm_tables::{CallableAnswer, Host};
 use tm_values::{Error, ErrorKind, Value};
 
-impl StateData<'_> {
+impl StateData {
     /// What these values give that are passed to what a name stands for: the first one's method, a filter, or
     /// the truth of what a test answers. InvalidOperation for a method of no value, and what the call refuses.
     /// The place is a hint at where the filter or the test stands.

@@ -4,9 +4,10 @@ ghost use Rattle.std.specs.Option.{option_copied};
 ghost use Rattle.tm_values.specs.Answer.{IsAnswer, OkOrOutOfMemory};
 ghost use Rattle.tm_meaning.specs.World.{records_of};
 ghost use Rattle.tm_values.specs.Val.{function, loop, macro};
-ghost use Rattle.tm_meaning.specs.Calls.{by_depths, call_callee, call_found, call_innermost, call_loop, call_named, call_value, call_method, named_call};
+ghost use Rattle.tm_meaning.specs.Calls.{by_depths, call_callee, call_found, call_innermost, call_looked_up, call_loop, call_named, call_value};
+ghost use Rattle.tm_meaning.specs.Calls.{call_method, named_call};
 ghost use Rattle.tm_meaning.specs.Calls.{loop_method, method_in, method_object, unknown_method, is_macro_attribute};
-ghost use Rattle.tm_state.specs.Answers.{Becomes, FoundAnswers, IsBecause, Leaves, Recurs};
+ghost use Rattle.tm_state.specs.Answers.{Becomes, FoundAnswers, IsBecause, Leaves, NamedBecomes, Recurs};
 ghost use Rattle.tm_values.specs.declared.error.ErrorKind.TheVariants.{UnknownMethod};
 
 use crate::nested::NestedRun;
@@ -39,9 +40,9 @@ pub struct Recursion {
     pub items: Rc<Vec<Value>>,
 }
 
-impl StateData<'_> {
+impl StateData {
     /// What the function of a name gives for these arguments, or the loop that is called, or the run that a further
-    /// call needs; what a function keeps is kept, also where it answers a fault. UnknownFunction where the name isn't found,
+    /// call or a `super()` needs; what a function keeps is kept, also where it answers a fault. UnknownFunction where the name isn't found,
     /// InvalidOperation where its value can't be called, or not there or so, or a context value on the way
     /// can't be known, and what the function refuses.
     pub fn call<H: Host>(
@@ -51,8 +52,26 @@ impl StateData<'_> {
         name: &Name,
         args: &[Value],
     ) -> Result<CallResult, Error>
-        ensures called { Becomes result
+        ensures called { NamedBecomes result
             (call_named (H.meaning host.now) name.now args.now self.old) self.new }
+        ensures leaves { Leaves (H.meaning host.now).limit result self.old self.new }
+    {
+        if name.as_str() == "super" {
+            return self.call_super(alloc, host, args);
+        }
+        self.call_looked_up(alloc, host, name, args)
+    }
+
+    /// The same of a name that is looked up.
+    fn call_looked_up<H: Host>(
+        &mut self,
+        alloc: Global,
+        host: &H,
+        name: &Name,
+        args: &[Value],
+    ) -> Result<CallResult, Error>
+        ensures called { Becomes result
+            (call_looked_up (H.meaning host.now) name.now args.now self.old) self.new }
         ensures leaves { Leaves (H.meaning host.now).limit result self.old self.new }
     {
         let Some(found) = self.lookup(host, name)? else {

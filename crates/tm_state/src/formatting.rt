@@ -9,7 +9,7 @@ use tm_printing::emission_text;
 use tm_tables::Host;
 use tm_values::{Error, UndefinedUse, Value, check_defined};
 
-impl StateData<'_> {
+impl StateData {
     /// What a value is emitted as. UndefinedError where it is undefined and the behaviour refuses that, else what the
     /// formatter answers, where there is one, and else what the escape refuses; OutOfMemory.
     pub fn format<H: Host>(&self, alloc: Global, host: &H, value: &Value) -> Result<String, Error>

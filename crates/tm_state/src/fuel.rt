@@ -3,13 +3,13 @@ ghost use Rattle.std.specs.Prelude.{◌≡◌, ◌+◌, ◌-◌, ◌<◌, [], �
 ghost use Rattle.tm_values.specs.declared.error.ErrorKind.TheVariants.{OutOfFuel};
 ghost use Rattle.tm_meaning.specs.World.{fuel_levels, Good, Bad};
 ghost use Rattle.tm_meaning.specs.Steps.{charge_of, pay};
-ghost use Rattle.tm_state.specs.Answers.{KeepsFixedAndLists};
+ghost use Rattle.tm_state.specs.Answers.{KeepsFixedAndNames};
 
 use crate::state::StateData;
 use tm_syntax::Instruction;
 use tm_tables::Exhausted;
 
-impl StateData<'_> {
+impl StateData {
     /// The fuel consumed and the fuel left, where fuel was set; together they are what was set.
     pub fn fuel_levels(&self) -> Option<(u64, u64)>
         ensures levels { result ≡ fuel_levels self.now }
@@ -30,7 +30,7 @@ impl StateData<'_> {
             (pay instruction.now self.old ≡ Bad (OutOfFuel ∷ []) self.new) }
         ensures spent { OnOk result
             (self.new.fuel + charge_of instruction.now ≡ self.old.fuel) }
-        ensures kept { KeepsFixedAndLists self.old self.new }
+        ensures kept { KeepsFixedAndNames self.old self.new }
         ensures rest { self.new ≡ record self.old { fuel = self.new.fuel } }
     {
         self.fuel.pay(instruction)

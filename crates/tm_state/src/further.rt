@@ -7,7 +7,7 @@ ghost use Rattle.tm_meaning.specs.World.{depth};
 ghost use Rattle.tm_meaning.specs.Calls.{block_call, by_depths, deeper, enter_block, from_deeper, further_call, has, refused};
 ghost use Rattle.tm_meaning.specs.Calls.{as_printed, named_call, replied, runs, value_call};
 ghost use Rattle.tm_meaning.specs.declared.run_text.RunText.TheVariants as texts;
-ghost use Rattle.tm_state.specs.Answers.{Answers, Becomes, Comes, FurtherComes, FurtherLies, KeepsFixedAndLists, Leaves, NeedsPlain, PrintedComes};
+ghost use Rattle.tm_state.specs.Answers.{Answers, Becomes, Comes, FurtherComes, FurtherLies, KeepsFixedAndNames, Leaves, NeedsPlain, PrintedComes};
 ghost use Rattle.tm_state.specs.Answers.{OneDeeper, is_macro, shown, tested, text_for};
 ghost use Rattle.tm_state.specs.State.{saved_of};
 
@@ -32,7 +32,7 @@ pub(crate) enum Further {
     Run(Box<NestedRun>),
 }
 
-impl StateData<'_> {
+impl StateData {
     /// What an answer comes to: what it keeps is kept, and then its further call is made, and so on, each one
     /// deeper; of a test its truth. InvalidOperation for one beyond the limit, and what a call answers as its fault.
     pub(crate) fn follow<H: Host>(
@@ -260,7 +260,7 @@ impl StateData<'_> {
             (enter_block (H.meaning host.now) name.now (deeper levels self.old))
             ≡ refused e self.old) }
         ensures unchanged { OnErr result (self.new ≡ self.old) }
-        ensures kept { KeepsFixedAndLists self.old self.new }
+        ensures kept { KeepsFixedAndNames self.old self.new }
     {
         let (stream, saved) = self.enter_deeper(alloc, host, name, levels)?;
         let run = NestedRun {
@@ -295,7 +295,7 @@ impl StateData<'_> {
             (enter_block (H.meaning host.now) name.now (deeper levels self.old))
             ≡ refused e self.old) }
         ensures unchanged { OnErr result (self.new ≡ self.old) }
-        ensures kept { KeepsFixedAndLists self.old self.new }
+        ensures kept { KeepsFixedAndNames self.old self.new }
     {
         let outer = self.go_deeper(host, levels);
         match self.enter_block(alloc, host, name) {

@@ -7,6 +7,7 @@ mod calls;
 mod formatting;
 mod fuel;
 mod further;
+mod inheritance;
 mod macros;
 mod nested;
 mod records;
@@ -18,5 +19,5 @@ mod streams;
 
 pub use calls::{CallResult, Recursion};
 pub use nested::{NestedRun, RunOf};
-pub use saved::{Saved, SavedBlock, SavedMacro};
+pub use saved::{Saved, SavedBlock, SavedMacro, SavedSuper};
 pub use state::StateData;

@@ -4,7 +4,7 @@ ghost use Rattle.std.specs.Rc.{rc_str_bytes};
 ghost use Rattle.tm_meaning.specs.Calls.{enter_macro, known_stream, macro_scopes, refused};
 ghost use Rattle.tm_meaning.specs.Memory.{is_want_of_memory};
 ghost use Rattle.tm_meaning.specs.World.{Bad, Good, closing_over, depth, enclose, make_macro, own_closure, put_enclosed};
-ghost use Rattle.tm_state.specs.Answers.{KeepsFixedAndLists, NeedsMacro, OneDeeper};
+ghost use Rattle.tm_state.specs.Answers.{KeepsFixedAndNames, NeedsMacro, OneDeeper};
 ghost use Rattle.tm_state.specs.State.{runs_macro, saved_scopes};
 ghost use Rattle.tm_values.specs.Answer.{OkOrOutOfMemory};
 
@@ -22,7 +22,7 @@ use tm_values::{Error, ErrorKind, Macro, Value};
 /// How deep the outer scope of a macro lies above the call.
 const MACRO_DEPTH: usize = 4;
 
-impl StateData<'_> {
+impl StateData {
     /// The number of the closure that was made in the innermost scope, where one was.
     pub fn own_closure(&self) -> Option<usize>
         ensures { result ≡ own_closure self.now.scopes.frames }
@@ -129,7 +129,7 @@ impl StateData<'_> {
         ensures err { IfErr result (λ e. is_want_of_memory e ≡ false → enter_macro levels
             (H.meaning host.now) declared.now args.now self.old ≡ refused e self.old) }
         ensures unchanged { OnErr result (self.new ≡ self.old) }
-        ensures kept { KeepsFixedAndLists self.old self.new }
+        ensures kept { KeepsFixedAndNames self.old self.new }
     {
         let (stream, given, saved) = self.enter_macro(alloc, host, declared, args, levels)?;
         let run = NestedRun {
@@ -182,7 +182,8 @@ impl StateData<'_> {
         }
         let context = self.macro_scopes(alloc, declared, args, outer)?;
         let running = stream.share()?;
-        let saved = self.run_macro(running, context);
+        let lists = self.lists.copy(alloc)?;
+        let saved = self.run_macro(running, context, lists);
         Ok((stream, given, saved))
     }
 

@@ -3,23 +3,23 @@ ghost use Rattle.std.specs.Prelude.{◌≡◌, ◌+◌, ◌≤◌, ◌∷◌, []
 ghost use Rattle.tm_meaning.specs.Calls.{deeper, enter_block, refused};
 ghost use Rattle.tm_meaning.specs.Memory.{is_want_of_memory};
 ghost use Rattle.tm_meaning.specs.World.{depth};
-ghost use Rattle.tm_state.specs.Answers.{Becomes, KeepsFixedAndLists, Leaves};
-ghost use Rattle.tm_state.specs.State.{IsBlockOf, behind_block, behind_macro, put_back, runs_block, saved_of, saved_scopes};
-ghost use Rattle.tm_syntax.specs.Named.{find};
+ghost use Rattle.tm_state.specs.Answers.{Becomes, KeepsFixedAndNames, Leaves};
+ghost use Rattle.tm_state.specs.State.{IsBlockOf, behind_block, behind_macro, behind_super, lists_of, put_back, runs_block};
+ghost use Rattle.tm_state.specs.State.{saved_of, saved_scopes, template_of_block};
 ghost use Rattle.tm_values.specs.Answer.{IsLent};
 
 use crate::calls::CallResult;
 use crate::nested::{NestedRun, RunOf};
-use crate::saved::{Saved, SavedBlock, SavedMacro};
+use crate::saved::{Saved, SavedBlock, SavedMacro, SavedSuper};
 use crate::state::StateData;
 use std::alloc::Global;
 use std::mem;
 use tm_meaning::{RunText, StreamId};
 use tm_syntax::Name;
-use tm_tables::{Context, Host};
+use tm_tables::{Context, Host, Lists};
 use tm_values::{Error, ErrorKind, Value};
 
-impl StateData<'_> {
+impl StateData {
     /// Lets the scopes stand so many levels deeper, within the limit, and gives the depth at which the outermost one stood.
     pub(crate) fn go_deeper<H: Host>(&mut self, host: &H, levels: usize) -> usize
         requires { depth self.old.scopes + levels ≤ (H.meaning host.now).limit }
@@ -60,10 +60,10 @@ impl StateData<'_> {
         ensures err { IfErr result (λ e. is_want_of_memory e ≡ false →
             enter_block (H.meaning host.now) name.now self.old ≡ refused e self.old) }
         ensures unchanged { OnErr result (self.new ≡ self.old) }
-        ensures kept { KeepsFixedAndLists self.old self.new }
+        ensures kept { KeepsFixedAndNames self.old self.new }
     {
-        let stream = self.block_stream(name)?;
-        if host.is_required(&stream) {
+        let (stream, is_alone) = self.block_stream(name)?;
+        if is_alone && host.is_required(&stream) {
             return Err(Error::from(ErrorKind::InvalidOperation));
         }
         let running = stream.share()?;
@@ -107,16 +107,21 @@ impl StateData<'_> {
         }
     }
 
-    /// The stream of the block of a name. UnknownBlock where there is none, OutOfMemory where the owners of a name can't be counted.
-    fn block_stream(&self, name: &Name) -> Result<StreamId, Error>
-        ensures ok { IfOk result (λ stream. IsBlockOf stream name.now self.now) }
+    /// The stream of the block of a name, and whether no other template has that. UnknownBlock where there is none,
+    /// OutOfMemory where the owners of a name can't be counted.
+    fn block_stream(&self, name: &Name) -> Result<(StreamId, bool), Error>
+        ensures ok { IfOk result (λ r. IsBlockOf r.0 r.1 name.now self.now) }
         ensures err { IfErr result (λ e. is_want_of_memory e ≡ false →
-            (e ≡ ErrorKind.UnknownBlock ∷ []) × (find name.now self.now.blocks ≡ None)) }
+            (e ≡ ErrorKind.UnknownBlock ∷ []) × (template_of_block name.now self.now ≡ None)) }
     {
-        if self.blocks.get(name.as_str()).is_none() {
+        let Some(list) = self.lists.get(name.as_str()) else {
             return Err(Error::from(ErrorKind::UnknownBlock));
-        }
-        Ok(StreamId::block(self.template.share()?, name.share()?))
+        };
+        let Some(template) = list.template() else {
+            return Err(Error::from(ErrorKind::UnknownBlock));
+        };
+        let stream = StreamId::block(template.share()?, name.share()?);
+        Ok((stream, list.len() == 1))
     }
 
     /// Lets a block run, and gives what that replaces, with how many scopes there were before its own.
@@ -133,8 +138,14 @@ impl StateData<'_> {
         }
     }
 
-    /// Lets a macro run in scopes of its own, and gives what that replaces.
-    pub(crate) fn run_macro(&mut self, stream: StreamId, context: Context) -> SavedMacro
+    /// Lets a macro run in scopes of its own, and gives what that replaces, with a copy of the lists.
+    pub(crate) fn run_macro(
+        &mut self,
+        stream: StreamId,
+        context: Context,
+        lists: Lists,
+    ) -> SavedMacro
+        requires { lists ≡ lists_of self.old }
         ensures saved { result ≡ saved_scopes self.old }
         ensures runs { self.new ≡ record self.old {
           scopes = context;
@@ -147,6 +158,7 @@ impl StateData<'_> {
             stream: mem::replace(&mut self.stream, stream),
             block: mem::replace(&mut self.block, None),
             escape: self.escape,
+            lists,
         }
     }
 
@@ -173,6 +185,7 @@ impl StateData<'_> {
     {
         match saved {
             Saved::Block(saved) => self.leave_block(saved),
+            Saved::Super(saved) => self.leave_super(saved),
             Saved::Macro(saved) => self.leave_macro(saved),
         }
     }
@@ -194,6 +207,19 @@ impl StateData<'_> {
         self.escape = escape;
     }
 
+    /// Leaves the scopes that a `super()` opened, and puts back what it replaced.
+    fn leave_super(&mut self, saved: SavedSuper)
+        ensures { self.new ≡ behind_super saved self.old }
+    {
+        let SavedSuper {
+            replaced,
+            name,
+            place,
+        } = saved;
+        self.leave_block(replaced);
+        self.lists.move_to(name.as_str(), place);
+    }
+
     /// Leaves a macro's scopes, and puts back what it replaced.
     fn leave_macro(&mut self, saved: SavedMacro)
         ensures { self.new ≡ behind_macro saved self.old }
@@ -203,12 +229,14 @@ impl StateData<'_> {
             stream,
             block,
             escape,
+            lists,
         } = saved;
         let left = mem::replace(&mut self.context, context);
         self.rooms.keep_scopes(left);
         self.stream = stream;
         self.block = block;
         self.escape = escape;
+        self.lists = lists;
     }
 
     /// Room for a run's operands, of which there are none.

@@ -1,7 +1,7 @@
 //! What a run replaces in the state.
 use tm_meaning::StreamId;
 use tm_syntax::Name;
-use tm_tables::Context;
+use tm_tables::{Context, Lists};
 use tm_values::AutoEscape;
 
 /// What a run replaces in the state, and what is put back behind it.
@@ -9,6 +9,8 @@ use tm_values::AutoEscape;
 pub enum Saved {
     /// What a block's run replaces.
     Block(SavedBlock),
+    /// What the run of a `super()` replaces.
+    Super(SavedSuper),
     /// What a macro's run replaces.
     Macro(SavedMacro),
 }
@@ -28,6 +30,17 @@ pub struct SavedBlock {
     pub outer: usize,
 }
 
+/// What the run of a `super()` replaces.
+#[derive(Drop)]
+pub struct SavedSuper {
+    /// What a block's run replaces.
+    pub replaced: SavedBlock,
+    /// The name of the block.
+    pub name: Name,
+    /// The place of its list.
+    pub place: usize,
+}
+
 /// What a macro's run replaces, which has scopes of its own.
 #[derive(Drop)]
 pub struct SavedMacro {
@@ -39,4 +52,6 @@ pub struct SavedMacro {
     pub block: Option<Name>,
     /// The escape.
     pub escape: AutoEscape,
+    /// The lists of blocks and the loaded names.
+    pub lists: Lists,
 }

@@ -13,7 +13,7 @@ ghost use Rattle.tm_meaning.specs.Calls.{enter_block, given_by, refused, of_loop
 ghost use Rattle.tm_definitions.specs.Emitted.{emitted_text};
 ghost use Rattle.tm_tables.specs.Known.{AreFound, NamingFails};
 ghost use Rattle.tm_tables.specs.Scopes.{PushFails};
-ghost use Rattle.tm_state.specs.Answers.{KeepsFixedAndLists, CanBeEmitted, Comes};
+ghost use Rattle.tm_state.specs.Answers.{KeepsFixedAndNames, CanBeEmitted, Comes};
 ghost use Rattle.tm_state.specs.State.{with_open_loop, exported, started, put_back, saved_of, runs_block, IsBlockOf, scoped};
 
 use crate::records::{add_loop, changed_at, keep_each, set_in, turn_at};
@@ -28,7 +28,7 @@ use tm_operations::{check_settable, dict, namespace, range};
 use tm_printing::check_emission;
 use tm_syntax::{Code, LoopFlags, Name, NameMap};
 use tm_tables::{
-    Closures, Context, Frame, FuelTracker, Host, LoopState, View, following_at, position_at,
+    Closures, Context, Frame, FuelTracker, Host, Lists, LoopState, View, following_at, position_at,
     previous_at,
 };
 use tm_values::{
@@ -38,7 +38,7 @@ use tm_values::{
 
 /// What a state keeps. A contract sees it as a world of the definitions.
 #[derive(Drop)]
-pub struct StateData<'env> {
+pub struct StateData {
     id: u64,
     pub(crate) context: Context,
     namespaces: Vec<ValueMap>,
@@ -46,8 +46,7 @@ pub struct StateData<'env> {
     pub(crate) closures: Closures,
     pub(crate) streams: Streams,
     temps: NameMap<Value>,
-    pub(crate) template: TemplateId,
-    pub(crate) blocks: &'env NameMap<Code>,
+    pub(crate) lists: Lists,
     pub(crate) block: Option<Name>,
     pub(crate) escape: AutoEscape,
     pub(crate) stream: StreamId,
@@ -56,12 +55,11 @@ pub struct StateData<'env> {
     pub(crate) rooms: Rooms,
 }
 
-impl<'env> Model for StateData<'env> {
-    ghost use Rattle.std.specs.Prelude.{[]};
+impl Model for StateData {
     ghost use Rattle.std.specs.Coded.{codes};
     ghost use Rattle.tm_values.specs.Code.{coded_Val};
     ghost use Rattle.tm_meaning.specs.World.{World};
-    ghost use Rattle.tm_state.specs.State.{fuel_set_of, layers_of};
+    ghost use Rattle.tm_state.specs.State.{fuel_set_of};
 
     ghost Value = { World };
 
@@ -75,8 +73,8 @@ impl<'env> Model for StateData<'env> {
       closures = s.closures;
       streams = s.streams;
       temps = s.temps;
-      blocks = layers_of s.template s.blocks.now;
-      loaded = [];
+      blocks = s.lists.blocks;
+      loaded = s.lists.loaded;
       block = s.block;
       escape = s.escape;
       stream = s.stream;
@@ -85,23 +83,24 @@ impl<'env> Model for StateData<'env> {
     } };
 }
 
-impl<'env> StateData<'env> {
+impl StateData {
     /// The state that a render of a template starts from: one scope over the context value, the template's
     /// blocks, and the fuel, or the greatest u64 where none is set. Fails by OutOfMemory alone.
     pub fn new(
         alloc: Global,
         id: u64,
         template: TemplateId,
-        blocks: &'env NameMap<Code>,
+        blocks: &NameMap<Code>,
         escape: AutoEscape,
         fuel: Option<u64>,
         context: Value,
-    ) -> Result<StateData<'env>, Error>
+    ) -> Result<StateData, Error>
         ensures { OkOrOutOfMemory result
-            (λ s. s ≡ started id template blocks.entry.now escape fuel context) }
+            (λ s. s ≡ started id template blocks.now escape fuel context) }
     {
         let context = Context::new_with_frame(alloc, Frame::new(alloc, context))?;
-        let stream = StreamId::root(template.share()?);
+        let mut lists = Lists::new(alloc);
+        lists.append(alloc, &template, blocks)?;
         Ok(StateData {
             id,
             context,
@@ -110,11 +109,10 @@ impl<'env> StateData<'env> {
             closures: Closures::new(alloc),
             streams: Streams::new(alloc),
             temps: NameMap::new(alloc),
-            template,
-            blocks,
+            lists,
             block: None,
             escape,
-            stream,
+            stream: StreamId::root(template),
             fuel: FuelTracker::new(fuel.unwrap_or(u64::MAX)),
             fuel_is_set: fuel.is_some(),
             rooms: Rooms::new(alloc),
@@ -286,10 +284,9 @@ impl<'env> StateData<'env> {
     }
 
     /// Takes the state out, and leaves one of no template and without scopes in its place.
-    pub fn take(&mut self, alloc: Global) -> StateData<'env>
+    pub fn take(&mut self, alloc: Global) -> StateData
         ensures { result ≡ self.old }
     {
-        let blocks = self.blocks;
         mem::replace(
             self,
             StateData {
@@ -300,8 +297,7 @@ impl<'env> StateData<'env> {
                 closures: Closures::new(alloc),
                 streams: Streams::new(alloc),
                 temps: NameMap::new(alloc),
-                template: TemplateId::Own,
-                blocks,
+                lists: Lists::new(alloc),
                 block: None,
                 escape: AutoEscape::None,
                 stream: StreamId::root(TemplateId::Own),
@@ -533,7 +529,7 @@ impl<'env> StateData<'env> {
     }
 }
 
-impl Records for StateData<'_> {
+impl Records for StateData {
     ghost use Rattle.tm_meaning.specs.World.{records_of};
 
     ghost records = { records_of };

@@ -1,5 +1,5 @@
 -- The entries of macros rise.
-use Rattle.std.proofs.Common.{◌≡◌, ℕ, zero, suc, List, [], ◌∷◌, get_or, refl, arith}
+use Rattle.std.proofs.Common.{◌≡◌, ℕ, zero, suc, [], ◌∷◌, get_or, refl, arith}
 use Rattle.std.proofs.lemmas.Map.Entries.{length-keys_of}
 use Rattle.std.proofs.lemmas.Map.Keys.{non_decreasing_from_sorted}
 use Rattle.std.specs.List.Sorted.{IsNonDecreasingBy, IsStrictlySortedBy}

@@ -1,7 +1,7 @@
 -- Statements as one thing, and the blocks among them.
-use Rattle.std.specs.Prelude.{ℕ, List, [], ◌∷◌, ◌++◌, map as each}
+use Rattle.std.specs.Prelude.{ℕ, List, [], ◌∷◌, ◌++◌, Bool}
 use mathlib.Core.Former.{Count}
-use Rattle.tm_syntax.specs.declared.tree.Stmt.{EmitRaw, EmitExpr, EmitLoop, Break, Continue, Set, Do}
+use Rattle.tm_syntax.specs.declared.tree.Stmt.{EmitRaw, EmitExpr, EmitLoop, EmitBlock, EmitSuper, Break, Continue, Extends, Set, Do}
 use Rattle.tm_syntax.specs.declared.tree.Stmt.{Stmt, If', For', Block', CaptureBlock', With', AutoEscape', Macro', CallBlock', Row_of-Stmt}
 use Rattle.tm_syntax.specs.declared.tree.Stmt.{end_of-Stmt as no_statement, more_of-Stmt as statement, Held-Stmt-If-2 as Otherwise}
 use Rattle.tm_syntax.specs.declared.tree.Stmt.{None' as no_else, Some' as otherwise}
@@ -19,12 +19,20 @@ body_of {n} ss = record { size = n; row = ss }
 abbrev pub empty : Body
 empty = body_of no_statement
 
+-- A block of a tree: whether another template has to replace it, and its body.
+pub record FoundBlock : Type 0 where
+  pub required : Bool
+  pub body : Body
+
+abbrev pub found_block : Bool → Body → FoundBlock
+found_block required body = record { required = required; body = body }
+
 -- the blocks of statements at any depth, each behind those that stand in it
 abbrev mutual
-  pub blocks_of : Stmt → Named Body
+  pub blocks_of : Stmt → Named FoundBlock
   blocks_of (If' c _ body other) = blocks_in body ++ blocks_else other
   blocks_of (For' t e c r _ body other) = blocks_in body ++ blocks_else other
-  blocks_of (Block' x _ body) = blocks_in body ++ (x, body_of body) ∷ []
+  blocks_of (Block' x required _ body) = blocks_in body ++ (x, found_block required (body_of body)) ∷ []
   blocks_of (CaptureBlock' u filters _ body) = blocks_in body
   blocks_of (With' given _ body) = blocks_in body
   blocks_of (AutoEscape' e _ body) = blocks_in body
@@ -33,26 +41,22 @@ abbrev mutual
   blocks_of (EmitRaw t) = []
   blocks_of (EmitExpr e) = []
   blocks_of (EmitLoop e) = []
+  blocks_of (EmitBlock x) = []
+  blocks_of EmitSuper = []
   blocks_of Break = []
   blocks_of Continue = []
+  blocks_of (Extends e) = []
   blocks_of (Set t e) = []
   blocks_of (Do e) = []
 
-  pub blocks_in : {n : _} → Row_of-Stmt n → Named Body
+  pub blocks_in : {n : _} → Row_of-Stmt n → Named FoundBlock
   blocks_in no_statement = []
   blocks_in (statement s ss) = blocks_of s ++ blocks_in ss
 
-  pub blocks_else : Otherwise → Named Body
+  pub blocks_else : Otherwise → Named FoundBlock
   blocks_else no_else = []
   blocks_else (otherwise _ body) = blocks_in body
 
 -- the instructions of a body
 abbrev pub code_of : Body → List Instruction
 code_of body = stream_code body.row
-
--- a block with its instructions
-abbrev pub compiled : List ℕ × Body → List ℕ × List Instruction
-compiled b = (b.0, code_of b.1)
-
-abbrev pub compiled_blocks : Named Body → Named (List Instruction)
-compiled_blocks bs = each compiled bs

@@ -5,8 +5,8 @@ use Rattle.tm_syntax.specs.declared.tree.UnaryOperator.{UnaryOperator}
 use Rattle.tm_syntax.specs.declared.tree.UnaryOperator.TheVariants as unaries
 use Rattle.tm_syntax.specs.declared.tree.BinaryOperator.{BinaryOperator}
 use Rattle.tm_syntax.specs.declared.tree.BinaryOperator.TheVariants as binaries
-use Rattle.tm_syntax.specs.declared.tree.Expr.{Expr, Var, Const, List', Tuple', Map', Call', Row_of-Expr, end_of-Expr as no_expr}
-use Rattle.tm_syntax.specs.declared.tree.Expr.{more_of-Expr as expr, Row_of-Pair, end_of-Pair as no_pair}
+use Rattle.tm_syntax.specs.declared.tree.Expr.{Expr, Var, Const, List', Tuple', Map', Call', SelfBlock, Row_of-Expr}
+use Rattle.tm_syntax.specs.declared.tree.Expr.{end_of-Expr as no_expr, more_of-Expr as expr, Row_of-Pair, end_of-Pair as no_pair}
 use Rattle.tm_syntax.specs.declared.tree.Expr.{Row_of-Argument, end_of-Argument as no_argument, more_of-Argument as argument}
 use Rattle.tm_syntax.specs.declared.tree.Expr.{Row_of-Keyword, end_of-Keyword as no_keyword, more_of-Keyword as keyword_and, Row_of-Step}
 use Rattle.tm_syntax.specs.declared.tree.Expr.{end_of-Step as no_step, more_of-Step as step, Row_of-Condition}
@@ -23,8 +23,9 @@ use Rattle.tm_syntax.specs.declared.tree.Assignment.{Assignment}
 use Rattle.tm_syntax.specs.declared.tree.Parameter.{Parameter}
 use Rattle.tm_syntax.specs.declared.tree.CaptureUse.{CaptureUse}
 use Rattle.tm_syntax.specs.declared.tree.CaptureUse.TheVariants as uses
-use Rattle.tm_syntax.specs.declared.tree.Stmt.{Stmt, EmitRaw, EmitExpr, EmitLoop, If', For', Break, Continue, Block', Set, CaptureBlock'}
-use Rattle.tm_syntax.specs.declared.tree.Stmt.{With', Do, AutoEscape', Macro', CallBlock', Row_of-Stmt, end_of-Stmt as no_statement}
+use Rattle.tm_syntax.specs.declared.tree.Stmt.{Stmt, EmitRaw, EmitExpr, EmitLoop, EmitBlock, EmitSuper, If', For', Break, Continue, Block'}
+use Rattle.tm_syntax.specs.declared.tree.Stmt.{Extends, Set, CaptureBlock', With', Do, AutoEscape', Macro', CallBlock', Row_of-Stmt}
+use Rattle.tm_syntax.specs.declared.tree.Stmt.{end_of-Stmt as no_statement}
 use Rattle.tm_syntax.specs.declared.tree.Stmt.{more_of-Stmt as statement, Held-Stmt-If-2 as Otherwise, None' as no_else}
 use Rattle.tm_syntax.specs.declared.tree.Stmt.{Some' as otherwise}
 use Rattle.tm_syntax.specs.declared.instruction.CaptureMode.TheVariants.{Capture}
@@ -209,6 +210,7 @@ abbrev mutual
   expr_code (Call' f _ given _ named) = passing row_end 0 given named (arguments_code given) (keywords_code row_end 0 named)
       (λ by_name. lists_code 0 given (together row_end named) by_name) ⨾ straight
       (i.CallFunction f (passed_count row_end 0 given named) ∷ [])
+  expr_code (SelfBlock x) = straight (i.BeginCapture Capture ∷ i.CallBlock x ∷ i.EndCapture ∷ [])
   expr_code (unary op a) = expr_code a ⨾ straight (unary_code op ∷ [])
   expr_code (chained a _ ss) = expr_code a ⨾ steps_code ss
   expr_code (conditional a _ cs) = conditions_code cs (expr_code a)
@@ -410,12 +412,15 @@ abbrev mutual
   statement_code os (EmitRaw t) = straight (i.EmitRaw t ∷ [])
   statement_code os (EmitExpr e) = expr_code e ⨾ straight (i.Emit ∷ [])
   statement_code os (EmitLoop e) = expr_code e ⨾ straight (i.FastRecurse ∷ [])
+  statement_code os (EmitBlock x) = straight (i.CallBlock x ∷ [])
+  statement_code os EmitSuper = straight (i.FastSuper ∷ [])
   statement_code os (If' c _ body other) = expr_code c ⨾ branches_code os (statements_code os body) other
   statement_code os (For' t e c recursive _ body other) =
       iterable_code t e c ⨾ looped (for_flags recursive) (target_code t ⨾ statements_code [] body) (after_loop_code os other)
   statement_code os Break = straight (close_all os) ⨾ break_loop
   statement_code os Continue = straight (close_all os) ⨾ next_round
-  statement_code os (Block' x _ body) = straight (i.CallBlock x ∷ [])
+  statement_code os (Block' x required _ body) = straight (i.CallBlock x ∷ [])
+  statement_code os (Extends e) = expr_code e ⨾ straight (i.LoadBlocks ∷ [])
   statement_code os (Set t e) = set_code t e
   statement_code os (CaptureBlock' u filters _ body) = straight (i.BeginCapture Capture ∷ []) ⨾ statements_code (a_capture ∷ os) body
       ⨾ straight (i.EndCapture ∷ []) ⨾ filters_code filters ⨾ use_code u

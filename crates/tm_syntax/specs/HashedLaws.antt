@@ -1,5 +1,5 @@
 -- Names by their hashes are in a total order, which tells them apart as their texts do.
-use Rattle.std.proofs.Common.{◌≡◌, ◌∙◌, ℕ, List, ap, subst, true, false, true≢false, nat_eq}
+use Rattle.std.proofs.Common.{◌≡◌, ◌∙◌, ℕ, List, ap, subst, true, true≢false, nat_eq}
 use Rattle.std.specs.Bool.{one_answer}
 use Rattle.std.specs.Cmp.{IsTotalOrder, IsPartialOrder, Equal-is, nat_cmp_total, on_total, po, then_total, tied_itself}
 use Rattle.std.specs.Cmp.Lexicographic.{bytes_decides, nat_list_cmp_total, pointwise, texts_ties}

@@ -8,7 +8,7 @@ pub use Rattle.tm_syntax.specs.declared.instruction.LoopPlace.{LoopPlace}
 use Rattle.tm_syntax.specs.declared.tree.Expr.{Expr}
 use Rattle.tm_syntax.specs.declared.tree.AssignmentTarget.{AssignmentTarget}
 use Rattle.tm_syntax.specs.declared.tree.Parameter.{Parameter}
-use Rattle.tm_syntax.specs.declared.tree.Stmt.{EmitRaw, EmitExpr, EmitLoop, Break, Continue, Block', Set, Do}
+use Rattle.tm_syntax.specs.declared.tree.Stmt.{EmitRaw, EmitExpr, EmitLoop, EmitBlock, EmitSuper, Break, Continue, Block', Extends, Set, Do}
 use Rattle.tm_syntax.specs.declared.tree.Stmt.{Stmt, If', For', CaptureBlock', With', AutoEscape', Macro', CallBlock', Row_of-Stmt}
 use Rattle.tm_syntax.specs.declared.tree.Stmt.{end_of-Stmt as no_statement}
 use Rattle.tm_syntax.specs.declared.tree.Stmt.{more_of-Stmt as statement, Held-Stmt-If-2 as Otherwise, None' as no_else}
@@ -48,9 +48,12 @@ abbrev mutual
   past at (EmitRaw t) = at
   past at (EmitExpr e) = at
   past at (EmitLoop e) = at
+  past at (EmitBlock x) = at
+  past at EmitSuper = at
   past at Break = at
   past at Continue = at
-  past at (Block' x _ body) = at
+  past at (Block' x required _ body) = at
+  past at (Extends e) = at
   past at (Set t e) = at
   past at (Do e) = at
 
@@ -89,9 +92,12 @@ abbrev mutual
   loops_of at (EmitRaw t) = []
   loops_of at (EmitExpr e) = []
   loops_of at (EmitLoop e) = []
+  loops_of at (EmitBlock x) = []
+  loops_of at EmitSuper = []
   loops_of at Break = []
   loops_of at Continue = []
-  loops_of at (Block' x _ body) = []
+  loops_of at (Block' x required _ body) = []
+  loops_of at (Extends e) = []
   loops_of at (Set t e) = []
   loops_of at (Do e) = []
 
@@ -124,9 +130,12 @@ abbrev mutual
   macros_of at (EmitRaw t) = []
   macros_of at (EmitExpr e) = []
   macros_of at (EmitLoop e) = []
+  macros_of at (EmitBlock x) = []
+  macros_of at EmitSuper = []
   macros_of at Break = []
   macros_of at Continue = []
-  macros_of at (Block' x _ body) = []
+  macros_of at (Block' x required _ body) = []
+  macros_of at (Extends e) = []
   macros_of at (Set t e) = []
   macros_of at (Do e) = []
 
@@ -187,6 +196,8 @@ begins (i.CallObject _) = None
 begins (i.ApplyFilter _ _ _) = None
 begins (i.PerformTest _ _ _) = None
 begins (i.CallBlock _) = None
+begins i.FastSuper = None
+begins i.LoadBlocks = None
 begins (i.StoreLocal _) = None
 begins (i.Enclose _) = None
 begins i.GetClosure = None

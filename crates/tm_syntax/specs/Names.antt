@@ -1,6 +1,6 @@
 -- The names that a tree reads where no open scope has assigned them before: one walk over the tree, in the order of its source. Where names
 -- are asked for with what is nested in them, the attributes behind a name are given with it, as `a.b.c`.
-use Rattle.std.specs.Prelude.{ℕ, List, [], ◌∷◌, ◌++◌, Option, Some, None, Bool, true, false, cond, ◌||◌, ◌&&◌, codes, is_some}
+use Rattle.std.specs.Prelude.{ℕ, List, [], ◌∷◌, ◌++◌, Option, Some, None, Bool, true, false, cond, ◌||◌, codes, is_some}
 use Rattle.std.specs.List.{list_any}
 use Rattle.std.specs.BTreeMap.{is_at}
 use Rattle.std.specs.BTreeSet.{insert_key}
@@ -9,8 +9,8 @@ use Rattle.tm_syntax.specs.Forms.{unary, chained, conditional, with_condition, w
 use Rattle.tm_syntax.specs.Forms.{spread_keywords, item, slice, binary, compare, and_then, or_else}
 use Rattle.tm_syntax.specs.declared.tree.Application.{Application}
 use Rattle.tm_syntax.specs.declared.tree.Application.TheVariants as applications
-use Rattle.tm_syntax.specs.declared.tree.Expr.{Expr, Var, Const, List', Tuple', Map', Call', Row_of-Expr, end_of-Expr as no_expr}
-use Rattle.tm_syntax.specs.declared.tree.Expr.{more_of-Expr as expr, Row_of-Pair, end_of-Pair as no_pair}
+use Rattle.tm_syntax.specs.declared.tree.Expr.{Expr, Var, Const, List', Tuple', Map', Call', SelfBlock, Row_of-Expr}
+use Rattle.tm_syntax.specs.declared.tree.Expr.{end_of-Expr as no_expr, more_of-Expr as expr, Row_of-Pair, end_of-Pair as no_pair}
 use Rattle.tm_syntax.specs.declared.tree.Expr.{Row_of-Argument, end_of-Argument as no_argument, more_of-Argument as argument}
 use Rattle.tm_syntax.specs.declared.tree.Expr.{Row_of-Keyword, end_of-Keyword as no_keyword, more_of-Keyword as keyword_and, Row_of-Step}
 use Rattle.tm_syntax.specs.declared.tree.Expr.{end_of-Step as no_step, more_of-Step as step, Row_of-Condition}
@@ -25,8 +25,9 @@ use Rattle.tm_syntax.specs.declared.tree.Assignment.{Assignment}
 use Rattle.tm_syntax.specs.declared.tree.Parameter.{Parameter}
 use Rattle.tm_syntax.specs.declared.tree.CaptureUse.{CaptureUse}
 use Rattle.tm_syntax.specs.declared.tree.CaptureUse.TheVariants as uses
-use Rattle.tm_syntax.specs.declared.tree.Stmt.{Stmt, EmitRaw, EmitExpr, EmitLoop, If', For', Break, Continue, Block', Set, CaptureBlock'}
-use Rattle.tm_syntax.specs.declared.tree.Stmt.{With', Do, AutoEscape', Macro', CallBlock', Row_of-Stmt, end_of-Stmt as no_statement}
+use Rattle.tm_syntax.specs.declared.tree.Stmt.{Stmt, EmitRaw, EmitExpr, EmitLoop, EmitBlock, EmitSuper, If', For', Break, Continue, Block'}
+use Rattle.tm_syntax.specs.declared.tree.Stmt.{Extends, Set, CaptureBlock', With', Do, AutoEscape', Macro', CallBlock', Row_of-Stmt}
+use Rattle.tm_syntax.specs.declared.tree.Stmt.{end_of-Stmt as no_statement}
 use Rattle.tm_syntax.specs.declared.tree.Stmt.{more_of-Stmt as statement, Held-Stmt-If-2 as Otherwise, None' as no_else}
 use Rattle.tm_syntax.specs.declared.tree.Stmt.{Some' as otherwise}
 
@@ -101,23 +102,6 @@ abbrev pub method_of : Step → Option (List ℕ)
 method_of (Apply' kind x _ given _ named) = cond (is_method kind) (Some x) None
 method_of _ = None
 
-abbrev pub no_arguments : {n : _} → Row_of-Argument n → Bool
-no_arguments no_argument = true
-no_arguments (argument a more) = false
-
-abbrev pub no_keywords : {n : _} → Row_of-Keyword n → Bool
-no_keywords no_keyword = true
-no_keywords (keyword_and a more) = false
-
--- a method without any arguments
-abbrev pub is_bare_method : Step → Bool
-is_bare_method (Apply' kind x _ given _ named) = is_method kind && (no_arguments given && no_keywords named)
-is_bare_method _ = false
-
-abbrev pub begins_bare : {n : _} → Row_of-Step n → Bool
-begins_bare no_step = false
-begins_bare (step s more) = is_bare_method s
-
 -- a name, and an attribute of it
 abbrev pub dot : List ℕ → List ℕ → List ℕ
 dot x a = x ++ codes "." ++ a
@@ -136,13 +120,9 @@ abbrev pub dotted : {n : _} → List ℕ → Row_of-Step n → List ℕ
 dotted x no_step = x
 dotted x (step s more) = dotted_on (attribute_of s) (method_of s) x (λ y. dotted y more)
 
--- `self.b()` is the text of a block
-abbrev pub calls_block : {n : _} → List ℕ → Row_of-Step n → Bool
-calls_block x ss = same_name x (codes "self") && begins_bare ss
-
--- A name and the steps behind it: the `self` of a block is none that is read.
+-- a name and the steps behind it
 abbrev pub read_chain : {n : _} → Bool → List ℕ → Row_of-Step n → Walk → Walk
-read_chain nested x ss k = cond (calls_block x ss) k (read_as x (cond nested (dotted x ss) x) k)
+read_chain nested x ss k = read_as x (cond nested (dotted x ss) x) k
 
 -- what a chain begins with: a name, or else what was walked over before
 abbrev pub read_first : {n : _} → Bool → Option (List ℕ) → Row_of-Step n → Walk → Walk → Walk
@@ -157,6 +137,7 @@ abbrev mutual
   walk_expr nested (Tuple' _ es) k = walk_exprs nested es k
   walk_expr nested (Map' _ ps) k = walk_pairs nested ps k
   walk_expr nested (Call' f _ given _ named) k = walk_keywords nested named (walk_arguments nested given (read_function f k))
+  walk_expr nested (SelfBlock x) k = k
   walk_expr nested (unary op a) k = walk_expr nested a k
   walk_expr nested (chained a _ ss) k = walk_steps nested ss (read_first nested (name_of a) ss k (walk_expr nested a k))
   walk_expr nested (conditional a _ cs) k = walk_conditions nested cs (walk_expr nested a k)
@@ -260,12 +241,15 @@ abbrev mutual
   walk nested (EmitRaw t) k = k
   walk nested (EmitExpr e) k = walk_expr nested e k
   walk nested (EmitLoop e) k = walk_expr nested e (read (codes "loop") k)
+  walk nested (EmitBlock x) k = k
+  walk nested EmitSuper k = k
   walk nested (If' c _ body other) k = walk_else nested other (walk_all nested body (walk_expr nested c k))
   walk nested (For' t e c recursive _ body other) k = walk_else nested other
       (close_scope (walk_all nested body (walk_head nested t c (open_scope (walk_expr nested e k)))))
   walk nested Break k = k
   walk nested Continue k = k
-  walk nested (Block' x _ body) k = close_scope (walk_all nested body (open_scope k))
+  walk nested (Block' x required _ body) k = close_scope (walk_all nested body (open_scope k))
+  walk nested (Extends e) k = walk_expr nested e k
   walk nested (Set t e) k = walk_set nested t e k
   walk nested (CaptureBlock' u filters _ body) k = walk_all nested body (walk_filters nested filters (walk_use nested u k))
   walk nested (With' given _ body) k = close_scope (walk_all nested body (walk_assignments nested given (open_scope k)))

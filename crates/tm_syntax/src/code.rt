@@ -39,6 +39,15 @@ impl Model for Code {
         IsNonDecreasingBy (λ (e : ℕ × ℕ). e.0) a.macros.items };
 }
 
+/// The code of a block, and whether another template has to replace it.
+#[derive(Drop)]
+pub struct BlockCode {
+    /// Whether it is refused where no template replaces it.
+    pub required: bool,
+    /// What it runs.
+    pub code: Code,
+}
+
 /// Where the loops of instructions begin, each at its number. AllocError for want of memory.
 fn places_of(alloc: Global, instructions: &[Instruction]) -> Result<Vec<LoopPlace>, AllocError>
     ensures { IfOk result (λ places. places.items ≡ loop_places 0 instructions.now) }

@@ -133,6 +133,10 @@ pub enum Instruction {
     PerformTest(Name, Option<usize>, u8),
     /// Runs the block of a name.
     CallBlock(Name),
+    /// Runs the next block behind the one that runs, in place.
+    FastSuper,
+    /// Pops the name of the parent, which runs behind the stream.
+    LoadBlocks,
     /// Pops a value, and gives it to a name of the innermost scope.
     StoreLocal(Name),
     /// Lets the innermost scope's own closure, which is made where there is none, have a name with its present value,

@@ -11,7 +11,7 @@ mod raw_text;
 mod token;
 mod tree;
 
-pub use code::Code;
+pub use code::{BlockCode, Code};
 pub use instruction::{CACHES, CaptureMode, Instruction, LoopFlags, LoopPlace, NO_CACHE};
 pub use jump::JumpKind;
 pub use name::Name;

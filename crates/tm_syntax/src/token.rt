@@ -107,6 +107,8 @@ pub enum Tag {
     Block,
     /// `{% endblock`
     Endblock,
+    /// `{% extends`
+    Extends,
     /// `{% set`
     Set,
     /// `{% endset`

@@ -81,6 +81,8 @@ pub enum Expr {
     Map(Items<Pair>),
     /// A call of a name, with its arguments by their places and those by their names.
     Call(Name, Items<Argument>, Items<Keyword>),
+    /// The text of the block of a name, `self.b()`.
+    SelfBlock(Name),
     /// A prefix operator and its operand.
     Unary(UnaryOperator, Boxed<Expr>),
     /// A value and the steps behind it, from the left.
@@ -219,8 +221,14 @@ pub enum Stmt {
     Break,
     /// The innermost loop goes on with its next item.
     Continue,
-    /// A block of a name, and its body.
-    Block(Name, Items<Stmt>),
+    /// A block of a name, whether another template has to replace it, and its body.
+    Block(Name, bool, Items<Stmt>),
+    /// The block of a name writes in place, `{{ self.b() }}`.
+    EmitBlock(Name),
+    /// The next block behind the one that runs writes in place, `{{ super() }}`.
+    EmitSuper,
+    /// The template of this name is the parent, which runs behind the stream.
+    Extends(Boxed<Expr>),
     /// A value for a target.
     Set(AssignmentTarget, Boxed<Expr>),
     /// A capture: what becomes of its text, the filters that this goes through from the left, and the body that writes it.

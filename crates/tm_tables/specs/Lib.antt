@@ -2,6 +2,7 @@ pub mod Closures
 pub mod Found
 pub mod Known
 pub mod Language
+pub mod Lists
 pub mod Locals
 pub mod Places
 pub mod Scopes

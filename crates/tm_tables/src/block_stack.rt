@@ -1,15 +1,15 @@
 //! The block of one name in a chain of templates.
-ghost use Rattle.std.specs.Prelude.{◌≡◌, ◌<◌, ◌+◌, ◌-◌, ◌↔◌, IsTrue, ℕ, [], ◌∷◌, ◌++◌, Some, length, slice_get, OnErr, OnOk, IfErr};
-ghost use Rattle.tm_values.specs.Answer.{OkOrOutOfMemory, OrStays};
+ghost use Rattle.std.specs.Prelude.{◌≡◌, ◌+◌, [], ◌∷◌, ◌++◌, length, slice_get, None, Some, MatchOption, IfErr, IfOk, OnErr, OnOk};
+ghost use Rattle.tm_values.specs.Answer.{IsLent, OkOrOutOfMemory};
 ghost use Rattle.tm_values.specs.declared.error.ErrorKind.TheVariants.{OutOfMemory};
 
-use std::alloc::Global;
+use std::alloc::{AllocError, Global};
 use std::marker::Model;
 use tm_meaning::TemplateId;
 use tm_values::Error;
 
 /// The templates that have a block of one name, from child to root, and the place of the one whose block is meant. A
-/// contract sees them with their place, at which there is one.
+/// contract sees them with their place.
 #[derive(Drop)]
 pub struct BlockStack {
     templates: Vec<TemplateId>,
@@ -17,14 +17,11 @@ pub struct BlockStack {
 }
 
 impl Model for BlockStack {
-    ghost use Rattle.std.specs.Prelude.{◌<◌, length};
     ghost use Rattle.tm_meaning.specs.World.{Layers};
 
     ghost Value = { Layers };
 
     ghost view = { λ s. record { templates = s.templates.items; place = s.place } };
-
-    ghost invariant = { λ s. s.place < length s.templates.items };
 }
 
 impl BlockStack {
@@ -41,11 +38,27 @@ impl BlockStack {
         })
     }
 
-    /// The template whose block is meant.
-    pub fn template(&self) -> &TemplateId
-        ensures { slice_get self.now.templates self.now.place ≡ Some result.now }
+    /// The template whose block is meant, where there is one at the place.
+    pub fn template(&self) -> Option<&TemplateId>
+        ensures { IsLent result (slice_get self.now.templates self.now.place) }
     {
-        &self.templates[self.place]
+        self.templates.get(self.place)
+    }
+
+    /// The place behind that one, toward the root, and the template there, where there is one.
+    pub fn next(&self) -> Option<(usize, &TemplateId)>
+        ensures { MatchOption result (slice_get self.now.templates (self.now.place + 1) ≡ None)
+            (λ r. (r.0 ≡ self.now.place + 1)
+            × (slice_get self.now.templates (self.now.place + 1) ≡ Some r.1.now)) }
+    {
+        if self.place >= self.templates.len() {
+            return None;
+        }
+        let place = self.place + 1;
+        match self.templates.get(place) {
+            Some(template) => Some((place, template)),
+            None => None,
+        }
     }
 
     /// How many templates have the block.
@@ -55,25 +68,32 @@ impl BlockStack {
         self.templates.len()
     }
 
-    /// Means the block of the next template, toward the root. False where the present one is the last, and then all stays
-    /// as it was.
-    pub fn push(&mut self) -> bool
-        ensures moved { OrStays result self.old self.new
-            (self.new ≡ record self.old { place = self.old.place + 1 }) }
-        ensures there { IsTrue result ↔ (self.old.place + 1 < length self.old.templates) }
+    /// The place.
+    pub fn place(&self) -> usize
+        ensures { result ≡ self.now.place }
     {
-        if self.place + 1 >= self.templates.len() {
-            return false;
-        }
-        self.place += 1;
-        true
+        self.place
     }
 
-    /// Means the block of the template before, toward the child; the first one stays.
-    pub fn pop(&mut self)
-        ensures { self.new ≡ record self.old { place = self.old.place - 1 } }
+    /// Means the block of the template at a place.
+    pub fn move_to(&mut self, place: usize)
+        ensures { self.new ≡ record self.old { place = place } }
     {
-        self.place = self.place.saturating_sub(1);
+        self.place = place;
+    }
+
+    /// The same templates and place. AllocError for want of memory.
+    pub fn copy(&self, alloc: Global) -> Result<BlockStack, AllocError>
+        ensures { IfOk result (λ s. s ≡ self.now) }
+    {
+        let mut templates = Vec::new(alloc);
+        for template in self.templates.iter() {
+            templates.push(template.share()?)?;
+        }
+        Ok(BlockStack {
+            templates,
+            place: self.place,
+        })
     }
 
     /// One template more at the root's end. Fails by OutOfMemory alone, and then all stays as it was.

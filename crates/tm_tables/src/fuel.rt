@@ -47,7 +47,8 @@ fn charge(instruction: &Instruction) -> u64
         | Instruction::PushAutoEscape
         | Instruction::PopAutoEscape
         | Instruction::BuildMacro(_, _, _)
-        | Instruction::Return => 0,
+        | Instruction::Return
+        | Instruction::LoadBlocks => 0,
         Instruction::EmitRaw(_)
         | Instruction::Emit
         | Instruction::Lookup(_)
@@ -91,6 +92,7 @@ fn charge(instruction: &Instruction) -> u64
         | Instruction::ApplyFilter(_, _, _)
         | Instruction::PerformTest(_, _, _)
         | Instruction::CallBlock(_)
+        | Instruction::FastSuper
         | Instruction::StoreLocal(_)
         | Instruction::Enclose(_)
         | Instruction::GetClosure

@@ -5,13 +5,15 @@ ghost use Rattle.tm_meaning.specs.World.{HostValue as Meaning, template_at, card
 ghost use Rattle.tm_meaning.specs.declared.stream.StreamId.{StreamId as Stream};
 ghost use Rattle.tm_meaning.specs.Calls.{is_required, method_object};
 ghost use Rattle.tm_syntax.specs.Named.{find};
+ghost use Rattle.tm_values.specs.Answer.{IsAnswer};
+ghost use Rattle.tm_tables.specs.Lists.{AreBlocksOf};
 ghost use Rattle.tm_tables.specs.Stated.{IsCalled, IsFormatterAnswer, IsNamedAnswer};
 
 use crate::callable::{CallableAnswer, Called};
 use crate::view::View;
 use std::alloc::Global;
 use tm_meaning::{StreamId, TemplateId};
-use tm_syntax::{Code, NameMap};
+use tm_syntax::{BlockCode, Code, Name, NameMap};
 use tm_values::{Error, UndefinedBehavior, Value};
 
 /// What a render runs under: the environment, the rendered template and all objects of the caller, as one.
@@ -40,6 +42,15 @@ pub trait Host {
     /// Whether a stream is a required block.
     fn is_required(&self, stream: &StreamId) -> bool
         ensures { result ≡ is_required (card_at (meaning self.now) stream.now) };
+
+    /// The name of the template that another name means where a template of this name runs. The fault of what joins
+    /// them; OutOfMemory.
+    fn joined_name(&self, alloc: Global, name: &str, running: &str) -> Result<Name, Error>
+        ensures { IsAnswer result ((meaning self.now).join name.now running.now) };
+
+    /// The blocks of the template of a name, where there is one.
+    fn blocks_of(&self, name: &str) -> Option<&NameMap<BlockCode>>
+        ensures { AreBlocksOf result (find name.now (meaning self.now).templates) };
 
     /// The instructions of a stream.
     fn instructions(&self, stream: &StreamId) -> &Code

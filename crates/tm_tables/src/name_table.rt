@@ -15,7 +15,7 @@ pub const NO_PLACE: usize = usize::MAX;
 /// the pairs, in the order of the names.
 #[derive(Drop)]
 pub struct NameTable<T> {
-    entries: Vec<(Name, T)>,
+    pub(crate) entries: Vec<(Name, T)>,
 }
 
 impl<T> Model for NameTable<T> {
@@ -74,7 +74,7 @@ impl<T> NameTable<T> {
     }
 
     /// Where the entry of a name stands, or where it would stand.
-    fn search(&self, name: &str) -> Result<usize, usize>
+    pub(crate) fn search(&self, name: &str) -> Result<usize, usize>
         ensures { MatchResult result (IsThere name.now self.now) (IsGapFor name.now self.now) }
     {
         self.entries.binary_search_by(

@@ -5,7 +5,9 @@ use Rattle.tm_values.specs.declared.escape.AutoEscape.{AutoEscape}
 use Rattle.tm_syntax.specs.declared.tree.Tree.{Tree}
 use Rattle.tm_syntax.specs.declared.tree.Stmt.TheBlock.{hidden-the_row-Stmt-0 as statements}
 use Rattle.tm_syntax.specs.declared.instruction.Instruction.{Instruction}
-use Rattle.tm_syntax.specs.Blocks.{Body, body_of, blocks_in, code_of, compiled_blocks}
+use Rattle.tm_syntax.specs.Blocks.{Body, body_of, blocks_in, code_of}
+use Rattle.tm_syntax.specs.BlockCodes.{compiled_blocks}
+use Rattle.tm_syntax.specs.declared.code.BlockCode.{BlockCode}
 use Rattle.tm_syntax.specs.Named.{Named, by_name}
 use Rattle.tm_delimiters.specs.Syntax.{Syntax}
 use Rattle.tm_values.specs.Answer.{Refused}
@@ -24,7 +26,7 @@ abbrev pub body : Tree → Body
 body tree = body_of (statements tree.statements)
 
 -- the code of its blocks, by name
-abbrev pub block_codes : Tree → Named (List Instruction)
+abbrev pub block_codes : Tree → Named BlockCode
 block_codes tree = by_name (compiled_blocks (blocks_in (body tree).row))
 
 -- a template as its meaning takes it
@@ -32,7 +34,7 @@ abbrev pub tree_of : Compiled → TemplateTree
 tree_of t = record { name = t.name; escape = t.escape; root = body t.tree }
 
 -- These are the streams of the tree, and that of no block.
-pub record AreStreams (tree : Tree) (root : List Instruction) (blocks : Named (List Instruction))
+pub record AreStreams (tree : Tree) (root : List Instruction) (blocks : Named BlockCode)
     (nothing : List Instruction) : Type 0 where
   pub root_is : root ≡ code_of (body tree)
   pub blocks_are : blocks ≡ block_codes tree

@@ -9,7 +9,9 @@ ghost use Rattle.tm_syntax.specs.Named.{find};
 ghost use Rattle.tm_delimiters.specs.Syntax.{default_syntax};
 ghost use Rattle.tm_values.specs.Answer.{IsLent};
 ghost use Rattle.tm_values.specs.declared.error.ErrorKind.TheVariants.{OutOfMemory};
-ghost use Rattle.tm_meaning.specs.Tree.{part_of};
+ghost use Rattle.tm_meaning.specs.Calls.{is_required};
+ghost use Rattle.tm_meaning.specs.Tree.{part_of, template_of};
+ghost use Rattle.tm_meaning.specs.World.{card_in};
 ghost use Rattle.tm_templates.specs.Templates.{IsTemplate, IsRefused, body, block_codes, tree_of};
 ghost use Rattle.tm_templates.specs.Defaults.{escape_of};
 ghost use Rattle.tm_templates.specs.Sources.{source_bytes};
@@ -19,7 +21,7 @@ use std::alloc::Global;
 use std::collections::BTreeSet;
 use std::marker::Model;
 use std::rc::RcStr;
-use tm_compiler::{Code, Name, NameMap, Streams, SyntaxConfig, Tree, generate, parse};
+use tm_compiler::{BlockCode, Code, Name, NameMap, Streams, SyntaxConfig, Tree, generate, parse};
 use tm_names::undeclared;
 use tm_tables::EscapeRule;
 use tm_values::{AutoEscape, Error};
@@ -216,17 +218,30 @@ impl<'source> CompiledTemplate<'source> {
     }
 
     /// The code of its blocks, by name.
-    pub fn blocks(&self) -> &NameMap<Code>
+    pub fn blocks(&self) -> &NameMap<BlockCode>
         ensures { result.now ≡ block_codes self.now.tree }
     {
         &self.streams.blocks
     }
 
     /// The code of its block of a name, where there is one.
-    pub fn block(&self, name: &str) -> Option<&Code>
+    pub fn block(&self, name: &str) -> Option<&BlockCode>
         ensures { IsLent result (find name.now (block_codes self.now.tree)) }
     {
         self.streams.blocks.get(name)
+    }
+
+    /// Whether a part is the block of a name that another template has to replace.
+    pub fn is_required(&self, block: &Option<Name>) -> bool
+        ensures { result ≡ is_required (card_in (template_of (tree_of self.now)) block.now) }
+    {
+        match block {
+            None => false,
+            Some(name) => match self.block(name.as_str()) {
+                Some(found) => found.required,
+                None => false,
+            },
+        }
     }
 
     /// The code of a part: of the block of a name, or of all its tree. Of a block that isn't there, none.
@@ -236,7 +251,7 @@ impl<'source> CompiledTemplate<'source> {
         match block {
             None => self.instructions(),
             Some(name) => match self.block(name.as_str()) {
-                Some(code) => code,
+                Some(found) => &found.code,
                 None => &self.nothing,
             },
         }

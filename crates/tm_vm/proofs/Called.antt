@@ -1,16 +1,14 @@
 -- How a run goes on behind a call.
 use Rattle.std.specs.Global.{Box}
-use Rattle.std.proofs.Common.{◌≡◌, ◌≤◌, ◌-◌, ◌+◌, ℕ, zero, suc, List, [], ◌∷◌, length, drop, Option, Some, None, Result, Ok, Err, Bool, true, false}
+use Rattle.std.proofs.Common.{◌≡◌, ℕ, List, [], ◌∷◌, length, drop, Option, Some, None, Result, Ok, Err, Bool, true, false}
 use Rattle.std.proofs.Common.{refl, sym, ap, ◌∙◌, subst, arith}
 use Rattle.tm_values.specs.Val.{Val}
 use Rattle.tm_values.specs.declared.error.ErrorKind.{ErrorKind}
-use Rattle.std.proofs.lemmas.List.{length-drop}
 use Rattle.std.specs.Result.{IsErr, IsErrAnd}
-use Rattle.tm_meaning.specs.Memory.{is_want_of_memory}
-use Rattle.tm_meaning.specs.World.{World, Scope, Scopes}
+use Rattle.tm_meaning.specs.World.{World, Scopes}
 use Rattle.tm_syntax.specs.declared.instruction.LoopPlace.{LoopPlace}
-use Rattle.tm_meaning.specs.Calls.{Asked, has, refused, runs, recurs, outermost}
-use Rattle.tm_meaning.specs.Machine.{Capture, Config, Next, Over, Failed, Program, asked, first_run, goes, nested, new_capture, on_taken}
+use Rattle.tm_meaning.specs.Calls.{Asked, runs, recurs}
+use Rattle.tm_meaning.specs.Machine.{Capture, Config, Next, Program, asked, first_run, goes, nested, new_capture, on_taken}
 use Rattle.tm_meaning.specs.Machine.{place_of_loop, recursion, take_n, taken, waiting}
 use Rattle.tm_parts.specs.declared.halt.Halt.{Halt}
 use Rattle.tm_parts.specs.declared.halt.Halt.TheVariants as halt
@@ -22,13 +20,13 @@ use Rattle.tm_state.specs.declared.saved.Saved.TheVariants as saved
 use Rattle.tm_state.specs.declared.saved.SavedBlock.{SavedBlock}
 use Rattle.tm_state.specs.declared.saved.SavedMacro.{SavedMacro}
 use Rattle.tm_state.specs.declared.nested.NestedRun.{NestedRun}
-use Rattle.tm_state.specs.Answers.{Becomes, IsBefore, KeepsFixedAndLists, Leaves, NeedsRun, OneDeeper, SameScopes, StaysInPlace, call_of}
-use Rattle.tm_state.specs.State.{callee_of, put_back}
+use Rattle.tm_state.specs.Answers.{Becomes, KeepsFixedAndNames, Leaves, NamedBecomes, NeedsAny, OneDeeper, StaysInPlace, call_of}
+use Rattle.tm_state.specs.State.{IsSaved, callee_of, put_back}
 use Rattle.tm_vm.specs.declared.flow.Flow.{Flow}
 use Rattle.tm_vm.specs.declared.flow.Flow.TheVariants as flow
-use Rattle.tm_vm.specs.Answers.{EntersAsValue, Enters, GoesOnWith, Needed, Needs, NoFewer, Opens, Quietly, Silently, entered}
+use Rattle.tm_vm.specs.Answers.{EntersAsValue, Enters, GoesOnWith, Needs, NoFewer, Opens, Silently, entered}
 use Rattle.tm_vm.proofs.Counted.{calling}
-use Rattle.tm_vm.proofs.Loop.{kept_then}
+use Rattle.tm_vm.proofs.Loop.{kept_then, outermost_long}
 use Rattle.tm_vm.proofs.Performed.{still}
 
 -- ---------------------------------------------------------------- worlds that don't matter
@@ -42,7 +40,7 @@ fewer_then : (a b c : World) → StaysInPlace a b → NoFewer b c → NoFewer a 
 fewer_then a b c stays more = (omega (arith, stays.0.0, more.0), more.1 ∙ stays.0.1)
 
 -- behind a call that left the scopes as they were
-opens_behind : (p : Program) (n : Next) (old new : Config) (before : World) (result : Result Flow Halt) → KeepsFixedAndLists before old.world →
+opens_behind : (p : Program) (n : Next) (old new : Config) (before : World) (result : Result Flow Halt) → KeepsFixedAndNames before old.world →
     StaysInPlace before old.world → Opens n old new result → Needs p n (record old { world = before }) new result
 opens_behind p n old new before (Ok flow.GoOn) kept stays h = record {
   did = h.did;
@@ -51,6 +49,7 @@ opens_behind p n old new before (Ok flow.GoOn) kept stays h = record {
   same_stream = h.same_stream;
 }
 opens_behind p n old new before (Ok flow.Done) kept stays h = absurd h.did
+opens_behind p n old new before (Ok flow.Restart) kept stays h = absurd h.did
 opens_behind p n old new before (Ok (flow.Enter e)) kept stays h = absurd h.did
 opens_behind p n old new before (Err halt.Writer) kept stays h = absurd h.did
 opens_behind p n old new before (Err halt.Stuck) kept stays h = record {
@@ -85,9 +84,6 @@ loop_goes_on p r count old new result h q before is leaves =
     (opens_behind p (asked p old vs (recurs r.number items old.world)) old new before result leaves.kept leaves.lies h))
 
 -- ---------------------------------------------------------------- runs
-outermost_long : (n : ℕ) (frames : List Scope) → n ≤ length frames → length (outermost n frames) ≡ n
-outermost_long n frames h = omega (arith, length-drop (length frames - n) frames, h)
-
 -- what is put back where no memory was found for the capture
 put_back_fewer : (limit : ℕ) (s : Saved) (before w : World) → OneDeeper limit s before w → NoFewer before (put_back s w)
 put_back_fewer limit (saved.Block s) before w deep =
@@ -95,26 +91,36 @@ put_back_fewer limit (saved.Block s) before w deep =
     let frames = deep.1.0 in
     let long = outermost_long s.scopes w.scopes.frames (omega (arith, scopes, frames)) in
     (omega (arith, long, scopes), ap (λ (s : SavedBlock). s.outer) deep.0)
+put_back_fewer limit (saved.Super s) before w deep =
+    let scopes : s.replaced.scopes ≡ length before.scopes.frames = ap (λ (s : SavedBlock). s.scopes) deep.0.0 in
+    let frames = deep.1.0 in
+    let long = outermost_long s.replaced.scopes w.scopes.frames (omega (arith, scopes, frames)) in
+    (omega (arith, long, scopes), ap (λ (s : SavedBlock). s.outer) deep.0.0)
 put_back_fewer limit (saved.Macro s) before w deep =
     let same : s.context ≡ before.scopes = ap (λ (s : SavedMacro). s.context) deep.0 in
     let frames = ap (λ (s : Scopes). length s.frames) same in
     (omega (arith, frames), ap (λ (s : Scopes). s.outer) same)
 
 -- and what a run keeps is kept then
-pub put_back_keeps : (s : Saved) (before w : World) → KeepsFixedAndLists before w → KeepsFixedAndLists before (put_back s w)
-put_back_keeps (saved.Block s) before w kept = record {
+pub put_back_keeps : (s : Saved) (before w : World) → IsSaved s before → KeepsFixedAndNames before w →
+    KeepsFixedAndNames before (put_back s w)
+put_back_keeps (saved.Block s) before w is kept = record {
   same_id = kept.same_id;
   same_fuel_set = kept.same_fuel_set;
   no_more_fuel = kept.no_more_fuel;
-  same_blocks = kept.same_blocks;
   same_loaded = kept.same_loaded;
 }
-put_back_keeps (saved.Macro s) before w kept = record {
+put_back_keeps (saved.Super s) before w is kept = record {
   same_id = kept.same_id;
   same_fuel_set = kept.same_fuel_set;
   no_more_fuel = kept.no_more_fuel;
-  same_blocks = kept.same_blocks;
   same_loaded = kept.same_loaded;
+}
+put_back_keeps (saved.Macro s) before w is kept = record {
+  same_id = kept.same_id;
+  same_fuel_set = kept.same_fuel_set;
+  no_more_fuel = kept.no_more_fuel;
+  same_loaded = ap (λ (s : SavedMacro). s.lists.loaded) is;
 }
 
 entered_as : (p : Program) (e : NestedRun) (vs : List Val) (old : Config) (before b : World) → e.heard ≡ true → e.value ≡ true →
@@ -126,14 +132,14 @@ entered_as p e vs old before b heard value =
     ap (λ h. nested first h ks old.world (record { run = waiting vs old; call = call_of e b; value = true })) (sym heard)
     ∙ ap (λ v. nested first e.heard ks old.world (record { run = waiting vs old; call = call_of e b; value = v })) (sym value)
 
-enters_it : (p : Program) (e : NestedRun) (vs : List Val) (old new : Config) (before : World) (q : Asked) → NeedsRun e q old.world →
+enters_it : (p : Program) (e : NestedRun) (vs : List Val) (old new : Config) (before : World) (q : Asked) → NeedsAny e q old.world →
     new ≡ record { run = waiting vs old; captures = new_capture true ∷ old.captures; world = old.world } →
     Enters p e new (asked p (record old { world = before }) vs q)
 enters_it p e vs old new before q needs moved =
-    let b = needs.3.0 in (
+    let b = needs.2.0 in (
       b,
-      subst (λ (c : Config). IsBefore e.saved b c.world) (sym moved) needs.3.1,
-      ap (asked p (record old { world = before }) vs) needs.3.2 ∙ entered_as p e vs old before b needs.0 needs.1
+      needs.2.1,
+      ap (asked p (record old { world = before }) vs) needs.2.2 ∙ entered_as p e vs old before b needs.0 needs.1
           ∙ ap (entered p e b) (sym moved),
     )
 
@@ -141,12 +147,13 @@ pub run_goes_on : (p : Program) (e : Box NestedRun) (count : ℕ) (old new : Con
     EntersAsValue e.value count result old new → GoesOnWith p (outcome.Run e) count old new result
 run_goes_on p e count old new (Ok flow.GoOn) h q before needs leaves = absurd h
 run_goes_on p e count old new (Ok flow.Done) h q before needs leaves = absurd h
+run_goes_on p e count old new (Ok flow.Restart) h q before needs leaves = absurd h
 run_goes_on p e count old new (Ok (flow.Enter b)) h q before needs leaves =
     let vs = drop count old.run.operands in
     let world : new.world ≡ old.world = ap (λ (c : Config). c.world) h.1 in record {
       did = subst (λ r. Enters p r new (asked p (record old { world = before }) vs q)) (sym h.0)
           (enters_it p e.value vs old new before q needs h.1);
-      kept = subst (λ w. KeepsFixedAndLists before w) (sym world) leaves.kept;
+      kept = subst (λ w. KeepsFixedAndNames before w) (sym world) leaves.kept;
       deepens = subst (λ r. OneDeeper p.host.limit r before new.world) (sym (ap (λ (r : NestedRun). r.saved) h.0))
           (subst (λ w. OneDeeper p.host.limit e.value.saved before w) (sym world) leaves.lies);
       same_stream = ap (λ (c : Config). c.run.stream) h.1;
@@ -155,10 +162,17 @@ run_goes_on p e count old new (Err halt.Writer) h q before needs leaves = absurd
 run_goes_on p e count old new (Err halt.Stuck) h q before needs leaves = absurd h
 run_goes_on p e count old new (Err (halt.Fault chain)) h q before needs leaves = record {
   did = λ m. absurd (let w : true ≡ false = sym h.0 ∙ m in cc w);
-  kept = subst (λ w. KeepsFixedAndLists before w) (sym h.1) (put_back_keeps e.value.saved before old.world leaves.kept);
+  kept = subst (λ w. KeepsFixedAndNames before w) (sym h.1) (put_back_keeps e.value.saved before old.world leaves.lies.0 leaves.kept);
   deepens = subst (λ w. NoFewer before w) (sym h.1) (put_back_fewer p.host.limit e.value.saved before old.world leaves.lies);
   same_stream = h.2;
 }
+
+-- What a call came to, where no kind is put before the fault of its run.
+pub as_named : (r : Result CallResult (List ErrorKind)) (q : Asked) (w : World) → Becomes r q w → NamedBecomes r q w
+as_named (Ok (outcome.Value v)) q w is = is
+as_named (Ok (outcome.Recursion l)) q w is = is
+as_named (Ok (outcome.Run e)) q w is = (is.0, is.1, is.3)
+as_named (Err chain) q w is = is
 
 -- ---------------------------------------------------------------- calls of so many operands
 module _ (p : Program) (call : World → List Val → Asked) (count : ℕ) (old now : Config) (is : old ≡ now) (vs : List Val)
@@ -166,7 +180,7 @@ module _ (p : Program) (call : World → List Val → Asked) (count : ℕ) (old 
   abbrev Called : Config → Config → Result Flow Halt → Type 0
   Called c new result = Needs p (take_n count c.run.operands c.world (calling p call c)) c new result
 
-  pub went_on : (came : CallResult) (new : Config) (result : Result Flow Halt) → Becomes (Ok came) (call old.world vs) w →
+  pub went_on : (came : CallResult) (new : Config) (result : Result Flow Halt) → NamedBecomes (Ok came) (call old.world vs) w →
       Leaves p.host.limit (Ok came) old.world w → GoesOnWith p came count (record old { world = w }) new result → Called now new result
   went_on came new result becomes leaves goes_on =
       subst (λ c. Called c new result) is
@@ -174,7 +188,7 @@ module _ (p : Program) (call : World → List Val → Asked) (count : ℕ) (old 
       (goes_on (call old.world vs) old.world becomes leaves))
 
   -- or it was refused
-  refused_there : (chain : List ErrorKind) → Becomes (Err chain) (call old.world vs) w → Leaves p.host.limit (Err chain) old.world w →
+  refused_there : (chain : List ErrorKind) → NamedBecomes (Err chain) (call old.world vs) w → Leaves p.host.limit (Err chain) old.world w →
       Called old (record old { world = w }) (Err (halt.Fault chain))
   refused_there chain becomes leaves =
       let same = leaves.lies.0 in
@@ -187,8 +201,14 @@ module _ (p : Program) (call : World → List Val → Asked) (count : ℕ) (old 
       })
 
   pub ended : (r : Result Flow Halt) (chain : List ErrorKind) → IsErr r × IsErrAnd r (λ e. e ≡ halt.Fault chain) →
-      Becomes (Err chain) (call old.world vs) w → Leaves p.host.limit (Err chain) old.world w → Called now (record old { world = w }) r
+      NamedBecomes (Err chain) (call old.world vs) w → Leaves p.host.limit (Err chain) old.world w → Called now (record old { world = w }) r
   ended (Ok f) chain same becomes leaves = absurd (cc same.0)
   ended (Err e) chain same becomes leaves =
       subst (λ c. Called c (record old { world = w }) (Err e)) is
       (subst (λ x. Called old (record old { world = w }) (Err x)) (sym same.1) (refused_there chain becomes leaves))
+
+  -- the same of a call whose run has no kind before its fault
+  pub went_on_plainly : (came : CallResult) (new : Config) (result : Result Flow Halt) → Becomes (Ok came) (call old.world vs) w →
+      Leaves p.host.limit (Ok came) old.world w → GoesOnWith p came count (record old { world = w }) new result → Called now new result
+  went_on_plainly came new result becomes leaves goes_on =
+      went_on came new result (as_named (Ok came) (call old.world vs) w becomes) leaves goes_on

@@ -1,20 +1,20 @@
 -- What is emitted at once.
 use Rattle.std.proofs.Common.{◌≡◌, ◌≢◌, ℕ, List, [], ◌∷◌, ◌+◌, Option, None, Some, is_some, Result}
-use Rattle.std.proofs.Common.{Ok, Err, Bool, true, false, drop, refl, sym, ◌∙◌, ap, subst, arith}
+use Rattle.std.proofs.Common.{Ok, Err, true, false, drop, refl, sym, ◌∙◌, ap, subst, arith}
 use Rattle.std.specs.Prelude.{MatchResult}
 use Rattle.std.specs.Io.KnownBytes.{Appends}
 use Rattle.tm_values.specs.Val.{Val}
 use Rattle.tm_values.specs.Defined.{refusal_of}
 use Rattle.tm_values.specs.declared.undefined.UndefinedUse.TheVariants.{Emission}
 use Rattle.tm_definitions.specs.Emitted.{emission_verdict, emitted_text}
-use Rattle.tm_meaning.specs.World.{World, HostValue, Format, Good, emitted, records_of, choose}
+use Rattle.tm_meaning.specs.World.{World, HostValue, Format, Good, emitted, records_of}
 use Rattle.tm_meaning.specs.Instructions.{emit_of, emit_raw_of}
 use Rattle.tm_meaning.specs.Machine.{Capture, Config, Next, More, after, audible, on, on_top, put_in, put_out, with_world, writes}
 use Rattle.tm_meaning.specs.declared.base.Base.{Base}
 use Rattle.tm_output.specs.Targets.{IsToldInPart, IsToldWhole}
 use Rattle.tm_output.specs.declared.target.TargetFailed.{TargetFailed}
 use Rattle.tm_output.specs.Counts.{AppendsBeginning}
-use Rattle.tm_state.specs.Answers.{KeepsFixedAndLists, SameScopes}
+use Rattle.tm_state.specs.Answers.{KeepsFixedAndNames, SameScopes}
 use Rattle.tm_vm.specs.Answers.{output}
 use Rattle.tm_vm.specs.AtOnce.{Attempted, AttemptedUntold, IsAtOnce, captured_of, paid, written_of}
 use Rattle.tm_parts.specs.Outgoing.{IsPut, IsPutInPart}
@@ -47,9 +47,9 @@ goes_on host f old new v rest text none heard top known moved =
     ∙ (ap (λ (vs : List Val). on (drop 1 vs) old) (sym top) ∙ sym moved)))))
 
 kept_in : (old new : Config) → new ≡ record old { run = record old.run { operands = drop 1 old.run.operands; place = old.run.place + 1 } } →
-    KeepsFixedAndLists old.world new.world
-kept_in old new moved = subst (λ (w : World). KeepsFixedAndLists old.world w) (sym (ap (λ (c : Config). c.world) moved))
-    (record { same_id = refl; same_fuel_set = refl; no_more_fuel = omega arith; same_blocks = refl; same_loaded = refl })
+    KeepsFixedAndNames old.world new.world
+kept_in old new moved = subst (λ (w : World). KeepsFixedAndNames old.world w) (sym (ap (λ (c : Config). c.world) moved))
+    (record { same_id = refl; same_fuel_set = refl; no_more_fuel = omega arith; same_loaded = refl })
 
 pub emitted_at_once : (told now : Option (List ℕ)) (failures count : ℕ) (host : HostValue) (f : Base) (old new : Config) (v : Val)
     (rest : List Val) (answer : Result (Unit {0}) TargetFailed) → old.captures ≡ [] → audible f old ≡ true →
@@ -104,9 +104,9 @@ goes_in host f old v rest text some heard top known =
     ∙ (ap (λ t. More t (record (on rest old) { captures = put_in old.captures text })) (nothing_out old.captures text some)
     ∙ ap (λ (vs : List Val). More [] (record (on (drop 1 vs) old) { captures = put_in old.captures text })) (sym top))))
 
-kept_behind : (ks : List Capture) (old new : Config) → new ≡ behind ks old → KeepsFixedAndLists old.world new.world
-kept_behind ks old new moved = subst (λ (w : World). KeepsFixedAndLists old.world w) (sym (ap (λ (c : Config). c.world) moved))
-    (record { same_id = refl; same_fuel_set = refl; no_more_fuel = omega arith; same_blocks = refl; same_loaded = refl })
+kept_behind : (ks : List Capture) (old new : Config) → new ≡ behind ks old → KeepsFixedAndNames old.world new.world
+kept_behind ks old new moved = subst (λ (w : World). KeepsFixedAndNames old.world w) (sym (ap (λ (c : Config). c.world) moved))
+    (record { same_id = refl; same_fuel_set = refl; no_more_fuel = omega arith; same_loaded = refl })
 
 pub captured_at_once : (host : HostValue) (f : Base) (old new : Config) (v : Val) (rest : List Val)
     (answer : Result (Unit {0}) TargetFailed) → old.captures ≢ [] → audible f old ≡ true →
@@ -144,7 +144,7 @@ quiet : (n : Config → Next) (old new : Config) → n (paid old) ≡ More [] ne
     new.run.stream ≡ old.run.stream → IsAtOnce true n old new
 quiet n old new did same stream = record {
   did = did;
-  kept = subst (λ (w : World). KeepsFixedAndLists (paid old).world w) (sym same) (kept_same (paid old).world);
+  kept = subst (λ (w : World). KeepsFixedAndNames (paid old).world w) (sym same) (kept_same (paid old).world);
   same_scopes = subst (λ (w : World). SameScopes (paid old).world w) (sym same) (refl, refl);
   same_stream = stream;
 }

@@ -3,7 +3,10 @@ use Rattle.std.specs.Global.{Box}
 use Rattle.std.proofs.Common.{◌≡◌, ◌≤◌, ◌<◌, ℕ, List, [], ◌∷◌, length, ◌++◌, take, zero, suc, Option, Result, Ok, Err, Some, None, Bool, true, false, refl, sym}
 use Rattle.std.proofs.Common.{◌∙◌, ap, subst, append_assoc, arith, inl, inr}
 use Rattle.std.specs.Io.KnownBytes.{Appends}
-use Rattle.std.proofs.lemmas.List.{append-nil}
+use Rattle.std.proofs.lemmas.List.{append-nil, length-drop}
+use Rattle.std.proofs.Common.{◌-◌}
+use Rattle.tm_meaning.specs.World.{Scope}
+use Rattle.tm_meaning.specs.Calls.{outermost}
 use Rattle.tm_meaning.specs.World.{World, Scopes, depth}
 use Rattle.tm_meaning.specs.Calls.{undone, wrapped}
 use Rattle.tm_meaning.specs.Memory.{is_want_of_memory}
@@ -11,9 +14,9 @@ use Rattle.tm_meaning.specs.declared.wrapping.Wrapping.{Wrapping}
 use Rattle.tm_meaning.specs.declared.wrapping.Wrapping.TheVariants as wrapping
 use Rattle.tm_values.specs.declared.error.ErrorKind.{ErrorKind}
 use Rattle.tm_values.specs.declared.error.ErrorKind.TheVariants.{InvalidOperation}
-use Rattle.tm_meaning.specs.Machine.{Activation, Capture, Config, End, Finished, Failed, Stuck, Next, More, Over, Nest, Program, Back}
+use Rattle.tm_meaning.specs.Machine.{Activation, Capture, Config, End, Finished, Failed, Stuck, Next, More, Over, Restart, Nest, Program, Back}
 use Rattle.tm_meaning.specs.Machine.{back_to, back_with, base_of, first_run, nested, running}
-use Rattle.tm_meaning.specs.Steps.{begun, final, step, Final, Leads, Reaches, over, more, nest}
+use Rattle.tm_meaning.specs.Steps.{begun, final, step, Final, Leads, Reaches, over, more, restart, nest}
 use Rattle.tm_meaning.specs.declared.base.Base.{Base}
 use Rattle.tm_meaning.proofs.Ends.{one_end, text_grows, more_only}
 use Rattle.tm_output.specs.Counts.{AppendsBeginning}
@@ -24,25 +27,41 @@ use Rattle.tm_state.specs.declared.nested.NestedRun.{NestedRun}
 use Rattle.tm_vm.specs.declared.flow.Flow.{Flow}
 use Rattle.tm_vm.specs.declared.flow.Flow.TheVariants as flow
 use Rattle.tm_vm.specs.Answers.{Begins, ComesTo, Did, Enters, HaltsAs, ReachesEnd, KeepsBaseScopes, output}
-use Rattle.tm_state.specs.Answers.{IsBefore, KeepsFixedAndLists, OneDeeper, SameScopes, call_of}
+use Rattle.tm_state.specs.Answers.{KeepsFixed, KeepsFixedAndNames, OneDeeper, SameScopes, call_of}
 use Rattle.tm_state.specs.declared.saved.Saved.{Saved}
 use Rattle.tm_state.specs.declared.saved.Saved.TheVariants as saved
 use Rattle.tm_state.specs.declared.saved.SavedBlock.{SavedBlock}
 use Rattle.tm_state.specs.declared.saved.SavedMacro.{SavedMacro}
-use Rattle.tm_vm.specs.Nested.{IsCaptured, RanNested, Went, EndsIn, WroteBeginning, IsBack, IsWrapped, KeepsLists, StandsOn, behind, begins_in, base_in, world_at}
-use Rattle.tm_state.specs.State.{callee_of, put_back, saved_scopes, undo_of}
+use Rattle.tm_vm.specs.Nested.{IsCaptured, RanNested, Went, EndsIn, WroteBeginning, IsBack, IsWrapped, StandsOn, behind, begins_in, base_in}
+use Rattle.tm_state.specs.State.{IsSaved, IsSavedSuper, behind_block, callee_of, put_back, undo_of}
+use Rattle.std.specs.Prelude.{option_map}
+use Rattle.tm_syntax.specs.Named.{find}
+use Rattle.tm_meaning.specs.Calls.{block_undone, of_super}
+use Rattle.tm_meaning.specs.Inheritance.{at_place_of, names_left, put_list}
+use Rattle.tm_meaning.specs.World.{HostValue, Layers}
+use Rattle.tm_tables.specs.Lists.{placed_at}
+use Rattle.tm_state.specs.declared.saved.SavedSuper.{SavedSuper}
 use Rattle.tm_vm.proofs.Shift.{alone, behind_text}
 
-pub kept_same : (w : World) → KeepsFixedAndLists w w
-kept_same w = record { same_id = refl; same_fuel_set = refl; no_more_fuel = omega arith; same_blocks = refl; same_loaded = refl }
+pub kept_same : (w : World) → KeepsFixedAndNames w w
+kept_same w = record { same_id = refl; same_fuel_set = refl; no_more_fuel = omega arith; same_loaded = refl }
 
-pub kept_then : {a b c : World} → KeepsFixedAndLists a b → KeepsFixedAndLists b c → KeepsFixedAndLists a c
+pub kept_then : {a b c : World} → KeepsFixedAndNames a b → KeepsFixedAndNames b c → KeepsFixedAndNames a c
 kept_then h k = record {
   same_id = k.same_id ∙ h.same_id;
   same_fuel_set = k.same_fuel_set ∙ h.same_fuel_set;
   no_more_fuel = omega (arith, h.no_more_fuel, k.no_more_fuel);
-  same_blocks = k.same_blocks ∙ h.same_blocks;
   same_loaded = k.same_loaded ∙ h.same_loaded;
+}
+
+pub fixed_same : (w : World) → KeepsFixed w w
+fixed_same w = record { same_id = refl; same_fuel_set = refl; no_more_fuel = omega arith }
+
+pub fixed_then : {a b c : World} → KeepsFixed a b → KeepsFixed b c → KeepsFixed a c
+fixed_then h k = record {
+  same_id = k.same_id ∙ h.same_id;
+  same_fuel_set = k.same_fuel_set ∙ h.same_fuel_set;
+  no_more_fuel = omega (arith, h.no_more_fuel, k.no_more_fuel);
 }
 
 -- The writer has got a text since the run began at a, and the machine has come from a to c.
@@ -68,6 +87,25 @@ stands_next {p = p} {f = f} {c = c} {told = told} {now = now} d new s did =
       back = λ o r. more_only did.0 (s.back o r);
     }
 
+-- a run that restarts goes on as it began there
+restart_only : {p : Program} {f : Base} {t : List ℕ} {n : Next} {c : Config} {o : Final} → n ≡ Restart c → Leads p f t n o →
+    Leads p f t (step p f c) o
+restart_only e (over x y) = absurd (cc (e, x))
+restart_only e (more x y) = absurd (cc (e, x))
+restart_only {p = p} {f = f} {t = t} {c = c1} {o = o} e (restart {c = c2} x y) =
+    let same : c2 ≡ c1 = cc (e, x) in subst (λ c. Leads p f t (step p f c) o) same y
+restart_only e (nest x y z) = absurd (cc (e, x))
+
+pub stands_again : {p : Program} {f : Base} {a c : Config} {told now : Option (List ℕ)} (d : Config) (new : Option (List ℕ)) →
+    RunsUpTo p f a told now c →
+    Did p (Ok flow.Restart) now new d (step p f c) → RunsUpTo p f a told new d
+stands_again {told = told} d new s did = record {
+  text = s.text;
+  appended = subst (λ t. Appends told t s.text) (sym did.1) s.appended;
+  onward = λ o r. s.onward o (restart did.0 r);
+  back = λ o r. restart_only did.0 (s.back o r);
+}
+
 -- ---------------------------------------------------------------- nested runs
 module _ (p : Program) (heard : Bool) (ks : List Capture) (w : World) (back : Back) where
   abbrev Within : Option Activation → List ℕ → Final → Type 0
@@ -80,6 +118,7 @@ module _ (p : Program) (heard : Bool) (ks : List Capture) (w : World) (back : Ba
       let ended : x ≡ Failed (InvalidOperation ∷ []) w = cc at in
       subst (λ y. Leads p f y.text (back_to back y.end) o) (same ∙ ap (λ z. final t z) ended) rest
   nested_leads None (more at then) rest = absurd cc
+  nested_leads None (restart at then) rest = absurd cc
   nested_leads None (nest at then last) rest = absurd cc
   nested_leads (Some a) run rest = nest refl run rest
 
@@ -89,6 +128,7 @@ module _ (p : Program) (heard : Bool) (ks : List Capture) (w : World) (back : Ba
   nested_parts {t = t} None l = (final t (Failed (InvalidOperation ∷ []) w), over refl refl, l)
   nested_parts (Some a) (over x y) = absurd cc
   nested_parts (Some a) (more x y) = absurd cc
+  nested_parts (Some a) (restart x y) = absurd cc
   nested_parts {f = f} {t = t} {o = o} (Some a) (nest {g = g2} {c = c2} {back = b2} {e = e2} x y z) =
       let kg : g2 ≡ base_of heard ks w = cc in
       let kc : c2 ≡ running a ks w = cc in
@@ -105,21 +145,27 @@ module _ (p : Program) (heard : Bool) (ks : List Capture) (w : World) (back : Ba
       let parts = nested_parts a l in
       subst (λ (e : Final). Leads p f e.text (back_to back e.end) o) (one_end parts.1 (behind_text t run)) parts.2
 
+-- behind a `super()` its list is at the place before it
+super_undone : (s : SavedSuper) (b w : World) → IsSavedSuper s b → undone (of_super s.name b) w ≡ put_back (saved.Super s) w
+super_undone s b w (block, name, (l, found, place)) =
+    ap (λ (o : Option Layers). record (block_undone b w) { blocks = put_list s.name (option_map (at_place_of o) (find s.name w.blocks)) w.blocks })
+    found
+    ∙ ap (λ n. record (block_undone b w) { blocks = placed_at n s.name w.blocks }) (sym place)
+    ∙ ap (λ (r : SavedBlock). record (behind_block r w) { blocks = placed_at s.place s.name w.blocks }) (sym block)
+
 -- What is undone behind a run is what is put back.
-pub undone_is : (s : Saved) (b mid w : World) → IsBefore s b mid → KeepsLists mid w → undone (undo_of s b) w ≡ put_back s w
-undone_is (saved.Block s) b mid w is keeps = sym (ap (λ x. put_back (saved.Block x) w) is.0)
-undone_is (saved.Macro s) b mid w is keeps =
-    let back : World = put_back (saved.Macro (saved_scopes b)) w in
-    ap (λ x. record back { blocks = x; loaded = b.loaded }) (sym (keeps.0 ∙ is.1)) ∙ ap (λ x. record back { loaded = x }) (sym (keeps.1 ∙ is.2))
-    ∙ sym (ap (λ x. put_back (saved.Macro x) w) is.0)
+pub undone_is : (s : Saved) (b w : World) → IsSaved s b → undone (undo_of s b) w ≡ put_back s w
+undone_is (saved.Block s) b w is = sym (ap (λ x. put_back (saved.Block x) w) is)
+undone_is (saved.Super s) b w is = super_undone s b w is
+undone_is (saved.Macro s) b w is = sym (ap (λ x. put_back (saved.Macro x) w) is)
 
 -- what a nested run's end leads to, by what is put back behind it
-behind_is : (e : NestedRun) (b mid : World) (r : Activation) (end : End) → IsBefore e.saved b mid → KeepsLists mid (world_at end) →
+behind_is : (e : NestedRun) (b : World) (r : Activation) (end : End) → IsSaved e.saved b →
     back_to (record { run = r; call = call_of e b; value = e.value }) end
     ≡ behind e r end
-behind_is e b mid r (Finished ks w) is keeps = ap (λ x. back_with e.value e.text r ks x) (undone_is e.saved b mid w is keeps)
-behind_is e b mid r (Failed chain w) is keeps = ap (λ x. Over (Failed (wrapped e.wrap chain) x)) (undone_is e.saved b mid w is keeps)
-behind_is e b mid r (Stuck w) is keeps = ap (λ x. Over (Stuck x)) (undone_is e.saved b mid w is keeps)
+behind_is e b r (Finished ks w) is = ap (λ x. back_with e.value e.text r ks x) (undone_is e.saved b w is)
+behind_is e b r (Failed chain w) is = ap (λ x. Over (Failed (wrapped e.wrap chain) x)) (undone_is e.saved b w is)
+behind_is e b r (Stuck w) is = ap (λ x. Over (Stuck x)) (undone_is e.saved b w is)
 
 -- the run itself
 abbrev pub first_of : Program → NestedRun → Config → Option Activation
@@ -132,7 +178,7 @@ pub stands_behind : {p : Program} {f : Base} {a c : Config} {told now : Option (
 stands_behind {p = p} {f = f} {c = c} {told = told} {now = now} entry mid d at new s did ran =
     let enters = did.0 in
     let b = enters.0 in
-    let goes = behind_is entry b mid.world mid.run (Finished ran.captures ran.world) enters.1 ran.keeps ∙ ran.goes in
+    let goes = behind_is entry b mid.run (Finished ran.captures ran.world) enters.1 ∙ ran.goes in
     let back : Back = record { run = mid.run; call = call_of entry b; value = entry.value } in
     record {
       text = s.text ++ ran.text;
@@ -151,6 +197,7 @@ output_first : {p : Program} {f : Base} {t : List ℕ} {n : Next} {o : Final} �
 output_first {p = p} {f = f} {t = t} {n = Over e} {o = o} l = text_grows l
 output_first {p = p} {f = f} {t = t} {n = More d c} {o = o} l =
     let grown = text_grows (more_only refl l) in (grown.0, grown.1 ∙ append_assoc t d grown.0)
+output_first {p = p} {f = f} {t = t} {n = Restart c} {o = o} l = text_grows l
 output_first {p = p} {f = f} {t = t} {n = Nest g c b} {o = o} l = text_grows l
 
 pub beginning_at : {p : Program} {f : Base} {a c : Config} {told now : Option (List ℕ)} (new : Option (List ℕ)) →
@@ -227,7 +274,7 @@ ended_in {p = p} {f = f} {a = a} {c = c} {told = told} {now = now} entry mid at 
           appends_then told now new s.text run.0 s.appended (subst (λ o. Appends o new run.0) did.1 run.1),
           s.onward _ (subst (λ n. Leads p f s.text n (final (s.text ++ run.0) x)) (sym enters.2)
               (nested_leads p entry.heard mid.captures mid.world back (first_of p entry mid) (behind_text s.text run.2)
-              (over (behind_is entry enters.0 mid.world mid.run ended.0 enters.1 ended.2 ∙ ended.3) refl))),
+              (over (behind_is entry enters.0 mid.run ended.0 enters.1 ∙ ended.2) refl))),
         )
 
     by_halt : (why : Halt) → HaltsAs why w (EndsIn p entry mid at new) → HaltsAs why w (ReachesEnd p f a told new)
@@ -259,6 +306,8 @@ at_base p old new told now r f g e did = subst (λ x. Did p r told now new (step
 scopes_back : (limit : ℕ) (s : Saved) (old mid new : World) → OneDeeper limit s old mid → IsBack s new → SameScopes old new
 scopes_back limit (saved.Block s) old mid new deep back =
     (back.0 ∙ ap (λ (s : SavedBlock). s.scopes) deep.0, back.1 ∙ ap (λ (s : SavedBlock). s.outer) deep.0)
+scopes_back limit (saved.Super s) old mid new deep back =
+    (back.0 ∙ ap (λ (s : SavedBlock). s.scopes) deep.0.0, back.1 ∙ ap (λ (s : SavedBlock). s.outer) deep.0.0)
 scopes_back limit (saved.Macro s) old mid new deep back =
     let same : new.scopes ≡ old.scopes = back ∙ ap (λ (s : SavedMacro). s.context) deep.0 in
     (ap (λ (s : Scopes). length s.frames) same, ap (λ (s : Scopes). s.outer) same)
@@ -267,18 +316,55 @@ pub scopes_behind : (limit : ℕ) (e : NestedRun) (old mid new : World) → OneD
     SameScopes old new
 scopes_behind limit e old mid new deep back = scopes_back limit e.saved old mid new deep back
 
+pub outermost_long : (n : ℕ) (frames : List Scope) → n ≤ length frames → length (outermost n frames) ≡ n
+outermost_long n frames h = omega (arith, length-drop (length frames - n) frames, h)
+
 -- it stands deeper than the run that waits, on the scopes that were saved
-lies_deeper : (limit : ℕ) (s : Saved) (old mid : World) → OneDeeper limit s old mid → StandsOn s mid × (depth old.scopes < depth mid.scopes)
-lies_deeper limit (saved.Block s) old mid deep =
+lies_deeper : (limit : ℕ) (s : Saved) (old mid : World) → OneDeeper limit s old mid → mid.loaded ≡ old.loaded →
+    StandsOn s mid × (depth old.scopes < depth mid.scopes)
+lies_deeper limit (saved.Block s) old mid deep names =
     let frames = deep.1.0 in
     let outer = deep.1.1 in
     let held : s.scopes ≡ length old.scopes.frames = ap (λ (s : SavedBlock). s.scopes) deep.0 in
     (omega (arith, frames, held), omega (arith, frames, outer))
-lies_deeper limit (saved.Macro s) old mid deep = let lies = deep.1.1 in (tt, omega (arith, lies))
+lies_deeper limit (saved.Super s) old mid deep names =
+    let frames = deep.1.0 in
+    let outer = deep.1.1 in
+    let held : s.replaced.scopes ≡ length old.scopes.frames = ap (λ (s : SavedBlock). s.scopes) deep.0.0 in
+    (omega (arith, frames, held), omega (arith, frames, outer))
+lies_deeper limit (saved.Macro s) old mid deep names =
+    let lies = deep.1.1 in
+    (ap (λ (s : SavedMacro). s.lists.loaded) deep.0 ∙ sym names, omega (arith, lies))
 
-pub stands_deeper : (limit : ℕ) (e : NestedRun) (old mid : World) → OneDeeper limit e.saved old mid →
+pub stands_deeper : (limit : ℕ) (e : NestedRun) (old mid : World) → OneDeeper limit e.saved old mid → mid.loaded ≡ old.loaded →
     StandsOn e.saved mid × (depth old.scopes < depth mid.scopes)
-stands_deeper limit e old mid deep = lies_deeper limit e.saved old mid deep
+stands_deeper limit e old mid deep names = lies_deeper limit e.saved old mid deep names
+
+-- the scopes that a run opened are left, and those that were replaced are back
+pub is_back : (s : Saved) (begun ran : World) → StandsOn s begun → length begun.scopes.frames ≤ length ran.scopes.frames → IsBack s (put_back s ran)
+is_back (saved.Block s) begun ran stands no_fewer =
+    (outermost_long s.scopes ran.scopes.frames (omega (arith, stands, no_fewer)), refl)
+is_back (saved.Super s) begun ran stands no_fewer =
+    (outermost_long s.replaced.scopes ran.scopes.frames (omega (arith, stands, no_fewer)), refl)
+is_back (saved.Macro s) begun ran stands no_fewer = refl
+
+-- behind a run no more names are left than when it began
+pub names_back : (host : HostValue) (s : Saved) (begun ran : World) → StandsOn s begun → names_left host ran ≤ names_left host begun →
+    names_left host (put_back s ran) ≤ names_left host begun
+names_back host (saved.Block s) begun ran stands less = less
+names_back host (saved.Super s) begun ran stands less = less
+names_back host (saved.Macro s) begun ran stands less =
+    let same : names_left host (put_back (saved.Macro s) ran) ≡ names_left host begun =
+    ap (λ ns. names_left host (record ran { loaded = ns })) stands in
+    omega (arith, same)
+
+pub fixed_back : (s : Saved) (old ran : World) → KeepsFixed old ran → KeepsFixed old (put_back s ran)
+fixed_back (saved.Block s) old ran kept =
+    record { same_id = kept.same_id; same_fuel_set = kept.same_fuel_set; no_more_fuel = kept.no_more_fuel }
+fixed_back (saved.Super s) old ran kept =
+    record { same_id = kept.same_id; same_fuel_set = kept.same_fuel_set; no_more_fuel = kept.no_more_fuel }
+fixed_back (saved.Macro s) old ran kept =
+    record { same_id = kept.same_id; same_fuel_set = kept.same_fuel_set; no_more_fuel = kept.no_more_fuel }
 
 -- behind a step of a run whose base stood over so many scopes
 pub above_base : (heard : Bool) (ks : List Capture) (first : World) (f : Base) (old new : World) → f ≡ base_of heard ks first →
@@ -308,21 +394,21 @@ want_wrapped (Some wrapping.BadInclude) (k ∷ ks) = refl
 
 -- the halt of a nested run, as it is told
 wrapped_as : (p : Program) (e : NestedRun) (old : Config) (told now : Option (List ℕ)) (why tells : Halt) (w : World) →
-    KeepsLists old.world w → IsWrapped e.wrap why tells
+    IsWrapped e.wrap why tells
     → HaltsAs why w (ComesTo p (base_in e old) (begins_in p e old) told now) → HaltsAs tells (put_back e.saved w) (EndsIn p e old told now)
-wrapped_as p e old told now halt.Writer tells w keeps is h =
+wrapped_as p e old told now halt.Writer tells w is h =
     subst (λ x. HaltsAs x (put_back e.saved w) (EndsIn p e old told now)) (sym is) tt
-wrapped_as p e old told now halt.Stuck tells w keeps is h =
-    subst (λ x. HaltsAs x (put_back e.saved w) (EndsIn p e old told now)) (sym is) (Stuck w, h, keeps, refl)
-wrapped_as p e old told now (halt.Fault chain) tells w keeps (inl is) h =
+wrapped_as p e old told now halt.Stuck tells w is h =
+    subst (λ x. HaltsAs x (put_back e.saved w) (EndsIn p e old told now)) (sym is) (Stuck w, h, refl)
+wrapped_as p e old told now (halt.Fault chain) tells w (inl is) h =
     subst (λ x. HaltsAs x (put_back e.saved w) (EndsIn p e old told now)) (sym is)
-    (λ own. (Failed chain w, h (sym (want_wrapped e.wrap chain) ∙ own), keeps, refl))
-wrapped_as p e old told now (halt.Fault chain) tells w keeps (inr is) h =
+    (λ own. (Failed chain w, h (sym (want_wrapped e.wrap chain) ∙ own), refl))
+wrapped_as p e old told now (halt.Fault chain) tells w (inr is) h =
     subst (λ x. HaltsAs x (put_back e.saved w) (EndsIn p e old told now)) (sym is) (λ own. absurd (cc own))
 
 -- A run that has begun, and has come to another configuration.
 module _ (p : Program) (e : NestedRun) (waits : Activation) (old begun_at ran : Config) (told now : Option (List ℕ))
-    (begins : Begins (first_of p e old) (Some waits) old begun_at) (kept : KeepsFixedAndLists begun_at.world ran.world) where
+    (begins : Begins (first_of p e old) (Some waits) old begun_at) where
   abbrev Stands : Base
   Stands = base_of e.heard begun_at.captures begun_at.world
 
@@ -334,9 +420,6 @@ module _ (p : Program) (e : NestedRun) (waits : Activation) (old begun_at ran : 
       ap (λ ks. step p (base_of e.heard ks begun_at.world) (running begun_at.run ks begun_at.world)) begins.2
       ∙ ap (λ w. step p (base_of e.heard old.captures w) (running begun_at.run old.captures w)) begins.3
       ∙ sym (ap (λ a. begun p (base_in e old) a old.captures old.world) begins.1)
-
-  keeps : KeepsLists old.world ran.world
-  keeps = (kept.same_blocks ∙ ap (λ (w : World). w.blocks) begins.3, kept.same_loaded ∙ ap (λ (w : World). w.loaded) begins.3)
 
   comes : (x : End) → ReachesEnd p Stands begun_at told now x → ComesTo p (base_in e old) (begins_in p e old) told now x
   comes x r =
@@ -354,7 +437,7 @@ module _ (p : Program) (e : NestedRun) (waits : Activation) (old begun_at ran : 
       HaltsAs why ran.world (ReachesEnd p Stands begun_at told now) → HaltsAs tells left.world (EndsIn p e old told now)
   wrapped_ends left why tells same is h =
       subst (λ w. HaltsAs tells w (EndsIn p e old told now)) (sym same)
-      (wrapped_as p e old told now why tells ran.world keeps is (halts why h))
+      (wrapped_as p e old told now why tells ran.world is (halts why h))
 
   -- and where it was done, that goes on.
   pub went : (new : Config) → ReachesEnd p Stands begun_at told now (Finished ran.captures ran.world) →
@@ -367,7 +450,6 @@ module _ (p : Program) (e : NestedRun) (waits : Activation) (old begun_at ran : 
         world = ran.world;
         appended = came.1;
         leads = came.2;
-        keeps = keeps;
         goes = goes;
       }
 
@@ -392,7 +474,6 @@ module _ (p : Program) (e : NestedRun) (waits : Activation) (old begun_at ran : 
   as_value put new (Err halt.Stuck) is at value same r = (
     Finished ran.captures ran.world,
     comes (Finished ran.captures ran.world) r,
-    keeps,
     over_put put at ∙ ap (λ v. back_with v e.text put.run put.captures put.world) value
         ∙ ap (λ ks. back_with true e.text put.run ks put.world) is ∙ ap (λ w. Over (Stuck w)) (sym same),
   )
@@ -414,7 +495,7 @@ pub refused_ends : (p : Program) (e : NestedRun) (old left : Config) (told : Opt
     HaltsAs tells left.world (EndsIn p e old told told)
 refused_ends p e old left told tells none same is =
     subst (λ w. HaltsAs tells w (EndsIn p e old told told)) (sym same)
-    (wrapped_as p e old told told (halt.Fault (InvalidOperation ∷ [])) tells old.world (refl, refl) is
+    (wrapped_as p e old told told (halt.Fault (InvalidOperation ∷ [])) tells old.world is
     (λ own. ([], appends_nothing told, over (refused_first p e old none) refl)))
 
 pub refused_begins : (p : Program) (e : NestedRun) (old : Config) (told : Option (List ℕ)) →
@@ -427,6 +508,7 @@ is_begun : {p : Program} {f : Base} {t : List ℕ} {o : Final} (ks later : List 
 is_begun ks later w left (Some a) l done = (a, refl)
 is_begun ks later w left None (over at same) done = let last = ap (λ (x : Final). x.end) same in absurd (cc (at, last, done))
 is_begun ks later w left None (more at rest) done = absurd cc
+is_begun ks later w left None (restart at rest) done = absurd cc
 is_begun ks later w left None (nest at rest then) done = absurd cc
 
 pub was_there : {p : Program} {e : NestedRun} {old new : Config} {told now : Option (List ℕ)} → Went p e old new told now →

@@ -14,19 +14,22 @@ use Rattle.std.proofs.Common.{◌-◌, nat_lt}
 use Rattle.std.proofs.lemmas.Bool.Decides.{nat_tests}
 use Rattle.tm_meaning.specs.Steps.{act, charge_of, effect, pay, step}
 use Rattle.tm_syntax.specs.declared.instruction.Instruction.{Instruction}
-use Rattle.tm_state.specs.Answers.{IsBefore, KeepsFixedAndLists, OneDeeper, SameScopes}
-use Rattle.tm_vm.proofs.Loop.{kept_same, kept_then}
+use Rattle.tm_state.specs.Answers.{KeepsFixed, KeepsFixedAndNames, OneDeeper, SameScopes, fixed_of}
+use Rattle.tm_vm.proofs.Loop.{fixed_same, fixed_then, kept_same}
+use Rattle.std.proofs.Common.{◌≤◌}
+use Rattle.tm_meaning.specs.Inheritance.{names_left}
+use Rattle.tm_meaning.specs.World.{HostValue}
 use Rattle.tm_meaning.specs.declared.base.Base.{Base}
 use Rattle.tm_output.specs.Pieces.{appends_nothing, beginning_nothing}
 use Rattle.tm_parts.specs.declared.halt.Halt.{Halt}
 use Rattle.tm_parts.specs.declared.halt.Halt.TheVariants as halt
-use Rattle.tm_meaning.specs.World.{World, Good, block_of, choose}
-use Rattle.tm_state.specs.State.{runs_block, saved_of}
+use Rattle.tm_meaning.specs.World.{World, Good, choose}
+use Rattle.tm_state.specs.State.{IsSaved, runs_block, saved_of}
 use Rattle.tm_state.specs.declared.saved.Saved.{Saved}
 use Rattle.tm_state.specs.declared.saved.Saved.TheVariants as saved
 use Rattle.tm_state.specs.declared.nested.RunOf.TheVariants as run_of
-use Rattle.tm_vm.specs.Answers.{Depths, Did, Enters, entered, Performs, Writes, Silently, Opens, Shifts, Needs, Finishes}
-use Rattle.tm_vm.specs.Answers.{NoFewer, KeepsBaseScopes, output}
+use Rattle.tm_vm.specs.Answers.{Depths, Did, Enters, entered, Performs, Writes, Silently, Opens, Shifts, Needs, Loads, Finishes}
+use Rattle.tm_vm.specs.Answers.{NoFewer, KeepsBaseScopes, Names, output}
 use Rattle.tm_vm.specs.AtOnce.{Attempted, IsAtOnce, IsCharged, IsFree, IsPaid, attempt_of, captured_of, free_attempt_of, paid}
 use Rattle.tm_vm.specs.AtOnce.{written_of}
 use Rattle.tm_output.specs.declared.target.TargetFailed.{TargetFailed}
@@ -43,31 +46,41 @@ nothing_written {c = c} told at =
 stays : (f : Base) (old new : World) → SameScopes old new → KeepsBaseScopes f old new
 stays f old new same = (λ h. omega (arith, h, same.0), same.1)
 
+-- the same names are loaded, so as many are left
+pub same_names : (host : HostValue) {old new : World} → KeepsFixedAndNames old new → names_left host new ≤ names_left host old
+same_names host {old = old} {new = new} kept =
+    let same : names_left host new ≡ names_left host old = ap (λ ns. names_left host (record old { loaded = ns })) kept.same_loaded in
+    omega (arith, same)
+
 pub silent : {p : Program} {f : Base} {n : Next} {old new : Config} {told : Option (List ℕ)} {failures : ℕ} (result : Result Flow Halt) →
     Silently n old new result
     → Performs p f n old new told told failures failures result
-silent {f = f} {n = n} {old = old} {new = new} {told = told} (Ok flow.GoOn) s =
+silent {p = p} {f = f} {n = n} {old = old} {new = new} {told = told} (Ok flow.GoOn) s =
     record {
       did = nothing_written told s.did;
       counted = refl;
-      kept = s.kept;
+      kept = fixed_of s.kept;
+      names = same_names p.host s.kept;
       depths = stays f old.world new.world s.same_scopes;
       same_stream = s.same_stream;
     }
-silent (Ok flow.Done) s = absurd s.did
-silent (Ok (flow.Enter e)) s = absurd s.did
-silent (Err halt.Writer) s = absurd s.did
-silent {f = f} {n = n} {old = old} {new = new} {told = told} (Err halt.Stuck) s = record {
+silent {p = p} (Ok flow.Done) s = absurd s.did
+silent {p = p} (Ok flow.Restart) s = absurd s.did
+silent {p = p} (Ok (flow.Enter e)) s = absurd s.did
+silent {p = p} (Err halt.Writer) s = absurd s.did
+silent {p = p} {f = f} {n = n} {old = old} {new = new} {told = told} (Err halt.Stuck) s = record {
   did = (s.did, beginning_nothing told (output n));
   counted = refl;
-  kept = s.kept;
+  kept = fixed_of s.kept;
+  names = same_names p.host s.kept;
   depths = stays f old.world new.world s.same_scopes;
   same_stream = s.same_stream;
 }
-silent {f = f} {n = n} {old = old} {new = new} {told = told} (Err (halt.Fault chain)) s = record {
+silent {p = p} {f = f} {n = n} {old = old} {new = new} {told = told} (Err (halt.Fault chain)) s = record {
   did = (s.did, beginning_nothing told (output n));
   counted = refl;
-  kept = s.kept;
+  kept = fixed_of s.kept;
+  names = same_names p.host s.kept;
   depths = stays f old.world new.world s.same_scopes;
   same_stream = s.same_stream;
 }
@@ -84,28 +97,32 @@ stays_over f old new more = let long = more.0 in (λ h. omega (arith, h, long), 
 pub opened : {p : Program} {f : Base} {n : Next} {old new : Config} {told : Option (List ℕ)} {failures : ℕ} (result : Result Flow Halt) →
     Opens n old new result
     → Performs p f n old new told told failures failures result
-opened {f = f} {n = n} {old = old} {new = new} {told = told} (Ok flow.GoOn) s =
+opened {p = p} {f = f} {n = n} {old = old} {new = new} {told = told} (Ok flow.GoOn) s =
     record {
       did = nothing_written told s.did;
       counted = refl;
-      kept = s.kept;
+      kept = fixed_of s.kept;
+      names = same_names p.host s.kept;
       depths = stays_over f old.world new.world s.no_fewer;
       same_stream = s.same_stream;
     }
-opened (Ok flow.Done) s = absurd s.did
-opened (Ok (flow.Enter e)) s = absurd s.did
-opened (Err halt.Writer) s = absurd s.did
-opened {f = f} {n = n} {old = old} {new = new} {told = told} (Err halt.Stuck) s = record {
+opened {p = p} (Ok flow.Done) s = absurd s.did
+opened {p = p} (Ok flow.Restart) s = absurd s.did
+opened {p = p} (Ok (flow.Enter e)) s = absurd s.did
+opened {p = p} (Err halt.Writer) s = absurd s.did
+opened {p = p} {f = f} {n = n} {old = old} {new = new} {told = told} (Err halt.Stuck) s = record {
   did = (s.did, beginning_nothing told (output n));
   counted = refl;
-  kept = s.kept;
+  kept = fixed_of s.kept;
+  names = same_names p.host s.kept;
   depths = stays_over f old.world new.world s.no_fewer;
   same_stream = s.same_stream;
 }
-opened {f = f} {n = n} {old = old} {new = new} {told = told} (Err (halt.Fault chain)) s = record {
+opened {p = p} {f = f} {n = n} {old = old} {new = new} {told = told} (Err (halt.Fault chain)) s = record {
   did = (s.did, beginning_nothing told (output n));
   counted = refl;
-  kept = s.kept;
+  kept = fixed_of s.kept;
+  names = same_names p.host s.kept;
   depths = stays_over f old.world new.world s.no_fewer;
   same_stream = s.same_stream;
 }
@@ -113,45 +130,58 @@ opened {f = f} {n = n} {old = old} {new = new} {told = told} (Err (halt.Fault ch
 pub shifted : {p : Program} {f : Base} {n : Next} {old new : Config} {told : Option (List ℕ)} {failures : ℕ} (result : Result Flow Halt) →
     Shifts f n old new result
     → Performs p f n old new told told failures failures result
-shifted {n = n} {told = told} (Ok flow.GoOn) s =
-    record { did = nothing_written told s.did; counted = refl; kept = s.kept; depths = s.stays; same_stream = s.same_stream }
-shifted (Ok flow.Done) s = absurd s.did
-shifted (Ok (flow.Enter e)) s = absurd s.did
-shifted (Err halt.Writer) s = absurd s.did
-shifted {n = n} {told = told} (Err halt.Stuck) s =
+shifted {p = p} {n = n} {told = told} (Ok flow.GoOn) s =
     record {
-      did = (s.did, beginning_nothing told (output n));
+      did = nothing_written told s.did;
       counted = refl;
-      kept = s.kept;
+      kept = fixed_of s.kept;
+      names = same_names p.host s.kept;
       depths = s.stays;
       same_stream = s.same_stream;
     }
-shifted {n = n} {told = told} (Err (halt.Fault chain)) s =
+shifted {p = p} (Ok flow.Done) s = absurd s.did
+shifted {p = p} (Ok flow.Restart) s = absurd s.did
+shifted {p = p} (Ok (flow.Enter e)) s = absurd s.did
+shifted {p = p} (Err halt.Writer) s = absurd s.did
+shifted {p = p} {n = n} {told = told} (Err halt.Stuck) s =
     record {
       did = (s.did, beginning_nothing told (output n));
       counted = refl;
-      kept = s.kept;
+      kept = fixed_of s.kept;
+      names = same_names p.host s.kept;
+      depths = s.stays;
+      same_stream = s.same_stream;
+    }
+shifted {p = p} {n = n} {told = told} (Err (halt.Fault chain)) s =
+    record {
+      did = (s.did, beginning_nothing told (output n));
+      counted = refl;
+      kept = fixed_of s.kept;
+      names = same_names p.host s.kept;
       depths = s.stays;
       same_stream = s.same_stream;
     }
 
 pub wrote : {p : Program} {f : Base} {n : Next} {old new : Config} {told now : Option (List ℕ)} {failures count : ℕ} (result : Result Flow Halt)
     → Writes n old new told now failures count result → Performs p f n old new told now failures count result
-wrote {f = f} {old = old} {new = new}
+wrote {p = p} {f = f} {old = old} {new = new}
     (Ok flow.GoOn) s = record {
       did = s.did;
       counted = s.counted;
-      kept = s.kept;
+      kept = fixed_of s.kept;
+      names = same_names p.host s.kept;
       depths = stays f old.world new.world s.same_scopes;
       same_stream = s.same_stream;
     }
-wrote (Ok flow.Done) s = absurd s.did
-wrote (Ok (flow.Enter e)) s = absurd s.did
-wrote {f = f} {old = old} {new = new}
+wrote {p = p} (Ok flow.Done) s = absurd s.did
+wrote {p = p} (Ok flow.Restart) s = absurd s.did
+wrote {p = p} (Ok (flow.Enter e)) s = absurd s.did
+wrote {p = p} {f = f} {old = old} {new = new}
     (Err why) s = record {
       did = s.did;
       counted = s.counted;
-      kept = s.kept;
+      kept = fixed_of s.kept;
+      names = same_names p.host s.kept;
       depths = stays f old.world new.world s.same_scopes;
       same_stream = s.same_stream;
     }
@@ -159,38 +189,75 @@ wrote {f = f} {old = old} {new = new}
 pub needed : {p : Program} {f : Base} {n : Next} {old new : Config} {told : Option (List ℕ)} {failures : ℕ} (result : Result Flow Halt) →
     Needs p n old new result
     → Performs p f n old new told told failures failures result
-needed {f = f} {old = old} {new = new} {told = told} (Ok flow.GoOn) s =
+needed {p = p} {f = f} {old = old} {new = new} {told = told} (Ok flow.GoOn) s =
     record {
       did = nothing_written told s.did;
       counted = refl;
-      kept = s.kept;
+      kept = fixed_of s.kept;
+      names = same_names p.host s.kept;
       depths = stays_over f old.world new.world s.deepens;
       same_stream = s.same_stream;
     }
-needed (Ok flow.Done) s = absurd s.did
-needed {f = f} {old = old} {new = new}
-    (Ok (flow.Enter e)) s = record { did = (s.did, refl); counted = refl; kept = s.kept; depths = s.deepens; same_stream = s.same_stream }
-needed (Err halt.Writer) s = absurd s.did
-needed {f = f} {n = n} {old = old} {new = new} {told = told} (Err halt.Stuck) s =
+needed {p = p} (Ok flow.Done) s = absurd s.did
+needed {p = p} (Ok flow.Restart) s = absurd s.did
+needed {p = p} {f = f} {old = old} {new = new}
+    (Ok (flow.Enter e)) s = record { did = (s.did, refl); counted = refl; kept = fixed_of s.kept; names = s.kept.same_loaded; depths = s.deepens; same_stream = s.same_stream }
+needed {p = p} (Err halt.Writer) s = absurd s.did
+needed {p = p} {f = f} {n = n} {old = old} {new = new} {told = told} (Err halt.Stuck) s =
     record {
       did = (s.did, beginning_nothing told (output n));
       counted = refl;
-      kept = s.kept;
+      kept = fixed_of s.kept;
+      names = same_names p.host s.kept;
       depths = stays_over f old.world new.world s.deepens;
       same_stream = s.same_stream;
     }
-needed {f = f} {n = n} {old = old} {new = new} {told = told} (Err (halt.Fault chain)) s =
+needed {p = p} {f = f} {n = n} {old = old} {new = new} {told = told} (Err (halt.Fault chain)) s =
     record {
       did = (s.did, beginning_nothing told (output n));
       counted = refl;
-      kept = s.kept;
+      kept = fixed_of s.kept;
+      names = same_names p.host s.kept;
       depths = stays_over f old.world new.world s.deepens;
       same_stream = s.same_stream;
     }
 
+-- one that may load a template
+pub loads : {p : Program} {f : Base} {n : Next} {old new : Config} {told : Option (List ℕ)} {failures : ℕ} (result : Result Flow Halt) →
+    Loads p.host n old new result
+    → Performs p f n old new told told failures failures result
+loads {f = f} {n = n} {old = old} {new = new} {told = told} (Ok flow.GoOn) s = record {
+  did = nothing_written told s.did;
+  counted = refl;
+  kept = s.kept;
+  names = s.names;
+  depths = stays f old.world new.world s.same_scopes;
+  same_stream = s.same_stream;
+}
+loads (Ok flow.Done) s = absurd s.did
+loads (Ok flow.Restart) s = absurd s.did
+loads (Ok (flow.Enter e)) s = absurd s.did
+loads (Err halt.Writer) s = absurd s.did
+loads {f = f} {n = n} {old = old} {new = new} {told = told} (Err halt.Stuck) s = record {
+  did = (s.did, beginning_nothing told (output n));
+  counted = refl;
+  kept = s.kept;
+  names = s.names;
+  depths = stays f old.world new.world s.same_scopes;
+  same_stream = s.same_stream;
+}
+loads {f = f} {n = n} {old = old} {new = new} {told = told} (Err (halt.Fault chain)) s = record {
+  did = (s.did, beginning_nothing told (output n));
+  counted = refl;
+  kept = s.kept;
+  names = s.names;
+  depths = stays f old.world new.world s.same_scopes;
+  same_stream = s.same_stream;
+}
+
 -- one that needs a run, which is boxed
 pub boxed : {p : Program} {n : Next} {old new : Config} (e : NestedRun) (b : Box NestedRun) → b.value ≡ e → Enters p e new n →
-    KeepsFixedAndLists old.world new.world → OneDeeper p.host.limit e.saved old.world new.world
+    KeepsFixedAndNames old.world new.world → OneDeeper p.host.limit e.saved old.world new.world
     → new.run.stream ≡ old.run.stream → Needs p n old new (Ok (flow.Enter b))
 boxed {p = p} {n = n} {old = old} {new = new} e b same enters kept deeper stream = record {
   did = subst (λ x. Enters p x new n) (sym same) enters;
@@ -200,7 +267,7 @@ boxed {p = p} {n = n} {old = old} {new = new} e b same enters kept deeper stream
 }
 
 -- a block that is run in place
-same_entry : (p : Program) (e d : NestedRun) (b : World) (c : Config) → e ≡ d → IsBefore d.saved b c.world → (n : Next) → n ≡ entered p d b c →
+same_entry : (p : Program) (e d : NestedRun) (b : World) (c : Config) → e ≡ d → IsSaved d.saved b → (n : Next) → n ≡ entered p d b c →
     Enters p e c n
 same_entry p e d b c same is n at = subst (λ x. Enters p x c n) (sym same) (b, is, at)
 
@@ -231,9 +298,8 @@ pub block_entered : (p : Program) (f : Base) (old : Config) (x : List ℕ) (s : 
     none_waits old.run.parent ≡ true → audible f old ≡ true
     → enter_block p.host x old.world ≡ runs_block s old.world w →
     new ≡ record { run = record old.run { place = old.run.place + 1 }; captures = old.captures; world = w }
-    → e ≡ block_run s old.world → KeepsFixedAndLists old.world w
-    → Enters p e new (call_block_of p f x old)
-block_entered p f old x s e new w waits heard enters moved is kept =
+    → e ≡ block_run s old.world → Enters p e new (call_block_of p f x old)
+block_entered p f old x s e new w waits heard enters moved is =
     let d : NestedRun = block_run s old.world in
     let call : NestedCall = block_call s old.world in
     let mid : Config = record { run = record old.run { place = old.run.place + 1 }; captures = old.captures; world = w } in
@@ -242,9 +308,7 @@ block_entered p f old x s e new w waits heard enters moved is kept =
     ∙ ap (asked_in_place p f old old.run.operands) enters
     ∙ ap (λ h. nested (first_run p (whole s) (length old.captures)) h old.captures w (record { run = mid.run; call = call; value = false }))
     heard in
-    let before : IsBefore d.saved old.world new.world = subst (λ (c : Config). IsBefore d.saved old.world c.world) (sym moved)
-    (refl, kept.same_blocks, kept.same_loaded) in
-    same_entry p e d old.world new is before (call_block_of p f x old) (goes ∙ ap (entered p d old.world) (sym moved))
+    same_entry p e d old.world new is refl (call_block_of p f x old) (goes ∙ ap (entered p d old.world) (sym moved))
 
 -- one that was done at once or left, and writes nothing
 pub at_once : (n : Config → Next) (old new : Config) (told : Option (List ℕ)) (failures : ℕ) (done : Bool) → IsAtOnce done n old new →
@@ -293,37 +357,74 @@ pub ruleset charged = (of_charged, written_charged, captured_charged)
 
 pub ruleset attempts = (at_once, free_at_once, is_paid, of_charged)
 
--- one that ends the run
-pub finished : {p : Program} {f : Base} {n : Next} {c : Config} {told : Option (List ℕ)} {failures : ℕ} (result : Result Flow Halt) →
-    Finishes result f c n → Performs p f n c c told told failures failures result
-finished {f = f} {c = c} (Ok flow.Done) s =
-    record { did = (s.0, refl); counted = refl; kept = kept_same c.world; depths = ((λ h. h, refl), s.1); same_stream = refl }
+-- one that ends the run, or restarts it
+pub finished : {p : Program} {f : Base} {n : Next} {old new : Config} {told : Option (List ℕ)} {failures : ℕ} (result : Result Flow Halt) →
+    Finishes result f old new n → Performs p f n old new told told failures failures result
+finished {p = p} {f = f} {n = n} {old = old} {new = new} {told = told} {failures = failures} (Ok flow.Done) s =
+    subst (λ (c : Config). Performs p f n c new told told failures failures (Ok flow.Done)) s.2 (record {
+      did = (s.0, refl);
+      counted = refl;
+      kept = fixed_same new.world;
+      names = omega arith;
+      depths = ((λ h. h, refl), s.1);
+      same_stream = refl;
+    })
+finished {p = p} {f = f} {old = old} {new = new} (Ok flow.Restart) s =
+    let world = ap (λ (c : Config). c.world) s.1.3 in
+    record {
+      did = (s.0, refl);
+      counted = refl;
+      kept = subst (λ w. KeepsFixed old.world w) (sym world) (record { same_id = refl; same_fuel_set = refl; no_more_fuel = omega arith });
+      names = subst (λ w. names_left p.host w ≤ names_left p.host old.world) (sym world) (omega arith);
+      depths = subst (λ w. KeepsBaseScopes f old.world w) (sym world) (λ h. h, refl);
+      same_stream = tt;
+    }
 finished (Ok flow.GoOn) s = absurd s
 finished (Ok (flow.Enter e)) s = absurd s
 finished (Err halt.Writer) s = absurd s
-finished {n = n} {c = c} {told = told} (Err halt.Stuck) s = record {
-  did = (s, beginning_nothing told (output n));
-  counted = refl;
-  kept = kept_same c.world;
-  depths = (λ h. h, refl);
-  same_stream = refl;
-}
-finished (Err (halt.Fault chain)) s = absurd s
+finished {p = p} {f = f} {n = n} {old = old} {new = new} {told = told} {failures = failures} (Err halt.Stuck) s =
+    subst (λ (c : Config). Performs p f n c new told told failures failures (Err halt.Stuck)) s.1 (record {
+      did = (s.0, beginning_nothing told (output n));
+      counted = refl;
+      kept = fixed_same new.world;
+      names = omega arith;
+      depths = (λ h. h, refl);
+      same_stream = refl;
+    })
+finished {p = p} {f = f} {n = n} {old = old} {new = new} {told = told} {failures = failures} (Err (halt.Fault chain)) s =
+    subst (λ (c : Config). Performs p f n c new told told failures failures (Err (halt.Fault chain))) s.1 (record {
+      did = ((λ own. absurd (let w : true ≡ false = sym s.0 ∙ own in cc w)), beginning_nothing told (output n));
+      counted = refl;
+      kept = fixed_same new.world;
+      names = omega arith;
+      depths = (λ h. h, refl);
+      same_stream = refl;
+    })
 
-pub ruleset kinds = (silent, opened, shifted, wrote, needed, finished)
+pub ruleset kinds = (silent, opened, shifted, wrote, needed, loads, finished)
 
 -- ---------------------------------------------------------------- behind a charge
 deep_paid : (limit : ℕ) (s : Saved) (left : ℕ) (old new : World) → OneDeeper limit s (record old { fuel = left }) new →
     OneDeeper limit s old new
 deep_paid limit (saved.Block s) left old new h = h
+deep_paid limit (saved.Super s) left old new h = h
 deep_paid limit (saved.Macro s) left old new h = h
 
 depths_paid : (limit : ℕ) (f : Base) (result : Result Flow Halt) (left : ℕ) (old new : World) →
     Depths limit f result (record old { fuel = left }) new → Depths limit f result old new
 depths_paid limit f (Ok flow.GoOn) left old new h = h
 depths_paid limit f (Ok flow.Done) left old new h = h
+depths_paid limit f (Ok flow.Restart) left old new h = h
 depths_paid limit f (Ok (flow.Enter e)) left old new h = deep_paid limit e.value.saved left old new h
 depths_paid limit f (Err why) left old new h = h
+
+names_paid : (host : HostValue) (result : Result Flow Halt) (left : ℕ) (old new : World) →
+    Names host result (record old { fuel = left }) new → Names host result old new
+names_paid host (Ok flow.GoOn) left old new h = h
+names_paid host (Ok flow.Done) left old new h = h
+names_paid host (Ok flow.Restart) left old new h = h
+names_paid host (Ok (flow.Enter e)) left old new h = h
+names_paid host (Err why) left old new h = h
 
 abbrev paid_for : Config → ℕ → Config
 paid_for c left = record c { world = record c.world { fuel = left } }
@@ -331,7 +432,7 @@ paid_for c left = record c { world = record c.world { fuel = left } }
 step_paid : {told now : Option (List ℕ)} {failures count : ℕ} (p : Program) (f : Base) (x : Instruction) (old new : Config)
     (result : Result Flow Halt) (left : ℕ)
     → slice_get (p.code old.run.stream) old.run.place ≡ Some x → pay x old.world ≡ Good tt (paid_for old left).world →
-    KeepsFixedAndLists old.world (paid_for old left).world
+    KeepsFixedAndNames old.world (paid_for old left).world
     → Performs p f (effect p f x (paid_for old left)) (paid_for old left) new told now failures count result →
     Performs p f (step p f old) old new told now failures count result
 step_paid {told = told} {now = now} p f x old new result left found paid kept h =
@@ -340,7 +441,8 @@ step_paid {told = told} {now = now} p f x old new result left found paid kept h 
     record {
       did = subst (λ n. Did p result told now new n) (sym same) h.did;
       counted = h.counted;
-      kept = kept_then kept h.kept;
+      kept = fixed_then (fixed_of kept) h.kept;
+      names = names_paid p.host result left old.world new.world h.names;
       depths = depths_paid p.host.limit f result left old.world new.world h.depths;
       same_stream = h.same_stream;
     }
@@ -348,13 +450,13 @@ step_paid {told = told} {now = now} p f x old new result left found paid kept h 
 -- an instruction did its part, behind its charge
 pub step_done : {told now : Option (List ℕ)} {failures count : ℕ} (p : Program) (f : Base) (x : Instruction)
     (old mid new : Config) (result : Result Flow Halt)
-    → slice_get (p.code old.run.stream) old.run.place ≡ Some x → pay x old.world ≡ Good tt mid.world → KeepsFixedAndLists old.world mid.world →
+    → slice_get (p.code old.run.stream) old.run.place ≡ Some x → pay x old.world ≡ Good tt mid.world → KeepsFixedAndNames old.world mid.world →
     mid ≡ record old { world = record old.world { fuel = mid.world.fuel } }
     → Performs p f (effect p f x mid) mid new told now failures count result →
     Performs p f (step p f old) old new told now failures count result
 step_done {told = told} {now = now} {failures = failures} {count = count} p f x old mid new result found paid kept rest h =
     step_paid p f x old new result mid.world.fuel found (paid
-    ∙ ap (λ (c : Config). Good tt c.world) rest) (subst (λ (c : Config). KeepsFixedAndLists old.world c.world) rest kept)
+    ∙ ap (λ (c : Config). Good tt c.world) rest) (subst (λ (c : Config). KeepsFixedAndNames old.world c.world) rest kept)
     (subst (λ (c : Config). Performs p f (effect p f x c) c new told now failures count result) rest h)
 
 -- what stands at a place of a list
@@ -367,8 +469,8 @@ read_at (y ∷ ys) (suc n) x within read = read_at ys n x (omega (arith, within)
 pays_one : (x : Instruction) (w : World) → charge_of x ≡ 1 → 1 < w.fuel → pay x w ≡ Good tt (record w { fuel = w.fuel - 1 })
 pays_one x w one more = let enough : nat_lt 1 w.fuel ≡ true = grind (arith, nat_tests) in rw (one, enough) refl
 
-paid_keeps : (w : World) → KeepsFixedAndLists w (record w { fuel = w.fuel - 1 })
-paid_keeps w = record { same_id = refl; same_fuel_set = refl; no_more_fuel = omega arith; same_blocks = refl; same_loaded = refl }
+paid_keeps : (w : World) → KeepsFixedAndNames w (record w { fuel = w.fuel - 1 })
+paid_keeps w = record { same_id = refl; same_fuel_set = refl; no_more_fuel = omega arith; same_loaded = refl }
 
 -- the instruction at the place was paid for and did its part at once
 pub done_at_once : {told now : Option (List ℕ)} {failures count : ℕ} (p : Program) (f : Base) (x : Instruction)

@@ -1,8 +1,8 @@
 -- A run does the same whatever the writer has got before it.
 use Rattle.std.proofs.Common.{◌≡◌, List, ℕ, ◌++◌, [], refl, ap, sym, ◌∙◌, subst, append_assoc}
 use Rattle.std.proofs.lemmas.List.{append-nil}
-use Rattle.tm_meaning.specs.Machine.{Config, Next, More, Nest, Back, Program, back_to}
-use Rattle.tm_meaning.specs.Steps.{step, Final, Leads, over, more, nest}
+use Rattle.tm_meaning.specs.Machine.{Config, Next, More, Restart, Nest, Back, Program, back_to}
+use Rattle.tm_meaning.specs.Steps.{step, Final, Leads, over, more, restart, nest}
 use Rattle.tm_meaning.specs.declared.base.Base.{Base}
 
 -- the same end, behind a text
@@ -18,6 +18,7 @@ pub shift : {p : Program} {f : Base} {t : List ℕ} {n : Next} {o : Final} → (
 shift s (over e q) = over e (ap (behind s) q)
 shift {p = p} {f = f} {t = t} {o = o} s (more {d = d} {c = c} e l) =
     more e (subst (λ u. Leads p f u (step p f c) (behind s o)) (sym (append_assoc s t d)) (shift s l))
+shift s (restart e l) = restart e (shift s l)
 shift s (nest e l r) = nest e (shift s l) (shift s r)
 
 -- A run behind a text, as the run by itself.
@@ -34,6 +35,11 @@ alone_more {p = p} {f = f} {t = t} {d = d} {c = c} e a = record {
   leads = more e (subst (λ u. Leads p f u (step p f c) (behind d a.end)) (append-nil d) (shift d a.leads));
   same = a.same ∙ sym (behind_behind t d a.end);
 }
+
+-- a run that restarts, by itself
+alone_restart : {p : Program} {f : Base} {t : List ℕ} {n : Next} {c : Config} {o : Final} → n ≡ Restart c
+    → Alone p f t (step p f c) o → Alone p f t n o
+alone_restart e a = record { end = a.end; leads = restart e a.leads; same = a.same }
 
 -- a run behind another, by itself
 alone_nest : {p : Program} {f g : Base} {t : List ℕ} {n : Next} {c : Config} {back : Back} {e o : Final}
@@ -58,6 +64,7 @@ alone {t = t} (over {e = x} e q) =
           ∙ ap (λ u. record { text = u; end = x }) (sym (append-nil t));
     }
 alone (more e l) = alone_more e (alone l)
+alone (restart e l) = alone_restart e (alone l)
 alone (nest e l r) = alone_nest e (alone l) (alone r)
 
 -- from a step on, behind a text

@@ -25,12 +25,12 @@ pub step_attempted : (size : ℕ) (p : Program) (f : Base) (x : Instruction) (ol
 step_attempted size p f x old new told now failures count Done found within is_paid did = (
   done_at_once p f x old new (Ok flow.GoOn) found is_paid.0 is_paid.1 (wrote (Ok flow.GoOn) did),
   paid_for {f = f} {told = told} {now = now} {failures = failures} {count = count} size p x old (paid old) new
-      (Ok flow.GoOn) (left_of (charge_of x) old.world.fuel is_paid.0 is_paid.1) refl within (wrote (Ok flow.GoOn) did),
+      (Ok flow.GoOn) (left_of (charge_of x) old.world.fuel is_paid.0 is_paid.1) refl refl within (wrote (Ok flow.GoOn) did),
 )
 step_attempted size p f x old new told now failures count DoneFree found within is_paid did = (
   done_free p f x old new (Ok flow.GoOn) found is_paid (wrote (Ok flow.GoOn) did),
   paid_for {f = f} {told = told} {now = now} {failures = failures} {count = count} size p x old old new
-      (Ok flow.GoOn) (free_of (charge_of x) old.world.fuel is_paid) refl within (wrote (Ok flow.GoOn) did),
+      (Ok flow.GoOn) (free_of (charge_of x) old.world.fuel is_paid) refl refl within (wrote (Ok flow.GoOn) did),
 )
 step_attempted size p f x old new told now failures count NoMemory found within is_paid did =
     done_at_once p f x old new (Err no_memory) found is_paid.0 is_paid.1 (wrote (Err no_memory) did)

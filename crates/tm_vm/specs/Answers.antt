@@ -7,12 +7,12 @@ use Rattle.std.specs.declared.alloc.Global.{Global}
 use Rattle.std.specs.Io.KnownBytes.{Appends}
 use Rattle.tm_meaning.specs.Memory.{is_want_of_memory}
 use Rattle.tm_syntax.specs.declared.instruction.Instruction.{Instruction}
-use Rattle.tm_meaning.specs.World.{World, HostValue, depth}
+use Rattle.tm_meaning.specs.World.{World, HostValue}
 use Rattle.tm_meaning.specs.Calls.{Asked}
 use Rattle.tm_values.specs.declared.error.ErrorKind.TheVariants.{OutOfMemory}
 use Rattle.tm_meaning.specs.Machine.{Caches, take_n, stuck}
-use Rattle.tm_meaning.specs.Machine.{Return, Activation, Capture, Config, End, Finished, Failed, Stuck, Next, More, Over, Nest, Program}
-use Rattle.tm_meaning.specs.Machine.{first_run, nested, running, recursion, place_of_loop, asked, waiting, new_capture}
+use Rattle.tm_meaning.specs.Machine.{Return, Activation, Capture, Config, End, Finished, Failed, Stuck, Next, More, Over, Restart, Nest, Program}
+use Rattle.tm_meaning.specs.Machine.{first_run, nested, running, recursion, place_of_loop, asked, waiting, new_capture, restarted}
 use Rattle.tm_values.specs.Val.{Val}
 use Rattle.tm_state.specs.declared.calls.Recursion.{Recursion}
 use Rattle.tm_meaning.specs.Instructions.{jump_if_true_or_pop_of, jump_if_false_or_pop_of, take_counted}
@@ -23,8 +23,10 @@ use Rattle.tm_output.specs.Counts.{AppendsBeginning}
 use Rattle.tm_parts.specs.Halts.{failures_after}
 use Rattle.tm_parts.specs.declared.halt.Halt.{Halt}
 use Rattle.tm_parts.specs.declared.halt.Halt.TheVariants as halt
-use Rattle.tm_state.specs.Answers.{IsBefore, KeepsFixedAndLists, SameScopes, OneDeeper, Becomes, Leaves, call_of}
-use Rattle.tm_state.specs.State.{callee_of, put_back}
+use Rattle.tm_state.specs.Answers.{KeepsFixed, KeepsFixedAndNames, SameScopes, OneDeeper, NamedBecomes, Leaves, call_of}
+use Rattle.tm_state.specs.State.{IsSaved, callee_of, put_back}
+use Rattle.tm_meaning.specs.Inheritance.{names_left}
+use Rattle.tm_meaning.specs.declared.stream.TemplateId.{TemplateId}
 use Rattle.tm_state.specs.declared.calls.CallResult.{CallResult}
 use Rattle.tm_state.specs.declared.nested.NestedRun.{NestedRun}
 use Rattle.tm_vm.specs.declared.flow.Flow.{Flow}
@@ -59,6 +61,7 @@ ReachesEnd p f c told now e = ComesTo p f (step p f c) told now e
 abbrev pub output : Next → List ℕ
 output (More t c) = t
 output (Over e) = []
+output (Restart c) = []
 output (Nest f c back) = []
 
 -- the run that is needed first, where the world before it was b, and the configuration is c
@@ -68,13 +71,14 @@ entered p e b c =
     (record { run = c.run; call = call_of e b; value = e.value })
 
 abbrev pub Enters : Program → NestedRun → Config → Next → Type 0
-Enters p e c n = (b : World) × IsBefore e.saved b c.world × (n ≡ entered p e b c)
+Enters p e c n = (b : World) × IsSaved e.saved b × (n ≡ entered p e b c)
 
--- A step was done, of which the writer got the text; or it first needs a run of its own; or the run is over by it; or it halted, and the
--- writer got a beginning.
+-- A step was done, of which the writer got the text; or the run restarts; or it first needs a run of its own; or it is over by that; or it
+-- halted, and the writer got a beginning.
 abbrev pub Did : Program → Result Flow Halt → Option (List ℕ) → Option (List ℕ) → Config → Next → Type 0
 Did p (Ok flow.GoOn) told now c n = (n ≡ More (output n) c) × Appends told now (output n)
 Did p (Ok flow.Done) told now c n = (n ≡ Over (Finished c.captures c.world)) × (now ≡ told)
+Did p (Ok flow.Restart) told now c n = (n ≡ Restart c) × (now ≡ told)
 Did p (Ok (flow.Enter e)) told now c n = Enters p e.value c n × (now ≡ told)
 Did p (Err why) told now c n = HaltsAs why c.world (λ e. n ≡ Over e) × AppendsBeginning told now (output n)
 
@@ -91,9 +95,24 @@ KeepsBaseScopes f old new = (f.scopes ≤ length old.scopes.frames → f.scopes 
 -- run that is over has closed what it opened.
 abbrev pub Depths : ℕ → Base → Result Flow Halt → World → World → Type 0
 Depths limit f (Ok flow.GoOn) old new = KeepsBaseScopes f old new
+Depths limit f (Ok flow.Restart) old new = KeepsBaseScopes f old new
 Depths limit f (Ok flow.Done) old new = KeepsBaseScopes f old new × (f.scopes ≡ length new.scopes.frames)
 Depths limit f (Ok (flow.Enter e)) old new = OneDeeper limit e.value.saved old new
 Depths limit f (Err why) old new = KeepsBaseScopes f old new
+
+-- No more names are left to be loaded; and before a run of its own as many.
+abbrev pub Names : HostValue → Result Flow Halt → World → World → Type 0
+Names host (Ok (flow.Enter e)) old new = new.loaded ≡ old.loaded
+Names host _ old new = names_left host new ≤ names_left host old
+
+-- The stream is the same, but for a restart.
+abbrev pub StaysIn : Result Flow Halt → Activation → Activation → Type 0
+StaysIn (Ok flow.Restart) old new = Unit {0}
+StaysIn _ old new = new.stream ≡ old.stream
+
+-- The stream, the loops and the parent that waits are the same.
+abbrev pub StaysRun : Activation → Activation → Type 0
+StaysRun old new = (new.stream ≡ old.stream) × (new.loops ≡ old.loops) × (new.parent ≡ old.parent)
 
 -- An instruction, or a step, did what its definition says: by its answer, with the writer that had got `told` and has got `now`, and whose
 -- count of failures was `failures` and is `count`.
@@ -101,9 +120,10 @@ pub record Performs (p : Program) (f : Base) (n : Next) (old new : Config) (told
     (result : Result Flow Halt) : Type 0 where
   pub did : Did p result told now new n
   pub counted : count ≡ failures_after result failures
-  pub kept : KeepsFixedAndLists old.world new.world
+  pub kept : KeepsFixed old.world new.world
+  pub names : Names p.host result old.world new.world
   pub depths : Depths p.host.limit f result old.world new.world
-  pub same_stream : new.run.stream ≡ old.run.stream
+  pub same_stream : StaysIn result old.run new.run
 
 -- how many loops that a run has open were called
 abbrev pub pending : List (Option Return) → ℕ
@@ -119,25 +139,42 @@ returns_left c = c.world.fuel + c.world.fuel + pending c.run.loops
 abbrev pub weight : ℕ → Config → ℕ
 weight size c = returns_left c * (size + 1) + (size - c.run.place)
 
--- Less is left behind a step: it is paid for, or returns from a loop, or is free and at the next place. Before a run of its own it is
--- paid for, where that run can begin.
+-- 1 where a parent waits now, or is put back behind a called loop, and else 0
+abbrev pub waits_in : Option TemplateId → List (Option Return) → ℕ
+waits_in (Some t) rs = 1
+waits_in None [] = 0
+waits_in None (None ∷ rs) = waits_in None rs
+waits_in None (Some r ∷ rs) = waits_in r.parent rs
+
+abbrev pub waits : Activation → ℕ
+waits r = waits_in r.parent r.loops
+
+-- how many parents may still be restarted in
+abbrev pub parents_left : HostValue → Config → ℕ
+parents_left host c = waits c.run + names_left host c.world
+
+-- Less is left behind a step: it is paid for, or returns from a loop, or is free and at the next place; and no more parents are left. A
+-- restart leaves a parent fewer. Before a run of its own it is paid for, where that run can begin.
 abbrev pub Paid : Program → ℕ → Result Flow Halt → Config → Config → Type 0
-Paid p size (Ok flow.GoOn) old new = weight size new < weight size old
+Paid p size (Ok flow.GoOn) old new = (weight size new < weight size old) × (parents_left p.host new ≤ parents_left p.host old)
+Paid p size (Ok flow.Restart) old new = parents_left p.host new < parents_left p.host old
 Paid p size (Ok (flow.Enter e)) old new =
-    (first : Activation) → first_run p (callee_of e.value.run) (length new.captures) ≡ Some first → returns_left new < returns_left old
+    (first : Activation) → first_run p (callee_of e.value.run) (length new.captures) ≡ Some first →
+    (returns_left new < returns_left old) × (waits new.run ≤ waits old.run)
 Paid p size _ old new = Unit {0}
 
 -- The same of an instruction that needs no run.
 abbrev pub Wrote : Result Flow Halt → Option (List ℕ) → Option (List ℕ) → Config → Next → Type 0
 Wrote (Ok flow.GoOn) told now c n = (n ≡ More (output n) c) × Appends told now (output n)
 Wrote (Ok flow.Done) told now c n = ⊥
+Wrote (Ok flow.Restart) told now c n = ⊥
 Wrote (Ok (flow.Enter e)) told now c n = ⊥
 Wrote (Err why) told now c n = HaltsAs why c.world (λ e. n ≡ Over e) × AppendsBeginning told now (output n)
 
 pub record Writes (n : Next) (old new : Config) (told now : Option (List ℕ)) (failures count : ℕ) (result : Result Flow Halt) : Type 0 where
   pub did : Wrote result told now new n
   pub counted : count ≡ failures_after result failures
-  pub kept : KeepsFixedAndLists old.world new.world
+  pub kept : KeepsFixedAndNames old.world new.world
   pub same_scopes : SameScopes old.world new.world
   pub same_stream : new.run.stream ≡ old.run.stream
 
@@ -145,6 +182,7 @@ pub record Writes (n : Next) (old new : Config) (told now : Option (List ℕ)) (
 abbrev pub Quietly : Result Flow Halt → Config → Next → Type 0
 Quietly (Ok flow.GoOn) c n = n ≡ More [] c
 Quietly (Ok flow.Done) c n = ⊥
+Quietly (Ok flow.Restart) c n = ⊥
 Quietly (Ok (flow.Enter e)) c n = ⊥
 Quietly (Err halt.Writer) c n = ⊥
 Quietly (Err halt.Stuck) c n = n ≡ Over (Stuck c.world)
@@ -152,28 +190,37 @@ Quietly (Err (halt.Fault chain)) c n = is_want_of_memory chain ≡ false → n �
 
 pub record Silently (n : Next) (old new : Config) (result : Result Flow Halt) : Type 0 where
   pub did : Quietly result new n
-  pub kept : KeepsFixedAndLists old.world new.world
+  pub kept : KeepsFixedAndNames old.world new.world
   pub same_scopes : SameScopes old.world new.world
   pub same_stream : new.run.stream ≡ old.run.stream
 
 -- And of one that may open a scope, and leaves none.
 pub record Opens (n : Next) (old new : Config) (result : Result Flow Halt) : Type 0 where
   pub did : Quietly result new n
-  pub kept : KeepsFixedAndLists old.world new.world
+  pub kept : KeepsFixedAndNames old.world new.world
   pub no_fewer : NoFewer old.world new.world
   pub same_stream : new.run.stream ≡ old.run.stream
 
 -- And of one that may leave a scope that the run opened.
 pub record Shifts (f : Base) (n : Next) (old new : Config) (result : Result Flow Halt) : Type 0 where
   pub did : Quietly result new n
-  pub kept : KeepsFixedAndLists old.world new.world
+  pub kept : KeepsFixedAndNames old.world new.world
   pub stays : KeepsBaseScopes f old.world new.world
+  pub same_stream : new.run.stream ≡ old.run.stream
+
+-- And of one that may load a template.
+pub record Loads (host : HostValue) (n : Next) (old new : Config) (result : Result Flow Halt) : Type 0 where
+  pub did : Quietly result new n
+  pub kept : KeepsFixed old.world new.world
+  pub names : names_left host new.world ≤ names_left host old.world
+  pub same_scopes : SameScopes old.world new.world
   pub same_stream : new.run.stream ≡ old.run.stream
 
 -- And of one that may need a run of its own.
 abbrev pub Needed : Program → Result Flow Halt → Config → Next → Type 0
 Needed p (Ok flow.GoOn) c n = n ≡ More [] c
 Needed p (Ok flow.Done) c n = ⊥
+Needed p (Ok flow.Restart) c n = ⊥
 Needed p (Ok (flow.Enter e)) c n = Enters p e.value c n
 Needed p (Err halt.Writer) c n = ⊥
 Needed p (Err halt.Stuck) c n = n ≡ Over (Stuck c.world)
@@ -186,7 +233,7 @@ Deepens limit _ old new = NoFewer old new
 
 pub record Needs (p : Program) (n : Next) (old new : Config) (result : Result Flow Halt) : Type 0 where
   pub did : Needed p result new n
-  pub kept : KeepsFixedAndLists old.world new.world
+  pub kept : KeepsFixedAndNames old.world new.world
   pub deepens : Deepens p.host.limit result old.world new.world
   pub same_stream : new.run.stream ≡ old.run.stream
 
@@ -200,15 +247,20 @@ EntersAsValue run count _ old new = ⊥
 
 -- A run goes on behind a call of so many operands, which came to this and left this world, whatever was asked for in the world before.
 abbrev pub GoesOnWith : Program → CallResult → ℕ → Config → Config → Result Flow Halt → Type 0
-GoesOnWith p came count old new result = (q : Asked) (before : World) → Becomes (Ok came) q old.world →
+GoesOnWith p came count old new result = (q : Asked) (before : World) → NamedBecomes (Ok came) q old.world →
     Leaves p.host.limit (Ok came) before old.world →
     Needs p (asked p (record old { world = before }) (drop count old.run.operands) q) (record old { world = before }) new result
 
--- A run is over behind its last instruction, where it has closed what it opened, and else stuck.
-abbrev pub Finishes : Result Flow Halt → Base → Config → Next → Type 0
-Finishes (Ok flow.Done) f c n = (n ≡ Over (Finished c.captures c.world)) × (f.scopes ≡ length c.world.scopes.frames)
-Finishes (Err halt.Stuck) f c n = n ≡ Over (Stuck c.world)
-Finishes _ f c n = ⊥
+-- A run is over behind its last instruction, where it has closed what it opened, or restarts in the parent that waits; and else it is stuck.
+-- No memory may be found for a restart.
+abbrev pub Finishes : Result Flow Halt → Base → Config → Config → Next → Type 0
+Finishes (Ok flow.Done) f old new n =
+    (n ≡ Over (Finished new.captures new.world)) × (f.scopes ≡ length new.world.scopes.frames) × (new ≡ old)
+Finishes (Ok flow.Restart) f old new n =
+    (n ≡ Restart new) × ((t : TemplateId) × (old.run.parent ≡ Some t) × (old.run.loops ≡ []) × (new ≡ restarted t old))
+Finishes (Err halt.Stuck) f old new n = (n ≡ Over (Stuck new.world)) × (new ≡ old)
+Finishes (Err (halt.Fault chain)) f old new n = (is_want_of_memory chain ≡ true) × (new ≡ old)
+Finishes _ f old new n = ⊥
 
 -- The run of a callee has begun over the same captures and world, and gives the run that waits; or there is none, and all stays as it was.
 abbrev pub Begins : Option Activation → Option Activation → Config → Config → Type 0

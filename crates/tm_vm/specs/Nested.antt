@@ -33,16 +33,6 @@ behind e r (Finished ks w) = back_with e.value e.text r ks (put_back e.saved w)
 behind e r (Failed chain w) = Over (Failed (wrapped e.wrap chain) (put_back e.saved w))
 behind e r (Stuck w) = stuck (put_back e.saved w)
 
--- the world at an end
-abbrev pub world_at : End → World
-world_at (Finished ks w) = w
-world_at (Failed chain w) = w
-world_at (Stuck w) = w
-
--- The lists of blocks and of loaded names are those from before.
-abbrev pub KeepsLists : World → World → Type 0
-KeepsLists old new = (new.blocks ≡ old.blocks) × (new.loaded ≡ old.loaded)
-
 -- The run was done, the writer got its text, and the run that waited goes on.
 pub record Went (p : Program) (e : NestedRun) (old new : Config) (told now : Option (List ℕ)) : Type 0 where
   pub text : List ℕ
@@ -50,23 +40,24 @@ pub record Went (p : Program) (e : NestedRun) (old new : Config) (told now : Opt
   pub world : World
   pub appended : Appends told now text
   pub leads : Leads p (base_in e old) [] (begins_in p e old) (final text (Finished captures world))
-  pub keeps : KeepsLists old.world world
   pub goes : behind e old.run (Finished captures world) ≡ More [] new
 
--- A block's run stands on the scopes that were saved, and one of its own.
+-- A block's run stands on the scopes that were saved, and one of its own; and a macro's has the names loaded that were.
 abbrev pub StandsOn : Saved → World → Type 0
 StandsOn (saved.Block s) w = length w.scopes.frames ≡ s.scopes + 1
-StandsOn (saved.Macro s) w = Unit {0}
+StandsOn (saved.Super s) w = length w.scopes.frames ≡ s.replaced.scopes + 1
+StandsOn (saved.Macro s) w = s.lists.loaded ≡ w.loaded
 
 -- There are as many scopes as were saved, and they stand where those stood.
 abbrev pub IsBack : Saved → World → Type 0
 IsBack (saved.Block s) w = (length w.scopes.frames ≡ s.scopes) × (w.scopes.outer ≡ s.outer)
+IsBack (saved.Super s) w = (length w.scopes.frames ≡ s.replaced.scopes) × (w.scopes.outer ≡ s.replaced.outer)
 IsBack (saved.Macro s) w = w.scopes ≡ s.context
 
 -- The run came to an end that leads to the end of the run that waits.
 abbrev pub EndsIn : Program → NestedRun → Config → Option (List ℕ) → Option (List ℕ) → End → Type 0
 EndsIn p e old told now x = (inner : End) × ComesTo p (base_in e old) (begins_in p e old) told now inner ×
-    KeepsLists old.world (world_at inner) × (behind e old.run inner ≡ Over x)
+    (behind e old.run inner ≡ Over x)
 
 -- The run was done, or the halt is the end that it leads to.
 abbrev pub RanNested : Program → NestedRun → Config → Config → Option (List ℕ) → Option (List ℕ) → Result (Unit {0}) Halt → Type 0

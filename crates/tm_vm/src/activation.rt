@@ -1,5 +1,7 @@
 //! What is a run's own.
-ghost use Rattle.std.specs.Prelude.{◌≡◌, ◌+◌, ◌-◌, ◌^◌, ◌<◌, List, [], ◌∷◌, Some, None, OnOk, IfErr, MatchOption, not, MatchResult, drop};
+ghost use Rattle.std.specs.Prelude.{◌≡◌, ◌+◌, ◌-◌, ◌^◌, ◌<◌, List, [], ◌∷◌, Some, None, OnOk, IfOk, IfErr, MatchOption, not, MatchResult, drop};
+ghost use Rattle.std.specs.Prelude.{option_map};
+ghost use Rattle.tm_meaning.specs.World.{root_of};
 ghost use Rattle.tm_values.specs.Answer.{OrStays};
 ghost use Rattle.tm_values.specs.Val.{Val, boolean};
 ghost use Rattle.tm_parts.specs.Operate.{Doubles, Operates, TakesMember, TestsUndefined};
@@ -15,25 +17,27 @@ use crate::operands::counted;
 use std::alloc::Global;
 use std::marker::Model;
 use std::mem;
-use tm_meaning::StreamId;
+use tm_meaning::{StreamId, TemplateId};
 use tm_operations::truth;
 use tm_parts::{Halt, Stack};
 use tm_syntax::{Application, BinaryOperator, Name};
 use tm_tables::Host;
 use tm_values::{AutoEscape, Error, ErrorKind, UndefinedBehavior, Value};
 
-/// Where a loop goes on that was called: the run as it was at the call, and whether the text is a value.
+/// Where a loop goes on that was called: the run as it was at the call, the parent that waited, and whether the text is
+/// a value.
 #[derive(Drop)]
 pub(crate) struct Return {
     place: usize,
     operands: Stack,
     escapes: Vec<AutoEscape>,
     floor: usize,
+    parent: Option<TemplateId>,
     value: bool,
 }
 
 impl Model for Return {
-    ghost use Rattle.std.specs.Prelude.{None, reverse};
+    ghost use Rattle.std.specs.Prelude.{reverse};
     ghost use Rattle.std.specs.Coded.{codes};
     ghost use Rattle.tm_values.specs.Code.{coded_Val};
     ghost use Rattle.tm_meaning.specs.Machine.{Return as Pending};
@@ -47,16 +51,15 @@ impl Model for Return {
       operands = r.operands;
       escapes = reverse r.escapes.items;
       floor = r.floor;
-      parent = None;
+      parent = r.parent;
       value = r.value;
     } };
 }
 
 impl Return {
-    /// Whether the text is a value. No parent waited at the call, since none can yet.
+    /// Whether the text is a value.
     pub(crate) fn is_value(&self) -> bool
-        ensures value { result ≡ self.now.value }
-        ensures no_parent { self.now.parent ≡ None }
+        ensures { result ≡ self.now.value }
     {
         self.value
     }
@@ -64,7 +67,7 @@ impl Return {
 
 /// What is a run's own: its stream and the place in it, its operands, the escapes that its open `autoescape`s
 /// replaced, for each loop that it has open where that goes on if it was called, how many captures stood
-/// when it or the innermost called loop began, and its caches.
+/// when it or the innermost called loop began, the parent that waits, and its caches.
 #[derive(Drop)]
 pub(crate) struct Activation {
     pub(crate) stream: StreamId,
@@ -73,12 +76,13 @@ pub(crate) struct Activation {
     escapes: Vec<AutoEscape>,
     loops: Vec<Option<Return>>,
     floor: usize,
+    parent: Option<TemplateId>,
     filters: Caches,
     tests: Caches,
 }
 
 impl Model for Activation {
-    ghost use Rattle.std.specs.Prelude.{[], None, reverse};
+    ghost use Rattle.std.specs.Prelude.{reverse};
     ghost use Rattle.std.specs.Coded.{codes};
     ghost use Rattle.tm_values.specs.Code.{coded_Val};
     ghost use Rattle.tm_meaning.specs.Machine.{Activation};
@@ -94,7 +98,7 @@ impl Model for Activation {
       escapes = reverse run.escapes.items;
       loops = reverse run.loops.items;
       floor = run.floor;
-      parent = None;
+      parent = run.parent;
       filters = run.filters;
       tests = run.tests;
     } };
@@ -128,6 +132,7 @@ impl Activation {
             escapes: Vec::new(alloc),
             loops: Vec::new(alloc),
             floor,
+            parent: None,
             filters: Caches::new(alloc),
             tests: Caches::new(alloc),
         }
@@ -170,12 +175,48 @@ impl Activation {
         self.tests.use_name(host, Application::Test, cache, name)
     }
 
-    /// Whether no parent waits. None can yet.
+    /// Whether no parent waits.
+    #[inline(always)]
     pub(crate) fn none_waits(&self) -> bool
         ensures { result ≡ none_waits self.now.parent }
     {
-        let _place = self.place;
-        true
+        self.parent.is_none()
+    }
+
+    /// The parent that waits, where one does.
+    pub(crate) fn parent(&self) -> &Option<TemplateId>
+        ensures { result.now ≡ self.now.parent }
+    {
+        &self.parent
+    }
+
+    /// The parent that waits, where one does. Fails by OutOfMemory alone, where the owners of a name can't be counted.
+    fn shared_parent(&self) -> Result<Option<TemplateId>, Error>
+        ensures ok { IfOk result (λ parent. parent ≡ self.now.parent) }
+        ensures kind { IfErr result (λ e. e ≡ ErrorKind.OutOfMemory ∷ []) }
+    {
+        match &self.parent {
+            Some(parent) => Ok(Some(parent.share()?)),
+            None => Ok(None),
+        }
+    }
+
+    /// The root of the parent that waits, where one does. Fails by OutOfMemory alone.
+    pub(crate) fn parent_root(&self) -> Result<Option<StreamId>, Error>
+        ensures ok { IfOk result (λ root. root ≡ option_map root_of self.now.parent) }
+        ensures kind { IfErr result (λ e. e ≡ ErrorKind.OutOfMemory ∷ []) }
+    {
+        match &self.parent {
+            Some(parent) => Ok(Some(StreamId::root(parent.share()?))),
+            None => Ok(None),
+        }
+    }
+
+    /// A parent waits from here on, or none does.
+    pub(crate) fn wait_for(&mut self, parent: Option<TemplateId>)
+        ensures { self.new ≡ record self.old { parent = parent } }
+    {
+        self.parent = parent;
     }
 
     /// How many captures stood when it or the innermost called loop began.
@@ -232,11 +273,13 @@ impl Activation {
         ensures kind { IfErr result (λ e. e ≡ ErrorKind.OutOfMemory ∷ []) }
         ensures same_stream { self.new.stream ≡ self.old.stream }
     {
+        let parent = self.shared_parent()?;
         let pending = Return {
             place: self.place + 1,
             operands: mem::replace(&mut self.operands, Stack::new(alloc)),
             escapes: mem::replace(&mut self.escapes, Vec::new(alloc)),
             floor: self.floor,
+            parent,
             value,
         };
         self.loops.push(Some(pending))?;
@@ -245,22 +288,24 @@ impl Activation {
         Ok(())
     }
 
-    /// Goes on where a loop was called, as it was there.
-    pub(crate) fn return_to(&mut self, pending: Return)
+    /// Goes on where a loop was called, as it was there, and gives the parent that waited there.
+    pub(crate) fn return_to(&mut self, pending: Return) -> Option<TemplateId>
         ensures returned { self.new ≡ resumed pending self.old }
-        ensures no_parent { self.new.parent ≡ None }
+        ensures parent { result ≡ pending.parent }
     {
         let Return {
             place,
             operands,
             escapes,
             floor,
+            parent,
             ..
         } = pending;
         self.place = place;
         self.operands = operands;
         self.escapes = escapes;
         self.floor = floor;
+        parent
     }
 
     /// Keeps the escape that an `autoescape` replaces. Fails by OutOfMemory alone.

@@ -83,7 +83,7 @@ impl Attempt {
     }
 }
 
-impl Machine<'_> {
+impl Machine {
     /// Pays a charge of one and goes on to the next place.
     #[inline(always)]
     fn pay_and_advance(&mut self)

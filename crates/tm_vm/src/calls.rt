@@ -17,7 +17,7 @@ use tm_syntax::{Application, CaptureMode, Code, Name};
 use tm_tables::Host;
 use tm_values::{Error, ErrorKind, Value};
 
-impl Machine<'_> {
+impl Machine {
     /// Replaces so many values by what the function of a name answers to them, or by the text of the loop that it calls.
     pub(crate) fn do_call_function<H: Host>(
         &mut self,

@@ -14,7 +14,7 @@ use tm_parts::{Halt, captured_value, escape_for};
 use tm_syntax::CaptureMode;
 use tm_values::{AutoEscape, Error, Value};
 
-impl Machine<'_> {
+impl Machine {
     /// A captured text as a value, safe where the state escapes. Fails by OutOfMemory alone.
     pub(crate) fn captured(&self, alloc: Global, text: &str) -> Result<Value, Error>
         ensures ok { IfOk result (λ value. value ≡ captured_text text.now self.now.world) }

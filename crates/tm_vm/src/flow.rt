@@ -8,6 +8,8 @@ pub enum Flow {
     GoOn,
     /// Behind a run that is needed first. Boxed, since each step hands its answer on.
     Enter(Box<NestedRun>),
+    /// In the root of a parent, which has begun.
+    Restart,
     /// Nowhere: its stream is at the end.
     Done,
 }

@@ -8,7 +8,7 @@ use tm_operations::truth;
 use tm_parts::Halt;
 use tm_tables::Host;
 
-impl Machine<'_> {
+impl Machine {
     /// Goes on at a place.
     pub(crate) fn do_jump(&mut self, place: usize) -> Result<Flow, Halt>
         ensures { Silently (jump_of place self.old) self.old self.new result }

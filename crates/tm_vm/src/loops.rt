@@ -14,7 +14,7 @@ use tm_syntax::{Code, LoopFlags};
 use tm_tables::Host;
 use tm_values::Value;
 
-impl Machine<'_> {
+impl Machine {
     /// Pops a value, and begins a loop over its items in a scope of its own, whose number is that of its
     /// place in the run's code. Its error where it can't be iterated, InvalidOperation where the scope would
     /// lie deeper than the limit.
@@ -115,10 +115,11 @@ impl Machine<'_> {
             (record self.old { run = resumed pending self.old.run })) self.old self.new result }
     {
         let value = pending.is_value();
-        self.run.return_to(pending);
+        let parent = self.run.return_to(pending);
         if !value {
             return Ok(Flow::GoOn);
         }
+        self.run.wait_for(parent);
         self.push_captured(alloc, RunText::Captured)?;
         Ok(Flow::GoOn)
     }

@@ -1,10 +1,11 @@
 //! The machine: a run with its operands, the captures and the state, and the loop.
-ghost use Rattle.std.specs.Prelude.{◌≡◌, ◌+◌, length, OnOk};
+ghost use Rattle.std.specs.Prelude.{◌≡◌, ◌≤◌, ◌+◌, length, OnOk};
+ghost use Rattle.tm_meaning.specs.Inheritance.{names_left};
 ghost use Rattle.tm_meaning.specs.Machine.{audible, base_of, first_run, run_from, running};
 ghost use Rattle.tm_meaning.specs.Steps.{step};
 ghost use Rattle.tm_parts.specs.Halts.{failures_after};
-ghost use Rattle.tm_vm.specs.Answers.{program, Begins, EndsAs, IsAtFirst, ReachesEnd, NoFewer};
-ghost use Rattle.tm_state.specs.Answers.{KeepsFixedAndLists, SameScopes};
+ghost use Rattle.tm_vm.specs.Answers.{program, Begins, EndsAs, IsAtFirst, ReachesEnd, NoFewer, StaysRun};
+ghost use Rattle.tm_state.specs.Answers.{KeepsFixed, SameScopes};
 ghost use Rattle.tm_state.specs.State.{callee_of, put_back};
 ghost use Rattle.tm_vm.specs.Nested.{RanNested, StandsOn, WroteBeginning, IsBack, IsWrapped, IsCaptured, base_in, begins_in};
 
@@ -45,7 +46,7 @@ fn wrapped(alloc: Global, wrap: Option<Wrapping>, halt: Halt) -> Halt
 fn first_run<H: Host>(
     alloc: Global,
     host: &H,
-    state: &mut StateData<'_>,
+    state: &mut StateData,
     run: RunOf,
     floor: usize,
 ) -> Option<Activation>
@@ -70,13 +71,13 @@ fn first_run<H: Host>(
 
 /// The machine. A contract sees it as a configuration of the definitions.
 #[derive(Drop)]
-pub struct Machine<'env> {
+pub struct Machine {
     pub(crate) run: Activation,
     pub(crate) captures: Captures,
-    pub(crate) state: StateData<'env>,
+    pub(crate) state: StateData,
 }
 
-impl<'env> Model for Machine<'env> {
+impl Model for Machine {
     ghost use Rattle.std.specs.Coded.{codes};
     ghost use Rattle.tm_values.specs.Code.{coded_Val};
     ghost use Rattle.tm_meaning.specs.Machine.{Config};
@@ -88,15 +89,10 @@ impl<'env> Model for Machine<'env> {
     ghost view = { λ machine. record { run = machine.run; captures = machine.captures; world = machine.state } };
 }
 
-impl<'env> Machine<'env> {
+impl Machine {
     /// A machine at a stream's first instruction, over captures and a state.
-    pub fn new(
-        alloc: Global,
-        stream: StreamId,
-        captures: Captures,
-        state: StateData<'env>,
-    ) -> Machine<'env>
-        ensures { result ≡ running (run_from stream (length captures)) captures state.entry }
+    pub fn new(alloc: Global, stream: StreamId, captures: Captures, state: StateData) -> Machine
+        ensures { result ≡ running (run_from stream (length captures)) captures state }
     {
         Machine {
             run: Activation::new(alloc, stream, captures.depth()),
@@ -112,10 +108,10 @@ impl<'env> Machine<'env> {
         host: &H,
         run: RunOf,
         captures: Captures,
-        mut state: StateData<'env>,
-    ) -> Result<Machine<'env>, StateData<'env>>
+        mut state: StateData,
+    ) -> Result<Machine, StateData>
         ensures { IsAtFirst (first_run (program (H.meaning host.now) (H.code host.now))
-            (callee_of run) (length captures)) captures state.entry result }
+            (callee_of run) (length captures)) captures state result }
     {
         match first_run(alloc, host, &mut state, run, captures.depth()) {
             Some(run) => Ok(Machine {
@@ -128,9 +124,9 @@ impl<'env> Machine<'env> {
     }
 
     /// The captures and the state that are left.
-    pub fn into_parts(self) -> (Captures, StateData<'env>)
-        ensures captures { result.0 ≡ self.entry.captures }
-        ensures state { result.1 ≡ self.entry.world }
+    pub fn into_parts(self) -> (Captures, StateData)
+        ensures captures { result.0 ≡ self.captures }
+        ensures state { result.1 ≡ self.world }
     {
         let Machine {
             captures,
@@ -182,10 +178,11 @@ impl<'env> Machine<'env> {
             (begins_in (program (H.meaning host.now) (H.code host.now)) entry self.old)
             (W.written writer.old) (W.written writer.new) }
         ensures failures { W.failures writer.new ≡ failures_after result (W.failures writer.old) }
-        ensures kept { KeepsFixedAndLists self.old.world self.new.world }
+        ensures kept { KeepsFixed self.old.world self.new.world }
+        ensures names { names_left (H.meaning host.now) self.new.world
+            ≤ names_left (H.meaning host.now) self.old.world }
         ensures back { IsBack entry.saved self.new.world }
-        ensures same_stream { self.new.run.stream ≡ self.old.run.stream }
-        ensures same_loops { self.new.run.loops ≡ self.old.run.loops }
+        ensures same_run { StaysRun self.old.run self.new.run }
     {
         let NestedRun {
             run,
@@ -216,8 +213,7 @@ impl<'env> Machine<'env> {
     pub(crate) fn push_captured(&mut self, alloc: Global, kind: RunText) -> Result<(), Halt>
         ensures captured { IsCaptured kind result self.old self.new }
         ensures same_world { self.new.world ≡ self.old.world }
-        ensures same_stream { self.new.run.stream ≡ self.old.run.stream }
-        ensures same_loops { self.new.run.loops ≡ self.old.run.loops }
+        ensures same_run { StaysRun self.old.run self.new.run }
     {
         let Some((_mode, text)) = self.captures.end() else {
             return Err(Halt::Stuck);
@@ -261,7 +257,7 @@ impl<'env> Machine<'env> {
         host.instructions(&self.run.stream)
     }
 
-    /// Runs to the end of the stream; `heard` says whether its text is.
+    /// Runs to the end of the stream, or of the last one of its parents; `heard` says whether its text is.
     #[cycle(machine)]
     pub fn run<H: Host, W: Sink>(
         &mut self,
@@ -280,27 +276,32 @@ impl<'env> Machine<'env> {
             (base_of heard self.old.captures self.old.world) self.old)
             (W.written writer.old) (W.written writer.new) }
         ensures failures { W.failures writer.new ≡ failures_after result (W.failures writer.old) }
-        ensures kept { KeepsFixedAndLists self.old.world self.new.world }
+        ensures kept { KeepsFixed self.old.world self.new.world }
+        ensures names { names_left (H.meaning host.now) self.new.world
+            ≤ names_left (H.meaning host.now) self.old.world }
         ensures no_fewer { NoFewer self.old.world self.new.world }
         ensures closed { OnOk result (SameScopes self.old.world self.new.world) }
     {
         let base = self.base(heard);
-        let code = self.code(host);
-        loop {
-            match self.step(alloc, host, &base, code, writer) {
-                Ok(Flow::GoOn) => {}
-                Ok(Flow::Enter(entry)) => {
-                    if let Err(halt) = self.run_nested(
-                        alloc,
-                        host,
-                        Box::into_inner(entry),
-                        writer,
-                    ) {
-                        return Err(halt);
+        'streams: loop {
+            let code = self.code(host);
+            'steps: loop {
+                match self.step(alloc, host, &base, code, writer) {
+                    Ok(Flow::GoOn) => {}
+                    Ok(Flow::Enter(entry)) => {
+                        if let Err(halt) = self.run_nested(
+                            alloc,
+                            host,
+                            Box::into_inner(entry),
+                            writer,
+                        ) {
+                            return Err(halt);
+                        }
                     }
+                    Ok(Flow::Restart) => break 'steps,
+                    Ok(Flow::Done) => return Ok(()),
+                    Err(halt) => return Err(halt),
                 }
-                Ok(Flow::Done) => return Ok(()),
-                Err(halt) => return Err(halt),
             }
         }
     }

@@ -16,7 +16,7 @@ use tm_syntax::{Code, Name};
 use tm_tables::Host;
 use tm_values::{Error, ErrorKind, Node, Value};
 
-impl Machine<'_> {
+impl Machine {
     /// Replaces a value by whether it is undefined.
     pub(crate) fn do_is_undefined(&mut self) -> Result<Flow, Halt>
         requires { CanGoOn self.old.run }

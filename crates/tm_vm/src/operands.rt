@@ -17,7 +17,7 @@ use tm_syntax::{BinaryOperator, Name, UnaryOperator};
 use tm_tables::Host;
 use tm_values::{Node, Value, ValueMap};
 
-impl Machine<'_> {
+impl Machine {
     /// Pushes an operand and goes on.
     pub(crate) fn push_next(&mut self, value: Value) -> Result<Flow, Halt>
         requires { CanGoOn self.old.run }

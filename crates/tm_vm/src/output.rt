@@ -14,7 +14,7 @@ use tm_syntax::RawText;
 use tm_tables::Host;
 use tm_values::Value;
 
-impl Machine<'_> {
+impl Machine {
     /// Writes a text where it is heard.
     pub(crate) fn write_text<W: Sink>(
         &mut self,

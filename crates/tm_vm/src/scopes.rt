@@ -11,7 +11,7 @@ use tm_parts::Halt;
 use tm_syntax::Name;
 use tm_tables::Host;
 
-impl Machine<'_> {
+impl Machine {
     /// Pops a value, and gives it to a name of the innermost scope.
     pub(crate) fn do_store_local(&mut self, name: &Name) -> Result<Flow, Halt>
         requires { CanGoOn self.old.run }

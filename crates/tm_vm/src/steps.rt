@@ -5,8 +5,9 @@ ghost use Rattle.tm_meaning.specs.World.{Good, Bad};
 ghost use Rattle.tm_meaning.specs.Steps.{charge_of, closed, pay, effect, finish, return_of, step};
 ghost use Rattle.tm_vm.specs.Answers.{program, CanGoOn, Performs, Finishes, Paid};
 ghost use Rattle.tm_vm.specs.AtOnce.{StepAttempted};
-ghost use Rattle.tm_state.specs.Answers.{KeepsFixedAndLists};
+ghost use Rattle.tm_state.specs.Answers.{KeepsFixedAndNames};
 
+use crate::activation::Activation;
 use crate::at_once::Attempt;
 use crate::flow::Flow;
 use crate::machine::Machine;
@@ -17,7 +18,7 @@ use tm_syntax::{Application, BinaryOperator, Code, Instruction, UnaryOperator};
 use tm_tables::{Exhausted, Host, NO_PLACE};
 use tm_values::{Error, ErrorKind};
 
-impl Machine<'_> {
+impl Machine {
     /// Does an instruction that was paid for.
     #[inline(always)]
     #[tactic(auto, using(crate::proofs::Performed::kinds))]
@@ -104,6 +105,8 @@ impl Machine<'_> {
             }
             Instruction::FastRecurse => self.do_fast_recurse(alloc, host, base, code),
             Instruction::CallBlock(name) => self.do_call_block(alloc, host, base, name),
+            Instruction::FastSuper => self.do_fast_super(alloc, host, base),
+            Instruction::LoadBlocks => self.do_load_blocks(alloc, host, base),
             Instruction::StoreLocal(name) => self.do_store_local(name),
             Instruction::Enclose(name) => self.do_enclose(alloc, host, name),
             Instruction::GetClosure => self.do_get_closure(),
@@ -142,7 +145,7 @@ impl Machine<'_> {
             (pay instruction.now self.old.world ≡ Bad (OutOfFuel ∷ []) self.new.world) }
         ensures spent { OnOk result
             (self.new.world.fuel + charge_of instruction.now ≡ self.old.world.fuel) }
-        ensures kept { KeepsFixedAndLists self.old.world self.new.world }
+        ensures kept { KeepsFixedAndNames self.old.world self.new.world }
         ensures rest { self.new ≡ record self.old {
           world = record self.old.world { fuel = self.new.world.fuel };
         } }
@@ -160,19 +163,26 @@ impl Machine<'_> {
             && !self.run.has_loop()
     }
 
-    /// Ends the run behind its last instruction; stuck where it has left something open.
-    pub(crate) fn finish(&self, base: &Base, size: usize) -> Result<Flow, Halt>
-        ensures { Finishes result base.now self.now (finish size base.now self.now) }
+    /// Ends the run behind its last instruction, or restarts it in the root of the parent that waits; stuck where it has
+    /// left something open.
+    #[inline(never)]
+    pub(crate) fn finish(&mut self, alloc: Global, base: &Base, size: usize) -> Result<Flow, Halt>
+        ensures { Finishes result base.now self.old self.new (finish size base.now self.old) }
     {
-        if self.run.place == size && self.is_closed(base) {
-            return Ok(Flow::Done);
+        if self.run.place != size || !self.is_closed(base) {
+            return Err(Halt::Stuck);
         }
-        Err(Halt::Stuck)
+        let Some(root) = self.run.parent_root()? else {
+            return Ok(Flow::Done);
+        };
+        self.state.set_stream(&root)?;
+        self.run = Activation::new(alloc, root, self.run.floor());
+        Ok(Flow::Restart)
     }
 
     /// Ends the run where it stands; stuck where it has left something open.
     pub(crate) fn do_return(&self, base: &Base) -> Result<Flow, Halt>
-        ensures { Finishes result base.now self.now (return_of base.now self.now) }
+        ensures { Finishes result base.now self.now self.now (return_of base.now self.now) }
     {
         if self.is_closed(base) {
             return Ok(Flow::Done);
@@ -200,7 +210,7 @@ impl Machine<'_> {
     {
         let instructions = code.as_slice();
         let Some(instruction) = instructions.get(self.place()) else {
-            return self.finish(base, instructions.len());
+            return self.finish(alloc, base, instructions.len());
         };
         if let Err(_exhausted) = self.charge(instruction) {
             return Err(Halt::Fault(Error::from(ErrorKind::OutOfFuel)));

@@ -76,6 +76,8 @@ fn word(instruction: &Instruction) -> &'static str {
         Instruction::PushDidNotIterate => "empty",
         Instruction::PopLoopFrame => "looped",
         Instruction::FastRecurse => "recurse",
+        Instruction::FastSuper => "super",
+        Instruction::LoadBlocks => "extends",
         Instruction::PushWith => "with",
         Instruction::PopFrame => "leave",
         Instruction::BeginCapture(CaptureMode::Capture) => "capture",
@@ -212,10 +214,13 @@ fn write_block(
     name: &str,
 ) -> Result<(), Error> {
     match streams.blocks.get(name) {
-        Some(code) => {
+        Some(block) => {
             out.push_str(" | ")?;
             out.push_str(name)?;
-            write_code(alloc, out, code.as_slice())
+            if block.required {
+                out.push_str("!")?;
+            }
+            write_code(alloc, out, block.code.as_slice())
         }
         None => Ok(()),
     }

@@ -1,6 +1,6 @@
 //! Sources with their code, and what is no source of a template.
 use crate::rows::{halves, joined};
-use crate::{code, macros, syntax};
+use crate::{blocks, code, macros, syntax};
 use std::alloc::Global;
 use std::process::Abort;
 use std::rc::RcStr;
@@ -201,6 +201,7 @@ fn sources_have_their_code(rt: HostRuntime) -> Result<(), Fail> {
     check_codes(&rt, rt.alloc(), &*syntax, &EXPRESSIONS_AND_STATEMENTS)?;
     check_codes(&rt, rt.alloc(), &*syntax, &TOKENS)?;
     check_codes(&rt, rt.alloc(), &*syntax, &macros::CODES)?;
+    check_codes(&rt, rt.alloc(), &*syntax, &blocks::CODES)?;
     Ok(())
 }
 
@@ -455,6 +456,7 @@ fn check_joined(
 fn what_is_no_template_is_refused(rt: HostRuntime) -> Result<(), Fail> {
     check_joined(&rt, rt.alloc(), &REFUSED, 0, false)?;
     check_joined(&rt, rt.alloc(), &macros::REFUSED, 0, false)?;
+    check_joined(&rt, rt.alloc(), &blocks::REFUSED, 0, false)?;
     Ok(())
 }
 

@@ -22,7 +22,7 @@ push_for-returns-clause-blocks t c =
 pub push_call_of_block-returns-clause-blocks : goal.push_call_of_block-returns-clause-blocks
 push_call_of_block-returns-clause-blocks t c =
     on_ok_weaker c.emit.result
-    (λ e. block-blocks c.args.name.now c.args.body.now c.args.blocks.now c.push_block.new.blocks c.in_ok-push_block.ensures.blocks)
+    (λ e. block-blocks c.args.name.now c.args.required c.args.body.now c.args.blocks.now c.push_block.new.blocks c.in_ok-push_block.ensures.blocks)
     c.emit.ensures.ok
 
 pub push_call_block-returns-clause-code : goal.push_call_block-returns-clause-code

@@ -1,5 +1,6 @@
 use Rattle.std.proofs.Common.{◌≡◌, ◌+◌, ◌*◌, drop}
-use Rattle.tm_syntax.specs.Blocks.{blocks_in, compiled_blocks}
+use Rattle.tm_syntax.specs.Blocks.{blocks_in}
+use Rattle.tm_syntax.specs.BlockCodes.{compiled_blocks}
 use Rattle.tm_syntax.specs.Code.{statements_code}
 use Rattle.tm_syntax.specs.Named.{put_each}
 use Rattle.tm_syntax.specs.declared.tree.Stmt.TheBlock.{hidden-the_row-Stmt-0 as statements}
@@ -25,7 +26,7 @@ abbrev pub decreases-push_statement : goal.decreases-push_statement
 decreases-push_statement l = 5 * goal.size-push_statement l + 2
 
 abbrev pub decreases-push_call_of_block : goal.decreases-push_call_of_block
-decreases-push_call_of_block l = 5 * the_size (Block l.name.now l.body.now) + 1
+decreases-push_call_of_block l = 5 * the_size (Block l.name.now l.required l.body.now) + 1
 
 abbrev pub decreases-push_capture : goal.decreases-push_capture
 decreases-push_capture l = 5 * the_size (CaptureBlock l.becomes.now l.filters.now l.body.now)

@@ -1,4 +1,3 @@
-use Rattle.std.proofs.Common.{◌≡◌}
 use Rattle.tm_syntax.specs.Hashed.{hash_of}
 use Rattle.tm_syntax.proofs.name.hash_of.Goals as goal
 

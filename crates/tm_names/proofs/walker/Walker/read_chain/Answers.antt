@@ -7,11 +7,10 @@ pub returns-then-nested-clause-ok : goal.returns-then-nested-clause-ok
 returns-then-nested-clause-ok c =
     on_ok_weaker c.read_as.result
     (nested-chain c.args.nested c.args.name.now c.as_str-then-nested.result.now c.args.after.now c.args.self.now c.read_as.new.self
-    c.calls_block.result c.calls_block.ensures c.if-calls_block.false c.if-nested.true (c.as_str-then-nested.ensures.value
+    c.if-nested.true (c.as_str-then-nested.ensures.value
     ∙ c.in_ok-text.ensures.ok)) (rw (← c.as_str.ensures) c.read_as.ensures.ok)
 
 pub returns-clause-ok : goal.returns-clause-ok
 returns-clause-ok c =
     on_ok_weaker c.read.result
-    (plain-chain c.args.nested c.args.name.now c.args.after.now c.args.self.now c.read.new.self c.calls_block.result c.calls_block.ensures
-    c.if-calls_block.false c.if-nested.false) (rw (← c.as_str-2.ensures) c.read.ensures.ok)
+    (plain-chain c.args.nested c.args.name.now c.args.after.now c.args.self.now c.read.new.self c.if-nested.false) (rw (← c.as_str-2.ensures) c.read.ensures.ok)

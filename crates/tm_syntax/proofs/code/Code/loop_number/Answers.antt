@@ -1,7 +1,7 @@
-use Rattle.std.proofs.Common.{rules, of_calls, ◌≡◌, ltb, sym, subst, ◌∙◌, List}
+use Rattle.std.proofs.Common.{rules, of_calls, ◌≡◌, ltb, subst, ◌∙◌, List}
 use Rattle.std.proofs.lemmas.Fn.{always_returns_same}
-use Rattle.std.proofs.lemmas.List.Sorted.{IsPartitionedBy-ltb, IsPartitionPoint-from_clause}
-use Rattle.tm_syntax.specs.Loops.{LoopPlace, loop_places, loops_before}
+use Rattle.std.proofs.lemmas.List.Sorted.{IsPartitionedBy-ltb}
+use Rattle.tm_syntax.specs.Loops.{LoopPlace, loops_before}
 use Rattle.tm_syntax.specs.declared.instruction.Instruction.{Instruction}
 use Rattle.tm_syntax.proofs.Places.{made_in_order, numbered}
 use Rattle.tm_syntax.proofs.code.Code.loop_number.Goals as goal

@@ -4,7 +4,7 @@ use Rattle.tm_templates.proofs.compiled.CompiledTemplate.stream.Goals as goal
 
 pub returns-in-Some-block : goal.returns-in-Some-block
 returns-in-Some-block c =
-    part_there c.args.self.now c.args.block.now c.in-Some.name c.as_str.result.now c.in-Some-block.code.now c.in-Some.is c.as_str.ensures
+    part_there c.args.self.now c.args.block.now c.in-Some.name c.as_str.result.now c.in-Some-block.found.now c.in-Some.is c.as_str.ensures
     c.in-Some-block.ensures
 
 pub returns-in-None-block : goal.returns-in-None-block

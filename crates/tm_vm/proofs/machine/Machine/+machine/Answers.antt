@@ -1,157 +1,298 @@
 use Rattle.std.proofs.Common.{◌≡◌, length, Ok, Err, refl, sym, ap, ◌∙◌, arith, subst}
 use Rattle.tm_meaning.specs.declared.base.Base.{Base}
+use Rattle.tm_meaning.specs.Inheritance.{names_left}
 use Rattle.tm_meaning.specs.Machine.{Config, base_of}
 use Rattle.tm_state.specs.State.{put_back}
+use Rattle.tm_parts.specs.Halts.{failures_after}
 use Rattle.tm_vm.specs.Answers.{program}
 use Rattle.tm_vm.specs.declared.flow.Flow.TheVariants as flow
-use Rattle.tm_vm.proofs.Loop.{at_base, kept_same, kept_then, stands_first, stands_next, stands_behind, beginning_at, beginning_in, ended_at}
+use Rattle.tm_vm.proofs.Loop.{at_base, fixed_same, fixed_then, stands_first, stands_next, stands_again, stands_behind, beginning_at, beginning_in}
 use Rattle.tm_parts.specs.declared.halt.Halt.TheVariants as halt
 use Rattle.tm_state.specs.declared.nested.NestedRun.{NestedRun}
-use Rattle.tm_vm.specs.Nested.{IsWrapped}
-use Rattle.tm_vm.proofs.Loop.{as_value, first_of, in_place, refused_ends, wrapped_ends}
+use Rattle.tm_vm.specs.Nested.{IsBack, IsWrapped, StandsOn}
+use Rattle.tm_vm.proofs.Loop.{as_value, ended_at, first_of, in_place, is_back, refused_ends, stands_deeper, wrapped_ends}
 use Rattle.tm_vm.proofs.Loop.{ended_in, done_at, whole_at, scopes_behind, was_there, above_base, unboxed, deeper}
-use Rattle.tm_vm.proofs.Weight.{less_behind}
+use Rattle.tm_vm.proofs.Weight.{less_behind, parents_behind}
 use Rattle.tm_vm.proofs.machine.Machine.+machine.Goals as goal
 
-pub run-loop-entry-init : goal.run-loop-entry-init
-run-loop-entry-init g t c =
+pub run-streams-init : goal.run-streams-init
+run-streams-init g t c =
     let p = program (g.H.Host.meaning c.args.host.now) (g.H.Host.code c.args.host.now) in
     let a = c.args.self.now in
     let all : length a.world.scopes.frames ≡ length a.world.scopes.frames = refl in
     record {
       failures = refl;
-      kept = kept_same a.world;
+      kept = fixed_same a.world;
+      names = omega arith;
       above = omega (arith, all);
       same_outer = refl;
-      same_stream = refl;
       stands = stands_first p (base_of c.args.heard a.captures a.world) a (g.W.Sink.written c.args.writer.now);
     }
 
-pub run-loop-entry-preserved-in-Ok-GoOn : goal.run-loop-entry-preserved-in-Ok-GoOn
-run-loop-entry-preserved-in-Ok-GoOn g t c =
+pub run-steps-init : goal.run-steps-init
+run-steps-init g t c = record {
+  failures = c.streams.invariant.failures;
+  kept = c.streams.invariant.kept;
+  names = c.streams.invariant.names;
+  above = c.streams.invariant.above;
+  same_outer = c.streams.invariant.same_outer;
+  same_stream = refl;
+  parents = omega arith;
+  stands = c.streams.invariant.stands;
+}
+
+pub run-step-requires : goal.run-step-requires
+run-step-requires g t c = c.code-code.ensures ∙ ap (λ s. g.H.Host.code c.args.host.now s) (sym c.steps.invariant.same_stream)
+
+pub run-steps-preserved-in-Ok-GoOn : goal.run-steps-preserved-in-Ok-GoOn
+run-steps-preserved-in-Ok-GoOn g t c =
     let p = program (g.H.Host.meaning c.args.host.now) (g.H.Host.code c.args.host.now) in
     let a = c.args.self.now in
-    let now = g.W.Sink.written c.loop-entry.writer in
+    let now = g.W.Sink.written c.steps.writer in
     let new = g.W.Sink.written c.step.new.writer in
     let step = rw c.in-Ok-GoOn.field-0-is at c.in-Ok-GoOn.ensures.performs in
-    let did = at_base p c.loop-entry.self c.step.new.self now new (Ok flow.GoOn) c.base-base.result
+    let paid = rw c.in-Ok-GoOn.field-0-is at c.in-Ok-GoOn.ensures.paid in
+    let did = at_base p c.steps.self c.step.new.self now new (Ok flow.GoOn) c.base-base.result
     (base_of c.args.heard a.captures a.world) c.base-base.ensures step.did in
+    let names = step.names in
+    let parents = paid.1 in
     record {
-      failures = step.counted ∙ c.loop-entry.invariant.failures;
-      kept = kept_then c.loop-entry.invariant.kept step.kept;
-      above = above_base c.args.heard a.captures a.world c.base-base.result c.loop-entry.self.world c.step.new.self.world
-          c.base-base.ensures c.loop-entry.invariant.above step.depths;
-      same_outer = step.depths.1 ∙ c.loop-entry.invariant.same_outer;
-      same_stream = step.same_stream ∙ c.loop-entry.invariant.same_stream;
-      stands = stands_next c.step.new.self new c.loop-entry.invariant.stands did;
+      failures = step.counted ∙ c.steps.invariant.failures;
+      kept = fixed_then c.steps.invariant.kept step.kept;
+      names = omega (arith, names, c.steps.invariant.names);
+      above = above_base c.args.heard a.captures a.world c.base-base.result c.steps.self.world c.step.new.self.world
+          c.base-base.ensures c.steps.invariant.above step.depths;
+      same_outer = step.depths.1 ∙ c.steps.invariant.same_outer;
+      same_stream = step.same_stream ∙ c.steps.invariant.same_stream;
+      parents = omega (arith, parents, c.steps.invariant.parents);
+      stands = stands_next c.step.new.self new c.steps.invariant.stands did;
     }
 
-pub run-loop-entry-preserved : goal.run-loop-entry-preserved
-run-loop-entry-preserved g t c =
-    let p = program (g.H.Host.meaning c.args.host.now) (g.H.Host.code c.args.host.now) in
-    let a = c.args.self.now in
+pub run-run_nested-requires : goal.run-run_nested-requires
+run-run_nested-requires g t c κs within =
     let limit = (g.H.Host.meaning c.args.host.now).limit in
-    let now = g.W.Sink.written c.loop-entry.writer in
-    let at = g.W.Sink.written c.step.new.writer in
-    let new = g.W.Sink.written c.run_nested.new.writer in
     let e = c.into_inner.result in
     let step = rw c.in-Ok-Enter.field-0-is at c.in-Ok-Enter.ensures.performs in
-    let did = at_base p c.loop-entry.self c.step.new.self now at (Ok (flow.Enter c.in-Ok-Enter.entry)) c.base-base.result
-    (base_of c.args.heard a.captures a.world) c.base-base.ensures step.did in
-    let enters = unboxed p c.in-Ok-Enter.entry e c.step.new.self now at c.into_inner.ensures did in
-    let went = c.in_default.ensures.ran in
-    let deep = deeper limit c.in-Ok-Enter.entry e c.loop-entry.self.world c.step.new.self.world c.into_inner.ensures step.depths in
-    let behind = c.run_nested.new.self.world in
-    let same = scopes_behind limit e c.loop-entry.self.world c.step.new.self.world behind deep c.in_default.ensures.back in
-    record {
-      failures = c.in_default.ensures.failures ∙ step.counted ∙ c.loop-entry.invariant.failures;
-      kept = kept_then c.loop-entry.invariant.kept (kept_then step.kept c.in_default.ensures.kept);
-      above = omega (arith, same.0, c.loop-entry.invariant.above);
-      same_outer = same.1 ∙ c.loop-entry.invariant.same_outer;
-      same_stream = c.in_default.ensures.same_stream ∙ step.same_stream ∙ c.loop-entry.invariant.same_stream;
-      stands = stands_behind e c.step.new.self c.run_nested.new.self at new c.loop-entry.invariant.stands enters went;
-    }
-
-pub run-loop-entry-smaller : goal.run-loop-entry-smaller
-run-loop-entry-smaller g t c =
-    let p = program (g.H.Host.meaning c.args.host.now) (g.H.Host.code c.args.host.now) in
-    let mid = c.step.new.self in
-    let paid = rw c.in-Ok-Enter.field-0-is at c.in-Ok-Enter.ensures.paid in
-    let there = was_there c.in_default.ensures.ran in
-    let first = sym (ap (λ (x : NestedRun). first_of p x mid) c.into_inner.ensures) ∙ there.1 in
-    less_behind (length c.code-code.result.now) c.loop-entry.self mid c.run_nested.new.self (paid there.0 first)
-    c.in_default.ensures.kept.no_more_fuel c.in_default.ensures.same_loops
+    let deep = deeper limit c.in-Ok-Enter.entry e c.steps.self.world c.step.new.self.world c.into_inner.ensures step.depths in
+    let stands = stands_deeper limit e c.steps.self.world c.step.new.self.world deep step.names in
+    let more = stands.1 in
+    let fits = deep.2 in
+    (omega (arith, c.decreases, more, fits, c.steps.invariant.above, c.steps.invariant.same_outer), (within.0, (within.1, stands.0)))
 
 pub run-returns-in-Err-run_nested-clause-ended : goal.run-returns-in-Err-run_nested-clause-ended
 run-returns-in-Err-run_nested-clause-ended g t c =
     let p = program (g.H.Host.meaning c.args.host.now) (g.H.Host.code c.args.host.now) in
     let a = c.args.self.now in
-    let now = g.W.Sink.written c.loop-entry.writer in
+    let now = g.W.Sink.written c.steps.writer in
     let at = g.W.Sink.written c.step.new.writer in
     let new = g.W.Sink.written c.run_nested.new.writer in
     let e = c.into_inner.result in
     let step = rw c.in-Ok-Enter.field-0-is at c.in-Ok-Enter.ensures.performs in
-    let did = at_base p c.loop-entry.self c.step.new.self now at (Ok (flow.Enter c.in-Ok-Enter.entry)) c.base-base.result
+    let did = at_base p c.steps.self c.step.new.self now at (Ok (flow.Enter c.in-Ok-Enter.entry)) c.base-base.result
     (base_of c.args.heard a.captures a.world) c.base-base.ensures step.did in
     let enters = unboxed p c.in-Ok-Enter.entry e c.step.new.self now at c.into_inner.ensures did in
-    ended_in e c.step.new.self at new c.in-Err-run_nested.halt c.run_nested.new.self.world c.loop-entry.invariant.stands enters
+    ended_in e c.step.new.self at new c.in-Err-run_nested.halt c.run_nested.new.self.world c.steps.invariant.stands enters
     c.in-Err-run_nested.ensures.ran
 
 pub run-returns-in-Err-run_nested-clause-beginning : goal.run-returns-in-Err-run_nested-clause-beginning
 run-returns-in-Err-run_nested-clause-beginning g t c =
     let p = program (g.H.Host.meaning c.args.host.now) (g.H.Host.code c.args.host.now) in
     let a = c.args.self.now in
-    let now = g.W.Sink.written c.loop-entry.writer in
+    let now = g.W.Sink.written c.steps.writer in
     let at = g.W.Sink.written c.step.new.writer in
     let new = g.W.Sink.written c.run_nested.new.writer in
     let e = c.into_inner.result in
     let step = rw c.in-Ok-Enter.field-0-is at c.in-Ok-Enter.ensures.performs in
-    let did = at_base p c.loop-entry.self c.step.new.self now at (Ok (flow.Enter c.in-Ok-Enter.entry)) c.base-base.result
+    let did = at_base p c.steps.self c.step.new.self now at (Ok (flow.Enter c.in-Ok-Enter.entry)) c.base-base.result
     (base_of c.args.heard a.captures a.world) c.base-base.ensures step.did in
     let enters = unboxed p c.in-Ok-Enter.entry e c.step.new.self now at c.into_inner.ensures did in
-    beginning_in e c.step.new.self at new c.loop-entry.invariant.stands enters c.in-Err-run_nested.ensures.beginning
+    beginning_in e c.step.new.self at new c.steps.invariant.stands enters c.in-Err-run_nested.ensures.beginning
+
+pub run-returns-in-Err-run_nested-clause-failures : goal.run-returns-in-Err-run_nested-clause-failures
+run-returns-in-Err-run_nested-clause-failures g t c =
+    let step = rw c.in-Ok-Enter.field-0-is at c.in-Ok-Enter.ensures.performs in
+    c.in-Err-run_nested.ensures.failures ∙ ap (λ n. failures_after {A = Unit {0}} (Err c.in-Err-run_nested.halt) n) (step.counted ∙ c.steps.invariant.failures)
+
+pub run-returns-in-Err-run_nested-clause-kept : goal.run-returns-in-Err-run_nested-clause-kept
+run-returns-in-Err-run_nested-clause-kept g t c =
+    let step = rw c.in-Ok-Enter.field-0-is at c.in-Ok-Enter.ensures.performs in
+    fixed_then c.steps.invariant.kept (fixed_then step.kept c.in-Err-run_nested.ensures.kept)
+
+pub run-returns-in-Err-run_nested-clause-names : goal.run-returns-in-Err-run_nested-clause-names
+run-returns-in-Err-run_nested-clause-names g t c =
+    let host = g.H.Host.meaning c.args.host.now in
+    let step = rw c.in-Ok-Enter.field-0-is at c.in-Ok-Enter.ensures.performs in
+    let same : names_left host c.step.new.self.world ≡ names_left host c.steps.self.world =
+    ap (λ ns. names_left host (record c.steps.self.world { loaded = ns })) step.names in
+    omega (arith, same, c.steps.invariant.names, c.in-Err-run_nested.ensures.names)
+
+pub run-returns-in-Err-run_nested-clause-no_fewer : goal.run-returns-in-Err-run_nested-clause-no_fewer
+run-returns-in-Err-run_nested-clause-no_fewer g t c =
+    let limit = (g.H.Host.meaning c.args.host.now).limit in
+    let e = c.into_inner.result in
+    let step = rw c.in-Ok-Enter.field-0-is at c.in-Ok-Enter.ensures.performs in
+    let deep = deeper limit c.in-Ok-Enter.entry e c.steps.self.world c.step.new.self.world c.into_inner.ensures step.depths in
+    let same = scopes_behind limit e c.steps.self.world c.step.new.self.world c.run_nested.new.self.world deep c.in-Err-run_nested.ensures.back in
+    let frames = same.0 in
+    (omega (arith, frames, c.steps.invariant.above), same.1 ∙ c.steps.invariant.same_outer)
+
+pub run-steps-smaller : goal.run-steps-smaller
+run-steps-smaller g t c =
+    let p = program (g.H.Host.meaning c.args.host.now) (g.H.Host.code c.args.host.now) in
+    let mid = c.step.new.self in
+    let paid = rw c.in-Ok-Enter.field-0-is at c.in-Ok-Enter.ensures.paid in
+    let there = was_there c.in_default.ensures.ran in
+    let first = sym (ap (λ (x : NestedRun). first_of p x mid) c.into_inner.ensures) ∙ there.1 in
+    less_behind (length c.code-code.result.now) c.steps.self mid c.run_nested.new.self (paid there.0 first).0
+    c.in_default.ensures.kept.no_more_fuel c.in_default.ensures.same_run.1
+
+pub run-steps-preserved : goal.run-steps-preserved
+run-steps-preserved g t c =
+    let host = g.H.Host.meaning c.args.host.now in
+    let p = program host (g.H.Host.code c.args.host.now) in
+    let a = c.args.self.now in
+    let limit = host.limit in
+    let now = g.W.Sink.written c.steps.writer in
+    let at = g.W.Sink.written c.step.new.writer in
+    let new = g.W.Sink.written c.run_nested.new.writer in
+    let e = c.into_inner.result in
+    let mid = c.step.new.self in
+    let step = rw c.in-Ok-Enter.field-0-is at c.in-Ok-Enter.ensures.performs in
+    let paid = rw c.in-Ok-Enter.field-0-is at c.in-Ok-Enter.ensures.paid in
+    let did = at_base p c.steps.self c.step.new.self now at (Ok (flow.Enter c.in-Ok-Enter.entry)) c.base-base.result
+    (base_of c.args.heard a.captures a.world) c.base-base.ensures step.did in
+    let enters = unboxed p c.in-Ok-Enter.entry e c.step.new.self now at c.into_inner.ensures did in
+    let went = c.in_default.ensures.ran in
+    let there = was_there went in
+    let first = sym (ap (λ (x : NestedRun). first_of p x mid) c.into_inner.ensures) ∙ there.1 in
+    let deep = deeper limit c.in-Ok-Enter.entry e c.steps.self.world c.step.new.self.world c.into_inner.ensures step.depths in
+    let behind = c.run_nested.new.self.world in
+    let same = scopes_behind limit e c.steps.self.world c.step.new.self.world behind deep c.in_default.ensures.back in
+    let left : names_left host mid.world ≡ names_left host c.steps.self.world =
+    ap (λ ns. names_left host (record c.steps.self.world { loaded = ns })) step.names in
+    let fewer = c.in_default.ensures.names in
+    let parents = parents_behind host c.steps.self mid c.run_nested.new.self (paid there.0 first).1 step.names fewer
+    c.in_default.ensures.same_run in
+    let frames = same.0 in
+    record {
+      failures = c.in_default.ensures.failures ∙ step.counted ∙ c.steps.invariant.failures;
+      kept = fixed_then c.steps.invariant.kept (fixed_then step.kept c.in_default.ensures.kept);
+      names = omega (arith, left, fewer, c.steps.invariant.names);
+      above = omega (arith, frames, c.steps.invariant.above);
+      same_outer = same.1 ∙ c.steps.invariant.same_outer;
+      same_stream = c.in_default.ensures.same_run.0 ∙ step.same_stream ∙ c.steps.invariant.same_stream;
+      parents = omega (arith, parents, c.steps.invariant.parents);
+      stands = stands_behind e c.step.new.self c.run_nested.new.self at new c.steps.invariant.stands enters went;
+    }
+
+pub run-streams-smaller : goal.run-streams-smaller
+run-streams-smaller g t c =
+    let paid = rw c.in-Ok-Restart.field-0-is at c.in-Ok-Restart.ensures.paid in
+    omega (arith, paid, c.steps.invariant.parents)
+
+pub run-streams-preserved : goal.run-streams-preserved
+run-streams-preserved g t c =
+    let p = program (g.H.Host.meaning c.args.host.now) (g.H.Host.code c.args.host.now) in
+    let a = c.args.self.now in
+    let now = g.W.Sink.written c.steps.writer in
+    let new = g.W.Sink.written c.step.new.writer in
+    let step = rw c.in-Ok-Restart.field-0-is at c.in-Ok-Restart.ensures.performs in
+    let did = at_base p c.steps.self c.step.new.self now new (Ok flow.Restart) c.base-base.result
+    (base_of c.args.heard a.captures a.world) c.base-base.ensures step.did in
+    let names = step.names in
+    record {
+      failures = step.counted ∙ c.steps.invariant.failures;
+      kept = fixed_then c.steps.invariant.kept step.kept;
+      names = omega (arith, names, c.steps.invariant.names);
+      above = above_base c.args.heard a.captures a.world c.base-base.result c.steps.self.world c.step.new.self.world
+          c.base-base.ensures c.steps.invariant.above step.depths;
+      same_outer = step.depths.1 ∙ c.steps.invariant.same_outer;
+      stands = stands_again c.step.new.self new c.steps.invariant.stands did;
+    }
 
 pub run-returns-in-Ok-Done-clause-ended : goal.run-returns-in-Ok-Done-clause-ended
 run-returns-in-Ok-Done-clause-ended g t c =
     let p = program (g.H.Host.meaning c.args.host.now) (g.H.Host.code c.args.host.now) in
     let a = c.args.self.now in
-    let now = g.W.Sink.written c.loop-entry.writer in
+    let now = g.W.Sink.written c.steps.writer in
     let new = g.W.Sink.written c.step.new.writer in
     let step = rw c.in-Ok-Done.field-0-is at c.in-Ok-Done.ensures.performs in
-    let did = at_base p c.loop-entry.self c.step.new.self now new (Ok flow.Done) c.base-base.result
+    let did = at_base p c.steps.self c.step.new.self now new (Ok flow.Done) c.base-base.result
     (base_of c.args.heard a.captures a.world) c.base-base.ensures step.did in
-    done_at c.step.new.self new c.loop-entry.invariant.stands did
+    done_at c.step.new.self new c.steps.invariant.stands did
 
 pub run-returns-in-Ok-Done-clause-beginning : goal.run-returns-in-Ok-Done-clause-beginning
 run-returns-in-Ok-Done-clause-beginning g t c =
     let step = rw c.in-Ok-Done.field-0-is at c.in-Ok-Done.ensures.performs in
-    whole_at (g.W.Sink.written c.step.new.writer) c.loop-entry.invariant.stands step.did.1
+    whole_at (g.W.Sink.written c.step.new.writer) c.steps.invariant.stands step.did.1
+
+pub run-returns-in-Ok-Done-clause-failures : goal.run-returns-in-Ok-Done-clause-failures
+run-returns-in-Ok-Done-clause-failures g t c =
+    let step = rw c.in-Ok-Done.field-0-is at c.in-Ok-Done.ensures.performs in step.counted ∙ c.steps.invariant.failures
+
+pub run-returns-in-Ok-Done-clause-kept : goal.run-returns-in-Ok-Done-clause-kept
+run-returns-in-Ok-Done-clause-kept g t c =
+    let step = rw c.in-Ok-Done.field-0-is at c.in-Ok-Done.ensures.performs in fixed_then c.steps.invariant.kept step.kept
+
+pub run-returns-in-Ok-Done-clause-names : goal.run-returns-in-Ok-Done-clause-names
+run-returns-in-Ok-Done-clause-names g t c =
+    let step = rw c.in-Ok-Done.field-0-is at c.in-Ok-Done.ensures.performs in
+    let names = step.names in
+    omega (arith, names, c.steps.invariant.names)
+
+pub run-returns-in-Ok-Done-clause-no_fewer : goal.run-returns-in-Ok-Done-clause-no_fewer
+run-returns-in-Ok-Done-clause-no_fewer g t c =
+    let a = c.args.self.now in
+    let step = rw c.in-Ok-Done.field-0-is at c.in-Ok-Done.ensures.performs in (
+      above_base c.args.heard a.captures a.world c.base-base.result c.steps.self.world c.step.new.self.world
+          c.base-base.ensures c.steps.invariant.above step.depths.0,
+      step.depths.0.1 ∙ c.steps.invariant.same_outer,
+    )
 
 pub run-returns-in-Ok-Done-clause-closed : goal.run-returns-in-Ok-Done-clause-closed
 run-returns-in-Ok-Done-clause-closed g t c =
     let step = rw c.in-Ok-Done.field-0-is at c.in-Ok-Done.ensures.performs in
     let base = ap (λ (b : Base). b.scopes) c.base-base.ensures in
-    (sym step.depths.1 ∙ base, step.depths.0.1 ∙ c.loop-entry.invariant.same_outer)
+    (sym step.depths.1 ∙ base, step.depths.0.1 ∙ c.steps.invariant.same_outer)
 
 pub run-returns-in-Err-clause-ended : goal.run-returns-in-Err-clause-ended
 run-returns-in-Err-clause-ended g t c =
     let p = program (g.H.Host.meaning c.args.host.now) (g.H.Host.code c.args.host.now) in
     let a = c.args.self.now in
-    let now = g.W.Sink.written c.loop-entry.writer in
+    let now = g.W.Sink.written c.steps.writer in
     let new = g.W.Sink.written c.step.new.writer in
-    let did = at_base p c.loop-entry.self c.step.new.self now new (Err c.in-Err.halt) c.base-base.result
+    let did = at_base p c.steps.self c.step.new.self now new (Err c.in-Err.halt) c.base-base.result
     (base_of c.args.heard a.captures a.world) c.base-base.ensures c.in-Err.ensures.performs.did in
-    ended_at new c.in-Err.halt c.step.new.self.world c.loop-entry.invariant.stands did.0 did.1
+    ended_at new c.in-Err.halt c.step.new.self.world c.steps.invariant.stands did.0 did.1
 
 pub run-returns-in-Err-clause-beginning : goal.run-returns-in-Err-clause-beginning
 run-returns-in-Err-clause-beginning g t c =
     let p = program (g.H.Host.meaning c.args.host.now) (g.H.Host.code c.args.host.now) in
     let a = c.args.self.now in
-    let now = g.W.Sink.written c.loop-entry.writer in
+    let now = g.W.Sink.written c.steps.writer in
     let new = g.W.Sink.written c.step.new.writer in
-    let did = at_base p c.loop-entry.self c.step.new.self now new (Err c.in-Err.halt) c.base-base.result
+    let did = at_base p c.steps.self c.step.new.self now new (Err c.in-Err.halt) c.base-base.result
     (base_of c.args.heard a.captures a.world) c.base-base.ensures c.in-Err.ensures.performs.did in
-    beginning_at new c.loop-entry.invariant.stands did.1
+    beginning_at new c.steps.invariant.stands did.1
+
+pub run-returns-in-Err-clause-failures : goal.run-returns-in-Err-clause-failures
+run-returns-in-Err-clause-failures g t c =
+    c.in-Err.ensures.performs.counted ∙ ap (λ n. failures_after {A = Unit {0}} (Err c.in-Err.halt) n) c.steps.invariant.failures
+
+pub run-returns-in-Err-clause-kept : goal.run-returns-in-Err-clause-kept
+run-returns-in-Err-clause-kept g t c = fixed_then c.steps.invariant.kept c.in-Err.ensures.performs.kept
+
+pub run-returns-in-Err-clause-names : goal.run-returns-in-Err-clause-names
+run-returns-in-Err-clause-names g t c =
+    let names = c.in-Err.ensures.performs.names in omega (arith, names, c.steps.invariant.names)
+
+pub run-returns-in-Err-clause-no_fewer : goal.run-returns-in-Err-clause-no_fewer
+run-returns-in-Err-clause-no_fewer g t c =
+    let a = c.args.self.now in (
+      above_base c.args.heard a.captures a.world c.base-base.result c.steps.self.world c.step.new.self.world
+          c.base-base.ensures c.steps.invariant.above c.in-Err.ensures.performs.depths,
+      c.in-Err.ensures.performs.depths.1 ∙ c.steps.invariant.same_outer,
+    )
 
 pub run_nested-returns-in_default-clause-ran : goal.run_nested-returns-in_default-clause-ran
 run_nested-returns-in_default-clause-ran g t c =
@@ -169,7 +310,15 @@ run_nested-returns-in-Err-clause-ran g t c =
     let new = g.W.Sink.written c.run-result.new.writer in
     let same = ap (λ (x : Config). x.world) c.put_back-2.ensures ∙ ap (λ (x : Config). put_back e.saved x.world) c.resume.ensures in
     wrapped_ends p e c.in-Some.waiting c.args.self.now c.begin.new.self c.run-result.new.self now new c.in-Some.ensures
-    c.in-Err.ensures.kept c.put_back-2.new.self c.in-Err.halt c.wrapped-in-Err.result same c.wrapped-in-Err.ensures c.in-Err.ensures.ended
+    c.put_back-2.new.self c.in-Err.halt c.wrapped-in-Err.result same c.wrapped-in-Err.ensures c.in-Err.ensures.ended
+
+pub run_nested-returns-in-Err-clause-back : goal.run_nested-returns-in-Err-clause-back
+run_nested-returns-in-Err-clause-back g t c =
+    let e = c.args.entry in
+    let same = ap (λ (x : Config). x.world) c.put_back-2.ensures ∙ ap (λ (x : Config). put_back e.saved x.world) c.resume.ensures in
+    let stands = subst (λ w. StandsOn e.saved w) (sym c.in-Some.ensures.3) c.requires in
+    subst (λ w. IsBack e.saved w) (sym same)
+    (is_back e.saved c.begin.new.self.world c.run-result.new.self.world stands c.in-Err.ensures.no_fewer.0)
 
 pub run_nested-returns-then-value-clause-ran : goal.run_nested-returns-then-value-clause-ran
 run_nested-returns-then-value-clause-ran g t c =
@@ -179,8 +328,17 @@ run_nested-returns-then-value-clause-ran g t c =
     let new = g.W.Sink.written c.run-result.new.writer in
     let at = c.put_back-2.ensures ∙ ap (λ (x : Config). record x { world = put_back e.saved x.world }) c.resume.ensures in
     as_value p e c.in-Some.waiting c.args.self.now c.begin.new.self c.run-result.new.self now new c.in-Some.ensures
-    c.in_default-result.ensures.kept c.put_back-2.new.self c.push_captured.new.self c.push_captured.result
+    c.put_back-2.new.self c.push_captured.new.self c.push_captured.result
     c.push_captured.ensures.captured at c.if-value.true c.push_captured.ensures.same_world c.in_default-result.ensures.ended
+
+pub run_nested-returns-then-value-clause-back : goal.run_nested-returns-then-value-clause-back
+run_nested-returns-then-value-clause-back g t c =
+    let e = c.args.entry in
+    let same = c.push_captured.ensures.same_world ∙ ap (λ (x : Config). x.world) c.put_back-2.ensures
+    ∙ ap (λ (x : Config). put_back e.saved x.world) c.resume.ensures in
+    let stands = subst (λ w. StandsOn e.saved w) (sym c.in-Some.ensures.3) c.requires in
+    subst (λ w. IsBack e.saved w) (sym same)
+    (is_back e.saved c.begin.new.self.world c.run-result.new.self.world stands c.in_default-result.ensures.no_fewer.0)
 
 pub run_nested-returns-clause-ran : goal.run_nested-returns-clause-ran
 run_nested-returns-clause-ran g t c =
@@ -190,4 +348,12 @@ run_nested-returns-clause-ran g t c =
     let new = g.W.Sink.written c.run-result.new.writer in
     let at = c.put_back-2.ensures ∙ ap (λ (x : Config). record x { world = put_back e.saved x.world }) c.resume.ensures in
     in_place p e c.in-Some.waiting c.args.self.now c.begin.new.self c.run-result.new.self now new c.in-Some.ensures
-    c.in_default-result.ensures.kept c.put_back-2.new.self at c.if-value.false c.in_default-result.ensures.ended
+    c.put_back-2.new.self at c.if-value.false c.in_default-result.ensures.ended
+
+pub run_nested-returns-clause-back : goal.run_nested-returns-clause-back
+run_nested-returns-clause-back g t c =
+    let e = c.args.entry in
+    let same = ap (λ (x : Config). x.world) c.put_back-2.ensures ∙ ap (λ (x : Config). put_back e.saved x.world) c.resume.ensures in
+    let stands = subst (λ w. StandsOn e.saved w) (sym c.in-Some.ensures.3) c.requires in
+    subst (λ w. IsBack e.saved w) (sym same)
+    (is_back e.saved c.begin.new.self.world c.run-result.new.self.world stands c.in_default-result.ensures.no_fewer.0)

@@ -1,8 +1,9 @@
 use Rattle.std.proofs.Common.{◌≡◌, ◌+◌, ◌-◌, ◌*◌, ◌≤◌, length}
 use Rattle.tm_meaning.specs.World.{depth}
+use Rattle.tm_meaning.specs.Inheritance.{names_left}
 use Rattle.tm_meaning.specs.Machine.{base_of}
-use Rattle.tm_state.specs.Answers.{KeepsFixedAndLists}
-use Rattle.tm_vm.specs.Answers.{weight, program}
+use Rattle.tm_state.specs.Answers.{KeepsFixed}
+use Rattle.tm_vm.specs.Answers.{parents_left, weight, program}
 use Rattle.tm_vm.proofs.Loop.{RunsUpTo}
 use Rattle.tm_vm.proofs.machine.Machine.+machine.Given as goal
 
@@ -12,17 +13,34 @@ decreases-run_nested g l = ((g.H.Host.meaning l.host.now).limit + 1 - depth l.se
 abbrev pub decreases-run : goal.decreases-run
 decreases-run g l = ((g.H.Host.meaning l.host.now).limit + 1 - depth l.self.now.world.scopes) * 2
 
-abbrev pub invariant-run-loop-entry : goal.invariant-run-loop-entry
-invariant-run-loop-entry g l = record {
+abbrev pub invariant-run-streams : goal.invariant-run-streams
+invariant-run-streams g l = record {
   failures : g.W.Sink.failures l.writer ≡ g.W.Sink.failures l.initial.writer;
-  kept : KeepsFixedAndLists l.initial.self.world l.self.world;
+  kept : KeepsFixed l.initial.self.world l.self.world;
+  names : names_left (g.H.Host.meaning l.host) l.self.world ≤ names_left (g.H.Host.meaning l.host) l.initial.self.world;
   above : length l.initial.self.world.scopes.frames ≤ length l.self.world.scopes.frames;
   same_outer : l.self.world.scopes.outer ≡ l.initial.self.world.scopes.outer;
-  same_stream : l.self.run.stream ≡ l.initial.self.run.stream;
   stands : RunsUpTo (program (g.H.Host.meaning l.host) (g.H.Host.code l.host))
       (base_of l.heard l.initial.self.captures l.initial.self.world) l.initial.self (g.W.Sink.written l.initial.writer)
       (g.W.Sink.written l.writer) l.self;
 }
 
-abbrev pub decreases-run-loop-entry : goal.decreases-run-loop-entry
-decreases-run-loop-entry g l = weight (length l.code) l.self
+abbrev pub decreases-run-streams : goal.decreases-run-streams
+decreases-run-streams g l = parents_left (g.H.Host.meaning l.host) l.self
+
+abbrev pub invariant-run-steps : goal.invariant-run-steps
+invariant-run-steps g l = record {
+  failures : g.W.Sink.failures l.writer ≡ g.W.Sink.failures l.fn.writer;
+  kept : KeepsFixed l.fn.self.world l.self.world;
+  names : names_left (g.H.Host.meaning l.host) l.self.world ≤ names_left (g.H.Host.meaning l.host) l.fn.self.world;
+  above : length l.fn.self.world.scopes.frames ≤ length l.self.world.scopes.frames;
+  same_outer : l.self.world.scopes.outer ≡ l.fn.self.world.scopes.outer;
+  same_stream : l.self.run.stream ≡ l.initial.self.run.stream;
+  parents : parents_left (g.H.Host.meaning l.host) l.self ≤ parents_left (g.H.Host.meaning l.host) l.initial.self;
+  stands : RunsUpTo (program (g.H.Host.meaning l.host) (g.H.Host.code l.host))
+      (base_of l.heard l.fn.self.captures l.fn.self.world) l.fn.self (g.W.Sink.written l.fn.writer)
+      (g.W.Sink.written l.writer) l.self;
+}
+
+abbrev pub decreases-run-steps : goal.decreases-run-steps
+decreases-run-steps g l = weight (length l.code) l.self

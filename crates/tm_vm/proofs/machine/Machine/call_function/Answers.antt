@@ -1,4 +1,3 @@
-use Rattle.std.proofs.Common.{rules, ◌≡◌}
 use Rattle.tm_meaning.specs.Calls.{call_named}
 use Rattle.tm_meaning.specs.Machine.{Config}
 use Rattle.tm_vm.specs.Answers.{program}

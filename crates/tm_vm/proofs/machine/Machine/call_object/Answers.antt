@@ -1,15 +1,14 @@
-use Rattle.std.proofs.Common.{rules, ◌≡◌}
 use Rattle.tm_meaning.specs.Calls.{call_callee}
 use Rattle.tm_meaning.specs.Machine.{Config}
 use Rattle.tm_vm.specs.Answers.{program}
-use Rattle.tm_vm.proofs.Called.{went_on, ended}
+use Rattle.tm_vm.proofs.Called.{went_on_plainly, ended}
 use Rattle.tm_vm.proofs.machine.Machine.call_object.Goals as goal
 
 pub returns : goal.returns
 returns g c =
     let host = g.H.Host.meaning c.args.host.now in
     let old : Config = record { run = c.self.inside.run; captures = c.self.inside.captures; world = c.self.inside.state } in
-    went_on (program host (g.H.Host.code c.args.host.now)) (λ w vs. call_callee host vs w) c.args.count old c.args.self.now c.self.view_is
+    went_on_plainly (program host (g.H.Host.code c.args.host.now)) (λ w vs. call_callee host vs w) c.args.count old c.args.self.now c.self.view_is
     c.in-Some.values.now c.call_callee.new.self c.in-Some.ensures c.in_ok-called.called c.go_on_with.new.self c.go_on_with.result
     c.in_ok-called.ensures.called c.in_ok-called.ensures.leaves c.go_on_with.ensures
 

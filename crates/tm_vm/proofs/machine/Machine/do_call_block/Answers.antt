@@ -25,7 +25,6 @@ returns g c =
       saved = saved.Block c.in-Ok.entered.1;
     } in
     let enters = block_entered p c.args.base.now c.args.self.now c.args.name.now c.in-Ok.entered.0 e new c.enter_block.new.self
-    (search rules fits 100) (search rules fits 100) (search rules fits 100) (search rules fits 100) (search rules fits 100)
-    (search rules fits 100) in
+    (search rules fits 100) (search rules fits 100) (search rules fits 100) (search rules fits 100) (search rules fits 100) in
     boxed {p = p} {n = call_block_of p c.args.base.now c.args.name.now c.args.self.now} {old = c.args.self.now} {new = new}
     e c.in_ok-entry.entry c.in_ok-entry.ensures.ok enters (search rules fits 100) (search rules fits 100) (search rules fits 100)

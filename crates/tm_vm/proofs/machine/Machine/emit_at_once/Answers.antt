@@ -1,6 +1,4 @@
-use Rattle.std.proofs.Common.{◌≡◌, ◌+◌, ◌-◌, ◌∙◌, List, true, refl, subst, sym, ap}
-use Rattle.tm_values.specs.declared.escape.AutoEscape.{AutoEscape}
-use Rattle.tm_definitions.specs.Emitted.{emission_verdict, emitted_text}
+use Rattle.std.proofs.Common.{◌≡◌, ◌+◌, ◌-◌, ◌∙◌, true, refl, subst, sym, ap}
 use Rattle.tm_meaning.specs.World.{records_of}
 use Rattle.tm_meaning.specs.Machine.{Activation, Config, audible}
 use Rattle.tm_vm.proofs.Emitted.{emitted_at_once, no_formatter}

@@ -13,7 +13,8 @@ returns-clause-paid g c =
     let size = ap length c.as_slice-instructions.ensures in
     let within : c.args.self.now.run.place < length c.args.code.now = omega (arith, found, size, c.place.ensures) in
     paid_for (length c.args.code.now) p c.in-Some.instruction.now c.args.self.now c.charge.new.self c.perform.new.self c.perform.result
-    c.in_default-charge.ensures.spent (ap (λ (m : Config). m.run) c.charge.ensures.rest) within c.perform.ensures
+    c.in_default-charge.ensures.spent (ap (λ (m : Config). m.run) c.charge.ensures.rest)
+    (ap (λ (m : Config). m.world.loaded) c.charge.ensures.rest) within c.perform.ensures
 
 pub returns-clause-performs : goal.returns-clause-performs
 returns-clause-performs g c =

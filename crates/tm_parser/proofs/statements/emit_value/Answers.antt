@@ -1,7 +1,7 @@
 use Rattle.std.proofs.Common.{sym, ap, ◌∙◌}
 use Rattle.tm_parser.specs.Statements as spec
 use Rattle.tm_parser.proofs.Calls.{called_with, is_called, not_spread, plain-form, spread-form}
-use Rattle.tm_parser.proofs.statements.emit_statement.Goals as goal
+use Rattle.tm_parser.proofs.statements.emit_value.Goals as goal
 
 pub unreachable-requires-in_default-pop : goal.unreachable-requires-in_default-pop
 unreachable-requires-in_default-pop c =
@@ -18,4 +18,4 @@ pub returns : goal.returns
 returns c =
     called_with _ _ _ _ (sym c.is_call_of_loop.ensures ∙ c.if-not-is_call_of_loop.false) (c.get.ensures ∙ sym c.into_inner.ensures
     ∙ c.in-Call.is) c.pop.new.self c.in-Some.argument c.in-Plain.value c.in-Some.ensures (c.in-Plain.is ∙ plain-form c.in-Plain.value)
-    ∙ ap spec.emit_statement c.get.ensures
+    ∙ ap spec.emit_value c.get.ensures

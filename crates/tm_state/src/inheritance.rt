@@ -1,0 +1,212 @@
+//! The block behind the one that runs, and the parents that templates load.
+ghost use Rattle.std.specs.Prelude.{◌≡◌, ◌+◌, ◌≤◌, ◌∷◌, [], IfErr, IfOk, None, OnErr, OnOk, Some, false};
+ghost use Rattle.tm_meaning.specs.Calls.{call_super, enter_super, refused};
+ghost use Rattle.tm_meaning.specs.Inheritance.{load, load_named, names_left};
+ghost use Rattle.tm_meaning.specs.Memory.{is_want_of_memory};
+ghost use Rattle.tm_meaning.specs.World.{Bad, Good};
+ghost use Rattle.tm_state.specs.Answers.{KeepsFixedAndNames, Leaves, NamedBecomes, NeedsSuper, OneDeeper};
+ghost use Rattle.tm_state.specs.State.{IsNextOf, saved_of, template_behind};
+
+use crate::calls::CallResult;
+use crate::nested::{NestedRun, RunOf};
+use crate::saved::{Saved, SavedBlock, SavedSuper};
+use crate::state::StateData;
+use std::alloc::Global;
+use tm_meaning::{RunText, StreamId, TemplateId, Wrapping};
+use tm_syntax::Name;
+use tm_tables::Host;
+use tm_values::{Error, ErrorKind, Value};
+
+impl StateData {
+    /// The run of a `super()` that is called with these values, which are to be none. As `super_run`.
+    pub(crate) fn call_super<H: Host>(
+        &mut self,
+        alloc: Global,
+        host: &H,
+        args: &[Value],
+    ) -> Result<CallResult, Error>
+        ensures called { NamedBecomes result
+            (call_super (H.meaning host.now) args.now self.old) self.new }
+        ensures leaves { Leaves (H.meaning host.now).limit result self.old self.new }
+    {
+        if !args.is_empty() {
+            return Err(Error::from(ErrorKind::InvalidOperation));
+        }
+        let run = self.super_run(alloc, host, true, true)?;
+        Ok(CallResult::Run(run))
+    }
+
+    /// The run of the block behind the one that runs, in a scope of its own; `heard` and `value` say what becomes of
+    /// its text. InvalidOperation where no block runs or none is behind it, or where its scope would lie deeper than the
+    /// limit; OutOfMemory. Then the state stays as it was.
+    pub fn super_run<H: Host>(
+        &mut self,
+        alloc: Global,
+        host: &H,
+        heard: bool,
+        value: bool,
+    ) -> Result<Box<NestedRun>, Error>
+        ensures ok { IfOk result (λ run. NeedsSuper heard value run.value
+            (enter_super (H.meaning host.now) self.old) self.old self.new) }
+        ensures deeper { IfOk result (λ run.
+            OneDeeper (H.meaning host.now).limit run.value.saved self.old self.new) }
+        ensures err { IfErr result (λ e. is_want_of_memory e ≡ false →
+            enter_super (H.meaning host.now) self.old ≡ refused e self.old) }
+        ensures unchanged { OnErr result (self.new ≡ self.old) }
+        ensures kept { KeepsFixedAndNames self.old self.new }
+    {
+        let (stream, name, next) = self.next_block()?;
+        let running = stream.share()?;
+        let saved = SavedSuper {
+            replaced: self.saved_block()?,
+            name: name.share()?,
+            place: next - 1,
+        };
+        let run = NestedRun {
+            run: RunOf::Stream(stream),
+            heard,
+            value,
+            text: RunText::Captured,
+            wrap: Some(Wrapping::EvalBlock),
+            saved: Saved::Super(saved),
+        };
+        let run = run.boxed(alloc)?;
+        self.push_scope(alloc, host.recursion_limit())?;
+        self.stream = running;
+        self.lists.move_to(name.as_str(), next);
+        Ok(run)
+    }
+
+    /// The stream of the block behind the one that runs, the name of both, and the place behind that of its list.
+    /// InvalidOperation where no block runs or none is behind it; OutOfMemory where the owners of a name can't be counted.
+    fn next_block(&self) -> Result<(StreamId, Name, usize), Error>
+        ensures ok { IfOk result (λ r. IsNextOf r.0 r.1 r.2 self.now) }
+        ensures err { IfErr result (λ e. is_want_of_memory e ≡ false →
+            (e ≡ ErrorKind.InvalidOperation ∷ []) × (template_behind self.now ≡ None)) }
+    {
+        let Some(name) = &self.block else {
+            return Err(Error::from(ErrorKind::InvalidOperation));
+        };
+        let Some(list) = self.lists.get(name.as_str()) else {
+            return Err(Error::from(ErrorKind::InvalidOperation));
+        };
+        let Some((place, template)) = list.next() else {
+            return Err(Error::from(ErrorKind::InvalidOperation));
+        };
+        let stream = StreamId::block(template.share()?, name.share()?);
+        Ok((stream, name.share()?, place))
+    }
+
+    /// What is put back behind a block. Fails by OutOfMemory alone, where the owners of a name can't be counted.
+    fn saved_block(&self) -> Result<SavedBlock, Error>
+        ensures ok { IfOk result (λ saved. saved ≡ saved_of self.now) }
+        ensures kind { IfErr result (λ e. e ≡ ErrorKind.OutOfMemory ∷ []) }
+    {
+        let block = match &self.block {
+            Some(name) => Some(name.share()?),
+            None => None,
+        };
+        Ok(SavedBlock {
+            stream: self.stream.share()?,
+            block,
+            escape: self.escape,
+            scopes: self.height(),
+            outer: self.context.outer(),
+        })
+    }
+
+    /// A stream runs from here on. Fails by OutOfMemory alone, where the owners of a name can't be counted; then the
+    /// state stays as it was.
+    pub fn set_stream(&mut self, stream: &StreamId) -> Result<(), Error>
+        ensures ok { OnOk result (self.new ≡ record self.old { stream = stream.now }) }
+        ensures kind { IfErr result (λ e. e ≡ ErrorKind.OutOfMemory ∷ []) }
+        ensures err { OnErr result (self.new ≡ self.old) }
+    {
+        self.stream = stream.share()?;
+        Ok(())
+    }
+
+    /// Loads the template that a value names, whose blocks then stand behind those that are there. InvalidOperation where
+    /// the value is no text, where a parent waits, inside a capture of the run, and for a name that was loaded before;
+    /// TemplateNotFound where there is no such template; OutOfMemory, and then blocks may stand behind those that were there.
+    pub fn load<H: Host>(
+        &mut self,
+        alloc: Global,
+        host: &H,
+        value: &Value,
+        waiting: &Option<TemplateId>,
+        inside: bool,
+    ) -> Result<TemplateId, Error>
+        ensures ok { IfOk result (λ t. load (H.meaning host.now) value.now waiting.now inside self.old
+            ≡ Good t self.new) }
+        ensures err { IfErr result (λ e. is_want_of_memory e ≡ false →
+            load (H.meaning host.now) value.now waiting.now inside self.old ≡ Bad e self.new) }
+        ensures rest { self.new ≡ record self.old {
+          blocks = self.new.blocks;
+          loaded = self.new.loaded;
+        } }
+        ensures fewer { OnOk result
+            (names_left (H.meaning host.now) self.new + 1 ≤ names_left (H.meaning host.now) self.old) }
+        ensures names { OnErr result (self.new.loaded ≡ self.old.loaded) }
+    {
+        let name = self.parent_name(alloc, host, value, waiting, inside)?;
+        self.load_named(alloc, host, name)
+    }
+
+    /// The name of the template that a value names. InvalidOperation where the value is no text, where a parent waits,
+    /// and inside a capture of the run; the fault of what joins names; OutOfMemory.
+    fn parent_name<H: Host>(
+        &self,
+        alloc: Global,
+        host: &H,
+        value: &Value,
+        waiting: &Option<TemplateId>,
+        inside: bool,
+    ) -> Result<Name, Error>
+        ensures ok { IfOk result (λ name.
+            load (H.meaning host.now) value.now waiting.now inside self.now
+            ≡ load_named (H.meaning host.now) name self.now) }
+        ensures err { IfErr result (λ e. is_want_of_memory e ≡ false →
+            load (H.meaning host.now) value.now waiting.now inside self.now ≡ Bad e self.now) }
+    {
+        let Some(name) = value.as_str() else {
+            return Err(Error::from(ErrorKind::InvalidOperation));
+        };
+        if waiting.is_some() || inside {
+            return Err(Error::from(ErrorKind::InvalidOperation));
+        }
+        host.joined_name(alloc, name, host.template_name(&self.stream.template))
+    }
+
+    /// Loads the template of a name. InvalidOperation where that was loaded before, TemplateNotFound where there is none;
+    /// OutOfMemory.
+    fn load_named<H: Host>(
+        &mut self,
+        alloc: Global,
+        host: &H,
+        name: Name,
+    ) -> Result<TemplateId, Error>
+        ensures ok { IfOk result (λ t.
+            load_named (H.meaning host.now) name self.old ≡ Good t self.new) }
+        ensures err { IfErr result (λ e. is_want_of_memory e ≡ false →
+            load_named (H.meaning host.now) name self.old ≡ Bad e self.new) }
+        ensures rest { self.new ≡ record self.old {
+          blocks = self.new.blocks;
+          loaded = self.new.loaded;
+        } }
+        ensures fewer { OnOk result
+            (names_left (H.meaning host.now) self.new + 1 ≤ names_left (H.meaning host.now) self.old) }
+        ensures names { OnErr result (self.new.loaded ≡ self.old.loaded) }
+    {
+        if self.lists.is_loaded(name.as_str()) {
+            return Err(Error::from(ErrorKind::InvalidOperation));
+        }
+        let Some(blocks) = host.blocks_of(name.as_str()) else {
+            return Err(Error::from(ErrorKind::TemplateNotFound));
+        };
+        let template = TemplateId::Entry(name.share()?);
+        self.lists.append(alloc, &template, blocks)?;
+        self.lists.add_loaded(name)?;
+        Ok(template)
+    }
+}

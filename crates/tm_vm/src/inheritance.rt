@@ -1,0 +1,56 @@
+//! The instructions of parents and of the blocks behind those that run.
+ghost use Rattle.tm_meaning.specs.Instructions.{fast_super_of, load_blocks_of};
+ghost use Rattle.tm_vm.specs.Answers.{program, CanGoOn, Loads, Needs};
+
+use crate::flow::Flow;
+use crate::machine::Machine;
+use std::alloc::Global;
+use tm_meaning::Base;
+use tm_parts::Halt;
+use tm_tables::Host;
+
+impl Machine {
+    /// Runs the block behind the one that runs, in place.
+    #[inline(never)]
+    pub(crate) fn do_fast_super<H: Host>(
+        &mut self,
+        alloc: Global,
+        host: &H,
+        base: &Base,
+    ) -> Result<Flow, Halt>
+        requires { CanGoOn self.old.run }
+        ensures { Needs (program (H.meaning host.now) (H.code host.now))
+            (fast_super_of
+            (program (H.meaning host.now) (H.code host.now)) base.now self.old)
+            self.old self.new result }
+    {
+        let heard = self.is_audible(base);
+        let entry = self.state.super_run(alloc, host, heard, false)?;
+        self.run.advance();
+        Ok(Flow::Enter(entry))
+    }
+
+    /// Pops a value, and loads the template that it names, which waits as the parent from here on.
+    #[inline(never)]
+    pub(crate) fn do_load_blocks<H: Host>(
+        &mut self,
+        alloc: Global,
+        host: &H,
+        base: &Base,
+    ) -> Result<Flow, Halt>
+        requires { CanGoOn self.old.run }
+        ensures { Loads (H.meaning host.now)
+            (load_blocks_of (H.meaning host.now) base.now self.old) self.old self.new result }
+    {
+        let Some(name) = self.run.pop() else {
+            return Err(Halt::Stuck);
+        };
+        let is_inside = base.captures < self.captures.depth();
+        let parent = self
+            .state
+            .load(alloc, host, &name, self.run.parent(), is_inside)?;
+        self.run.wait_for(Some(parent));
+        self.run.advance();
+        Ok(Flow::GoOn)
+    }
+}
