@@ -7,7 +7,7 @@ use crate::environment::EnvironmentOf;
 use std::alloc::Global;
 use std::marker::Model;
 use tm_meaning::{StreamId, TemplateId};
-use tm_syntax::{Code, Name, NameMap};
+use tm_syntax::{BlockCode, Code, Name, NameMap};
 use tm_tables::{CallableAnswer, Called, Host, Parties, View};
 use tm_templates::CompiledTemplate;
 use tm_values::{Error, UndefinedBehavior, Value};
@@ -100,15 +100,15 @@ impl<O: Parties> Host for Rendering<'_, O> {
         self.template(template).name()
     }
 
-    fn is_required(&self, _stream: &StreamId) -> bool {
-        false
+    fn is_required(&self, stream: &StreamId) -> bool {
+        self.template(&stream.template).is_required(&stream.block)
     }
 
     fn joined_name(&self, alloc: Global, name: &str, _running: &str) -> Result<Name, Error> {
         Ok(Name::new(alloc, name)?)
     }
 
-    fn blocks_of(&self, name: &str) -> Option<&NameMap<Code>> {
+    fn blocks_of(&self, name: &str) -> Option<&NameMap<BlockCode>> {
         match self.environment.find_template(name) {
             Some(template) => Some(template.blocks()),
             None => None,

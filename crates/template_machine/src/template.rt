@@ -221,12 +221,12 @@ impl<'env, 'source, O: Parties> TemplateOf<'env, 'source, O> {
     }
 
     /// Runs the template's code over a state, captures and a writer, and gives the captures and the state that are left.
-    fn run_over<'state, W: Sink>(
+    fn run_over<W: Sink>(
         &self,
-        state: StateData<'state>,
+        state: StateData,
         captures: Captures,
         writer: &mut W,
-    ) -> Result<(Captures, StateData<'state>), Halt>
+    ) -> Result<(Captures, StateData), Halt>
         requires own { state.stream ≡ root_of self.now.id }
         requires fresh { IsFresh captures }
         ensures { Ran (meaning_from O.stated self.now state.entry) result captures

@@ -5,7 +5,7 @@ use Rattle.std.specs.Map.{keys_of}
 use Rattle.tm_syntax.specs.Named.{find}
 use Rattle.tm_values.specs.Val.{MacroData, Val, undefined}
 use Rattle.tm_values.specs.declared.escape.AutoEscape.{AutoEscape}
-use Rattle.tm_syntax.specs.declared.instruction.Instruction.{Instruction}
+use Rattle.tm_syntax.specs.declared.code.BlockCode.{BlockCode}
 use Rattle.tm_meaning.specs.World.{Named, World, Loop, loop_scope, new_loop, Layers, root_of, block_of, plain_scope, with_frames}
 use Rattle.tm_meaning.specs.Calls.{Asked, runs, cut_to, block_call, macro_call, Undo, of_block, of_super, of_macro, Callee, whole, macro_of}
 use Rattle.tm_meaning.specs.Meaning.{first_fuel}
@@ -32,8 +32,8 @@ fuel_set_of false fuel = None
 abbrev pub lists_of : World → ListsValue
 lists_of w = record { blocks = w.blocks; loaded = w.loaded }
 
--- What a render of a template starts from, whose blocks have this code.
-abbrev pub started : ℕ → TemplateId → Named (List Instruction) → AutoEscape → Option ℕ → Val → World
+-- What a render of a template starts from, which has these blocks.
+abbrev pub started : ℕ → TemplateId → Named BlockCode → AutoEscape → Option ℕ → Val → World
 started id t blocks escape fuel context = record {
   id = id;
   scopes = record { frames = plain_scope context ∷ []; outer = 0 };

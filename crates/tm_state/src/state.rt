@@ -26,7 +26,7 @@ use std::rc::Rc;
 use tm_meaning::{GlobalFunction, LoopMark, StreamId, TemplateId};
 use tm_operations::{check_settable, dict, namespace, range};
 use tm_printing::check_emission;
-use tm_syntax::{Code, LoopFlags, Name, NameMap};
+use tm_syntax::{BlockCode, LoopFlags, Name, NameMap};
 use tm_tables::{
     Closures, Context, Frame, FuelTracker, Host, Lists, LoopState, View, following_at, position_at,
     previous_at,
@@ -90,7 +90,7 @@ impl StateData {
         alloc: Global,
         id: u64,
         template: TemplateId,
-        blocks: &NameMap<Code>,
+        blocks: &NameMap<BlockCode>,
         escape: AutoEscape,
         fuel: Option<u64>,
         context: Value,

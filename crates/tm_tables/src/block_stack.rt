@@ -1,6 +1,6 @@
 //! The block of one name in a chain of templates.
-ghost use Rattle.std.specs.Prelude.{◌≡◌, ◌+◌, [], ◌∷◌, ◌++◌, length, slice_get, None, Some, MatchOption, IfErr, IfOk, OnErr, OnOk};
-ghost use Rattle.tm_values.specs.Answer.{IsLent, OkOrOutOfMemory};
+ghost use Rattle.std.specs.Prelude.{◌≡◌, ◌<◌, ◌+◌, ◌-◌, ◌↔◌, IsTrue, ℕ, [], ◌∷◌, ◌++◌, length, slice_get, None, Some, MatchOption, IfErr, IfOk, OnErr, OnOk};
+ghost use Rattle.tm_values.specs.Answer.{IsLent, OkOrOutOfMemory, OrStays};
 ghost use Rattle.tm_values.specs.declared.error.ErrorKind.TheVariants.{OutOfMemory};
 
 use std::alloc::{AllocError, Global};
@@ -59,6 +59,27 @@ impl BlockStack {
             Some(template) => Some((place, template)),
             None => None,
         }
+    }
+
+    /// Means the block of the next template, toward the root. False where there is none behind the present one, and then
+    /// all stays as it was.
+    pub fn push(&mut self) -> bool
+        ensures moved { OrStays result self.old self.new
+            (self.new ≡ record self.old { place = self.old.place + 1 }) }
+        ensures there { IsTrue result ↔ (self.old.place + 1 < length self.old.templates) }
+    {
+        if self.place >= self.templates.len().saturating_sub(1) {
+            return false;
+        }
+        self.place += 1;
+        true
+    }
+
+    /// Means the block of the template before, toward the child; the first one stays.
+    pub fn pop(&mut self)
+        ensures { self.new ≡ record self.old { place = self.old.place - 1 } }
+    {
+        self.place = self.place.saturating_sub(1);
     }
 
     /// How many templates have the block.
