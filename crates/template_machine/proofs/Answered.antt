@@ -55,19 +55,20 @@ finished_is (fault chain) captures new text out left w same = let ends : Finishe
 
 not_failed : (captures : List Capture) (text out : List ℕ) (left w : World) (answer : List ErrorKind) (e : Ending) →
     final text (Failed answer left) ≡ final (put_out captures out) (Finished (put_in captures out) w) →
-    (text ≡ put_out captures out) × (answer_by e w ≡ Err answer)
+    (text ≡ put_out captures out) × ((answer_by e w ≡ Err answer) × (w ≡ left))
 not_failed captures text out left w answer e same = let ends : Failed answer left
     ≡ Finished (put_in captures out) w = ap (λ (o : Final). o.end) same in absurd (cc)
 
 failed_is : (e : Ending) (captures : List Capture) (text out : List ℕ) (left w : World) (answer : List ErrorKind) →
     final text (Failed answer left) ≡ final_by e captures out w →
-    (text ≡ put_out captures out) × (answer_by e w ≡ Err answer)
+    (text ≡ put_out captures out) × ((answer_by e w ≡ Err answer) × (w ≡ left))
 failed_is done captures text out left w answer same = not_failed captures text out left w answer done same
 failed_is leave captures text out left w answer same = not_failed captures text out left w answer leave same
 failed_is next captures text out left w answer same = not_failed captures text out left w answer next same
 failed_is (fault chain) captures text out left w answer same =
     let ends : Failed answer left ≡ Failed chain w = ap (λ (o : Final). o.end) same in
-    (ap (λ (o : Final). o.text) same, let a : Err chain ≡ Err answer = cc in a)
+    let world : w ≡ left = cc in
+    (ap (λ (o : Final). o.text) same, (let a : Err chain ≡ Err answer = cc in a, world))
 
 not_stuck : (e : Ending) (captures : List Capture) (text out : List ℕ) (left w : World) →
     final text (Stuck left) ≡ final_by e captures out w → ⊥
@@ -119,16 +120,15 @@ module _ (p : Program) (trees : Trees) (compiled : IsCompiled trees p) (captures
   written : (text : List ℕ) → text ≡ put_out captures m.text → Appends told now text → Appends told now (put_out captures m.text)
   written text same appended = subst (λ t. Appends told now t) same appended
 
-  pub run_done : (parts : List Capture × World) → IsFresh captures → parts.0 ≡ new → parts.1 ≡ left → ComesTo (Finished new left) →
-      count ≡ failures → Ran m (Ok parts) captures told now failures count
-  run_done parts fresh first second (text, appended, reaches) counted =
+  pub run_done : IsFresh captures → ComesTo (Finished new left) → count ≡ failures → Ran m (Ok new) left captures told now failures count
+  run_done fresh (text, appended, reaches) counted =
       let same = finished_is m.ending captures new text m.text left m.world (one_end reaches (reached fresh)) in
-      run_as_meant (same.1.0 ∙ ap (λ x. Ok x) (sym second), first ∙ same.1.1) (written text same.0 appended) counted
+      run_as_meant same.1 (written text same.0 appended) counted
 
   pub run_halted : (why : Halt) → IsFresh captures → HaltsAs why left ComesTo →
       WroteBeginning p (base_of true captures w)
       (step p (base_of true captures w) (running (run_from w.stream (length captures)) captures w)) told now →
-      count ≡ failures_after {A = Unit {0}} (Err why) failures → Ran m (Err why) captures told now failures count
+      count ≡ failures_after {A = Unit {0}} (Err why) failures → Ran m (Err why) left captures told now failures count
   run_halted why fresh ends begun counted = by_halt why ends counted
     where
       part : AppendsBeginning told now (put_out captures m.text)
@@ -136,7 +136,7 @@ module _ (p : Program) (trees : Trees) (compiled : IsCompiled trees p) (captures
 
       by_chain : (b : Bool) (chain : List ErrorKind) → is_want_of_memory chain ≡ b →
           (is_want_of_memory chain ≡ false → ComesTo (Failed chain left)) → count ≡ failures →
-          Ran m (Err (halt.Fault chain)) captures told now failures count
+          Ran m (Err (halt.Fault chain)) left captures told now failures count
       by_chain true chain memory ends counted = run_by_memory chain refl memory part counted
       by_chain false chain own ends counted =
           let came = ends own in
@@ -144,7 +144,7 @@ module _ (p : Program) (trees : Trees) (compiled : IsCompiled trees p) (captures
           run_as_meant same.1 (written came.0 same.0 came.1) counted
 
       by_halt : (why : Halt) → HaltsAs why left ComesTo → count ≡ failures_after {A = Unit {0}} (Err why) failures →
-          Ran m (Err why) captures told now failures count
+          Ran m (Err why) left captures told now failures count
       by_halt halt.Writer ends counted = run_by_writer refl part counted
       by_halt halt.Stuck (text, appended, reaches) counted = absurd
           (not_stuck m.ending captures text m.text left m.world (one_end reaches (reached fresh)))

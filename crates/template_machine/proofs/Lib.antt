@@ -1,4 +1,6 @@
+mod Alone
 mod Answered
+mod BlockCalls
 mod Meant
 mod Runs
 mod Started

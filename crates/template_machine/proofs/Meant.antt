@@ -1,7 +1,11 @@
 -- What an environment gives of a template that is meant.
-use Rattle.std.proofs.Common.{◌≡◌, refl, sym, ap, ◌∙◌, Option, Some, None, false}
+use Rattle.std.proofs.Common.{◌≡◌, ℕ, List, refl, sym, ap, ◌∙◌, Option, Some, None}
+use Rattle.std.specs.Map.{keys_of}
 use Rattle.std.specs.Option.{option_map}
-use Rattle.tm_syntax.specs.Named.{find}
+use Rattle.tm_syntax.specs.BlockCodes.{block_code}
+use Rattle.tm_syntax.specs.Blocks.{blocks_in}
+use Rattle.tm_syntax.specs.Named.{Named, by_name, find}
+use Rattle.tm_syntax.specs.declared.code.BlockCode.{BlockCode}
 use Rattle.tm_meaning.specs.declared.stream.StreamId.{StreamId}
 use Rattle.tm_meaning.specs.declared.stream.TemplateId.{TemplateId}
 use Rattle.tm_meaning.specs.declared.stream.TemplateId.TheVariants.{Own, Entry}
@@ -9,10 +13,10 @@ use Rattle.tm_tables.specs.Stated.{StatedObjects}
 use Rattle.tm_meaning.specs.World.{Template, template_at, card_at, card_in, or_is}
 use Rattle.tm_meaning.specs.Calls.{is_required}
 use Rattle.tm_meaning.specs.Tree.{template_of, tree_at}
-use Rattle.tm_templates.specs.Templates.{Compiled, tree_of}
-use Rattle.tm_templates.proofs.Named.{find-turned}
-use Rattle.tm_templates.proofs.Streams.{none_required}
+use Rattle.tm_templates.specs.Templates.{Compiled, block_codes, body, tree_of}
+use Rattle.tm_templates.proofs.Named.{by_name-turned, find-turned}
 use Rattle.template_machine.specs.Environment.{TemplateValue, host_of, trees_in, meant}
+use Rattle.template_machine.proofs.Alone.{keys-carded, keys-turned}
 
 or_is-map : {A B : Type 0} (f : A → B) (o : Option A) (a : A) → or_is (option_map f o) (f a) ≡ f (or_is o a)
 or_is-map f None a = refl
@@ -34,7 +38,21 @@ module _ {O : Type 0} (stated : O → StatedObjects) (t : TemplateValue O) where
       ap (λ o. or_is o (tree_of t.template)) (find-turned tree_of x t.environment.templates)
       ∙ or_is-map tree_of (find x t.environment.templates) t.template
 
-  pub not_required : (s : StreamId) → false ≡ is_required (card_at (host_of stated t) s)
-  not_required s =
-      sym (ap (λ (x : Template). is_required (card_in x s.block)) (template_meant s.template)
-      ∙ none_required (tree_of (meant t s.template)) s.block)
+  pub required_meant : (s : StreamId) →
+      is_required (card_in (template_of (tree_of (meant t s.template))) s.block) ≡ is_required (card_at (host_of stated t) s)
+  required_meant s = sym (ap (λ (x : Template). is_required (card_in x s.block)) (template_meant s.template))
+
+  -- the blocks of the template of a name
+  pub blocks_found : (x : List ℕ) (c : Compiled) (blocks : Named BlockCode) → find x t.environment.templates ≡ Some c →
+      blocks ≡ block_codes c.tree →
+      (found : Template) × (find x (host_of stated t).templates ≡ Some found) × (keys_of found.blocks ≡ keys_of blocks)
+  blocks_found x c blocks found are =
+      let bs = blocks_in (body c.tree).row in (
+        as_template c,
+        find-turned as_template x t.environment.templates ∙ ap (option_map as_template) found,
+        keys-carded (by_name bs) ∙ sym (keys-turned block_code (by_name bs))
+        ∙ sym (ap keys_of (are ∙ by_name-turned block_code bs)),
+      )
+
+  pub blocks_missing : (x : List ℕ) → find x t.environment.templates ≡ None → find x (host_of stated t).templates ≡ None
+  blocks_missing x none = find-turned as_template x t.environment.templates ∙ ap (option_map as_template) none

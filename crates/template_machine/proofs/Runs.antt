@@ -10,6 +10,7 @@ use Rattle.tm_meaning.specs.Machine.{Capture, Config, Finished, Program, base_of
 use Rattle.tm_parts.specs.Halts.{failures_after}
 use Rattle.tm_parts.specs.declared.halt.Halt.{Halt}
 use Rattle.tm_meaning.specs.Steps.{step}
+use Rattle.tm_meaning.specs.Meaning.{Outcome}
 use Rattle.tm_vm.specs.Answers.{program, HaltsAs, ReachesEnd}
 use Rattle.tm_vm.specs.Nested.{WroteBeginning}
 use Rattle.tm_meaning.specs.declared.stream.TemplateId.TheVariants.{Own}
@@ -17,28 +18,34 @@ use Rattle.template_machine.specs.Environment.{IsMadeIn, EnvironmentValue, Templ
 use Rattle.template_machine.specs.Renders.{meaning, meaning_from, IsFresh, Ran, RenderedText, RenderedSource, source_rendered, IsUnnumbered}
 use Rattle.template_machine.proofs.Answered.{run_done, run_halted}
 
-module _ {O : Type 0} (stated : O → StatedObjects) (t r : TemplateValue O) (same : r
-    ≡ t) (captures new : List Capture) (w left : World) (told now : Option (List ℕ)) (failures count : ℕ)
-    (config : Config) (begins : config ≡ running (run_from w.stream (length captures)) captures w) (fresh : IsFresh captures) where
+module _ {O : Type 0} (stated : O → StatedObjects) (t : TemplateValue O) (captures new : List Capture) (w left : World)
+    (told now : Option (List ℕ)) (failures count : ℕ) (config : Config)
+    (begins : config ≡ running (run_from w.stream (length captures)) captures w) (fresh : IsFresh captures) where
   abbrev p : Program
-  p = program (host_of stated r) (code r)
+  p = program (host_of stated t) (code t)
 
-  pub over_done : (parts : List Capture × World) → parts.0 ≡ new → parts.1 ≡ left →
+  abbrev m : Outcome
+  m = meaning_from stated t w
+
+  pub over_done : (kept : List Capture) (put : World) → new ≡ kept → left ≡ put →
       ReachesEnd p (base_of true config.captures config.world) config told now (Finished new left) → count ≡ failures →
-      Ran (meaning_from stated t w) (Ok parts) captures told now failures count
-  over_done parts first second comes counted =
-      subst (λ (v : TemplateValue O). Ran (meaning_from stated v w) (Ok parts) captures told now failures count) same
-      (run_done p (trees r) (λ s. refl) captures new w left told now failures count parts fresh first second
-      (subst (λ (c : Config). ReachesEnd p (base_of true c.captures c.world) c told now (Finished new left)) begins comes) counted)
+      Ran m (Ok kept) put captures told now failures count
+  over_done kept put is there comes counted =
+      subst (λ ks. Ran m (Ok ks) put captures told now failures count) is
+      (subst (λ x. Ran m (Ok new) x captures told now failures count) there
+      (run_done p (trees t) (λ s. refl) captures new w left told now failures count fresh
+      (subst (λ (c : Config). ReachesEnd p (base_of true c.captures c.world) c told now (Finished new left)) begins comes) counted))
 
-  pub over_halted : (why : Halt) → HaltsAs why left (ReachesEnd p (base_of true config.captures config.world) config told now) →
+  pub over_halted : (why : Halt) (put : World) → left ≡ put →
+      HaltsAs why left (ReachesEnd p (base_of true config.captures config.world) config told now) →
       WroteBeginning p (base_of true config.captures config.world) (step p (base_of true config.captures config.world) config) told now →
-      count ≡ failures_after {A = Unit {0}} (Err why) failures → Ran (meaning_from stated t w) (Err why) captures told now failures count
-  over_halted why ends begun counted =
-      subst (λ (v : TemplateValue O). Ran (meaning_from stated v w) (Err why) captures told now failures count) same
-      (run_halted p (trees r) (λ s. refl) captures new w left told now failures count why fresh
+      count ≡ failures_after {A = Unit {0}} (Err why) failures → Ran m (Err why) put captures told now failures count
+  over_halted why put there ends begun counted =
+      subst (λ x. Ran m (Err why) x captures told now failures count) there
+      (run_halted p (trees t) (λ s. refl) captures new w left told now failures count why fresh
       (subst (λ (c : Config). HaltsAs why left (ReachesEnd p (base_of true c.captures c.world) c told now)) begins ends)
-      (subst (λ (c : Config). WroteBeginning p (base_of true c.captures c.world) (step p (base_of true c.captures c.world) c) told now) begins begun) counted)
+      (subst (λ (c : Config). WroteBeginning p (base_of true c.captures c.world) (step p (base_of true c.captures c.world) c) told now)
+      begins begun) counted)
 
 -- a source that was rendered
 pub source_done : {O : Type 0} (stated : O → StatedObjects) (e : EnvironmentValue O) (t : TemplateValue O)

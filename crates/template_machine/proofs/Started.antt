@@ -4,8 +4,10 @@ use Rattle.tm_values.specs.Answer.{OkOrOutOfMemory}
 use Rattle.tm_values.specs.Val.{Val}
 use Rattle.tm_values.specs.declared.error.ErrorKind.{ErrorKind}
 use Rattle.tm_values.specs.declared.escape.AutoEscape.{AutoEscape}
-use Rattle.tm_syntax.specs.declared.instruction.Instruction.{Instruction}
-use Rattle.tm_syntax.specs.Blocks.{Body, code_of, blocks_in}
+use Rattle.std.specs.Map.{keys_of}
+use Rattle.tm_syntax.specs.BlockCodes.{block_code}
+use Rattle.tm_syntax.specs.Blocks.{blocks_in}
+use Rattle.tm_syntax.specs.declared.code.BlockCode.{BlockCode}
 use Rattle.tm_syntax.specs.Named.{Named, by_name}
 use Rattle.tm_meaning.specs.World.{World}
 use Rattle.tm_tables.specs.Stated.{StatedObjects}
@@ -13,8 +15,9 @@ use Rattle.tm_meaning.specs.Calls.{own_blocks}
 use Rattle.tm_meaning.specs.Tree.{carded}
 use Rattle.tm_meaning.specs.declared.stream.TemplateId.{TemplateId}
 use Rattle.tm_templates.specs.Templates.{Compiled, body, block_codes}
-use Rattle.tm_templates.proofs.Named.{turned, by_name-turned}
-use Rattle.tm_state.specs.State.{started, layers_of}
+use Rattle.tm_templates.proofs.Named.{by_name-turned}
+use Rattle.tm_state.specs.State.{started}
+use Rattle.tm_tables.specs.Lists.{with_each}
 use Rattle.tm_meaning.specs.World.{Template, template_at}
 use Rattle.tm_meaning.specs.Tree.{template_of}
 use Rattle.tm_templates.specs.Templates.{tree_of}
@@ -22,12 +25,9 @@ use Rattle.template_machine.specs.Environment.{EnvironmentValue, TemplateValue, 
 use Rattle.template_machine.specs.TemplateRef.{held_id, held_template, IsHeldOf}
 use Rattle.template_machine.specs.declared.template.TemplateRef.{TemplateRef}
 use Rattle.template_machine.specs.declared.template.TemplateRef.TheVariants.{Lent, Owned}
+use Rattle.template_machine.proofs.Alone.{each_alone, keys-turned}
 use Rattle.template_machine.proofs.Meant.{template_meant}
 use Rattle.template_machine.specs.Renders.{first}
-
-layered_each : (t : TemplateId) (bs : Named Body) → layers_of t (turned code_of bs) ≡ own_blocks t (map carded bs)
-layered_each t [] = refl
-layered_each t (b ∷ bs) = ap (λ ls. (b.0, record { templates = t ∷ []; place = 0 }) ∷ ls) (layered_each t bs)
 
 -- A template that is held is what its environment means by it.
 pub held_meant : {O : Type 0} (e : EnvironmentValue O) (h : TemplateRef) → IsHeldOf e.templates h →
@@ -39,8 +39,9 @@ pub first_is : {O : Type 0} (stated : O → StatedObjects) (t : TemplateValue O)
     started id t.id (block_codes t.template.tree) t.template.escape t.environment.fuel context ≡ first stated t id context
 first_is stated t id context is =
     let bs = blocks_in (body t.template.tree).row in
-    let same : layers_of t.id (block_codes t.template.tree)
-    ≡ own_blocks t.id (map carded (by_name bs)) = ap (layers_of t.id) (by_name-turned code_of bs) ∙ layered_each t.id (by_name bs) in
+    let same : with_each t.id (keys_of (block_codes t.template.tree)) [] ≡ own_blocks t.id (map carded (by_name bs)) =
+    ap (λ ks. with_each t.id ks []) (ap keys_of (by_name-turned block_code bs) ∙ keys-turned block_code (by_name bs))
+    ∙ each_alone t.id bs in
     let there : template_of (tree_of t.template) ≡ template_at (host_of stated t) t.id =
     sym (template_meant stated t t.id ∙ ap (λ (c : Compiled). template_of (tree_of c)) is) in
     ap (λ ls. record (first stated t id context) { blocks = ls; escape = t.template.escape }) same
@@ -48,7 +49,7 @@ first_is stated t id context is =
 
 -- the same of what was made
 pub first_at : {O : Type 0} (stated : O → StatedObjects) (t : TemplateValue O) (root : TemplateId) (own : Compiled)
-    (blocks : Named (List Instruction)) (escape : AutoEscape)
+    (blocks : Named BlockCode) (escape : AutoEscape)
     (fuel : Option ℕ) (id number : ℕ) (context : Val)
     (made : Result World (List ErrorKind)) → meant t t.id ≡ t.template → root ≡ t.id → own ≡ t.template → blocks ≡ block_codes own.tree →
     escape ≡ own.escape → fuel ≡ t.environment.fuel → id ≡ number →

@@ -18,8 +18,8 @@ use Rattle.tm_values.specs.declared.error.ErrorKind.TheVariants.{InvalidOperatio
 use Rattle.tm_parts.specs.Halts.{failures_after}
 use Rattle.tm_parts.specs.declared.halt.Halt.{Halt}
 use Rattle.tm_parts.specs.declared.halt.Halt.TheVariants as halt
-use Rattle.tm_state.specs.Answers.{KeepsFixedAndNames, NeedsRun, OneDeeper, StaysInPlace, call_of}
-use Rattle.tm_state.specs.State.{callee_of, put_back}
+use Rattle.tm_state.specs.Answers.{NeedsRun, OneDeeper, StaysInPlace, call_of}
+use Rattle.tm_state.specs.State.{behind_block, callee_of, put_back, saved_of}
 use Rattle.tm_state.specs.declared.saved.Saved.{Saved}
 use Rattle.tm_state.specs.declared.saved.Saved.TheVariants as saved
 use Rattle.tm_state.specs.declared.saved.SavedBlock.{SavedBlock}
@@ -178,7 +178,7 @@ text_left captures rest heard text m left ran ended =
 
 -- ---------------------------------------------------------------- what a call needed
 module _ {O : Type 0} (stated : O → StatedObjects) (t : TemplateValue O) (e : NestedRun) (w left : World) (asked : Asked)
-    (needs : NeedsRun e asked w) (kept : KeepsFixedAndNames w left) where
+    (needs : NeedsRun e asked w) where
   abbrev ran : Outcome
   ran = callee_run stated t (callee_of e.run) w
 
@@ -186,7 +186,7 @@ module _ {O : Type 0} (stated : O → StatedObjects) (t : TemplateValue O) (e : 
   meant_by = ap (called_value stated t) needs.3.2
 
   back : undone (call_of e needs.3.0).undo left ≡ put_back e.saved left
-  back = undone_is e.saved needs.3.0 w left needs.3.1 (kept.same_blocks, kept.same_loaded)
+  back = undone_is e.saved needs.3.0 left needs.3.1
 
   value_by : (end : Ending) (c : NestedCall) (x : Outcome) (text : List ℕ) → text ≡ x.text → answer_by end x.world ≡ Ok left →
       value_behind end c x ≡ Good (run_value c.text text (undone c.undo left)) (undone c.undo left)
@@ -221,17 +221,22 @@ module _ {O : Type 0} (stated : O → StatedObjects) (t : TemplateValue O) (e : 
 outermost_long : (n : ℕ) (frames : List Scope) → n ≤ length frames → length (outermost n frames) ≡ n
 outermost_long n frames h = omega (arith, length-drop (length frames - n) frames, h)
 
+pub block_stands : (s : SavedBlock) (before left : World) → s ≡ saved_of before →
+    length before.scopes.frames ≤ length left.scopes.frames → StaysInPlace before (behind_block s left)
+block_stands s before left is more =
+    let scopes : s.scopes ≡ length before.scopes.frames = ap (λ (s : SavedBlock). s.scopes) is in
+    let long = outermost_long s.scopes left.scopes.frames (omega (arith, scopes, more)) in (
+      (omega (arith, long, scopes), ap (λ (s : SavedBlock). s.outer) is),
+      ap (λ (s : SavedBlock). s.stream) is,
+      ap (λ (s : SavedBlock). s.block) is,
+      ap (λ (s : SavedBlock). s.escape) is,
+    )
+
 pub stands_again : (limit : ℕ) (s : Saved) (before w left : World) → OneDeeper limit s before w →
     length w.scopes.frames ≤ length left.scopes.frames → StaysInPlace before (put_back s left)
-stands_again limit (saved.Block s) before w left deep more =
-    let scopes : s.scopes ≡ length before.scopes.frames = ap (λ (s : SavedBlock). s.scopes) deep.0 in
-    let frames = deep.1.0 in
-    let long = outermost_long s.scopes left.scopes.frames (omega (arith, scopes, frames, more)) in (
-      (omega (arith, long, scopes), ap (λ (s : SavedBlock). s.outer) deep.0),
-      ap (λ (s : SavedBlock). s.stream) deep.0,
-      ap (λ (s : SavedBlock). s.block) deep.0,
-      ap (λ (s : SavedBlock). s.escape) deep.0,
-    )
+stands_again limit (saved.Block s) before w left deep more = block_stands s before left deep.0 (omega (arith, deep.1.0, more))
+stands_again limit (saved.Super s) before w left deep more =
+    block_stands s.replaced before left deep.0.0 (omega (arith, deep.1.0, more))
 stands_again limit (saved.Macro s) before w left deep more = (
   (ap (λ (s : SavedMacro). length s.context.frames) deep.0, ap (λ (s : SavedMacro). s.context.outer) deep.0),
   ap (λ (s : SavedMacro). s.stream) deep.0,

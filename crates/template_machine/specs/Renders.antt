@@ -1,5 +1,6 @@
 -- What renders mean, leave and answer.
-use Rattle.std.specs.Prelude.{◌≡◌, ◌⊎◌, ◌+◌, ◌-◌, ◌^◌, ℕ, List, [], ◌∷◌, Bool, true, false, Option, Result, Ok, Err, String, string_bytes}
+use Rattle.std.specs.Prelude.{◌≡◌, ◌≢◌, ◌⊎◌, ◌+◌, ◌-◌, ◌^◌, ℕ, List, [], ◌∷◌, Bool, true, false, Option, Result, Ok, Err, String}
+use Rattle.std.specs.Prelude.{length, string_bytes}
 use Rattle.std.specs.Io.KnownBytes.{Appends}
 use Rattle.std.specs.declared.alloc.Global.{Global}
 use Rattle.tm_values.specs.Answer.{Answer}
@@ -12,9 +13,13 @@ use Rattle.tm_definitions.specs.Emitted.{text_answer}
 use Rattle.tm_meaning.specs.World.{World, Res, Good, Bad, HostValue, answered, bind, records_of}
 use Rattle.tm_meaning.specs.Calls.{Asked, has, refused, runs, recurs, Callee, by_depths, named_call}
 use Rattle.tm_tables.specs.Stated.{StatedObjects}
+use Rattle.tm_meaning.specs.declared.stream.StreamId.{StreamId}
 use Rattle.tm_meaning.specs.declared.stream.TemplateId.TheVariants.{Own}
 use Rattle.tm_meaning.specs.Machine.{Capture, new_capture, put_in, put_out}
-use Rattle.tm_meaning.specs.Meaning.{Ending, fault, Outcome, first_world, nests_of, rendered, value_behind}
+use Rattle.tm_meaning.specs.Meaning.{Ending, fault, Outcome, first_world, nests_of, rendered, rendered_block, value_behind}
+use Rattle.tm_simulation.specs.Kept.{PutsBack}
+use Rattle.tm_state.specs.State.{runs_block, saved_of}
+use Rattle.tm_state.specs.declared.saved.SavedBlock.{SavedBlock}
 use Rattle.tm_output.specs.Counts.{saturating_increment, AppendsBeginning}
 use Rattle.tm_parts.specs.declared.halt.Halt.{Halt}
 use Rattle.tm_parts.specs.declared.halt.Halt.TheVariants as halt
@@ -164,17 +169,50 @@ RanApart (Err (halt.Fault chain)) m w = is_want_of_memory chain ≡ false → (m
 abbrev pub IsFresh : List Capture → Type 0
 IsFresh captures = (captures ≡ []) ⊎ (captures ≡ new_capture true ∷ [])
 
--- The answer of a run over captures: done, with the text put and the world that is left, or a fault of the chain.
-abbrev pub IsRun : Result (List Capture × World) Halt → List Capture → Outcome → Type 0
-IsRun (Ok (new, left)) old m = (answer_of m ≡ Ok left) × (new ≡ put_in old m.text)
-IsRun (Err (halt.Fault answer)) old m = answer_of m ≡ Err answer
-IsRun (Err _) old m = ⊥
+-- The answer of a run over captures: done, with the text put, or a fault of the chain; and the world that is left.
+abbrev pub IsRun : Result (List Capture) Halt → World → List Capture → Outcome → Type 0
+IsRun (Ok new) left old m = (answer_of m ≡ Ok left) × (new ≡ put_in old m.text)
+IsRun (Err (halt.Fault chain)) left old m = (answer_of m ≡ Err chain) × (m.world ≡ left)
+IsRun (Err _) left old m = ⊥
 
 -- How a run over captures ended, in the same three ways.
-pub data Ran (m : Outcome) (result : Result (List Capture × World) Halt) (old : List Capture) (told now : Option (List ℕ))
+pub data Ran (m : Outcome) (result : Result (List Capture) Halt) (left : World) (old : List Capture) (told now : Option (List ℕ))
     (failures count : ℕ) : Type 0 where
-  run_as_meant : IsRun result old m → Appends told now (put_out old m.text) → count ≡ failures → Ran m result old told now failures count
+  run_as_meant : IsRun result left old m → Appends told now (put_out old m.text) → count ≡ failures →
+      Ran m result left old told now failures count
   run_by_writer : result ≡ Err halt.Writer → AppendsBeginning told now (put_out old m.text) → count ≡ saturating_increment failures →
-      Ran m result old told now failures count
+      Ran m result left old told now failures count
   run_by_memory : (chain : List ErrorKind) → result ≡ Err (halt.Fault chain) → is_want_of_memory chain ≡ true →
-      AppendsBeginning told now (put_out old m.text) → count ≡ failures → Ran m result old told now failures count
+      AppendsBeginning told now (put_out old m.text) → count ≡ failures → Ran m result left old told now failures count
+
+-- ---------------------------------------------------------------- blocks
+-- what the block of a name means that a state is asked for, from its world
+abbrev pub block_meaning : {O : Type 0} → (O → StatedObjects) → TemplateValue O → List ℕ → World → Outcome
+block_meaning stated t b w = rendered_block (host_of stated t) (trees t) b w
+
+-- The block's run is what is asked for, from this world; what is put back behind it is of the world before.
+abbrev pub IsEntered : Asked → SavedBlock → World → World → Type 0
+IsEntered asked saved old new =
+    (saved ≡ saved_of old) × ((s : StreamId) × (asked ≡ runs_block s old new))
+    × (length new.scopes.frames ≡ length old.scopes.frames + 1)
+
+-- But for want of memory and a writer that fails, what a block's run replaced is put back as it was: the very scopes, the stream, the block,
+-- the escape and the place of each list of blocks.
+abbrev pub IsBack : {A : Type 0} → Result A (List ErrorKind) → World → World → Type 0
+IsBack (Ok x) old new = PutsBack old new
+IsBack (Err chain) old new = is_want_of_memory chain ≡ false → chain ≢ WriteFailure ∷ [] → PutsBack old new
+
+-- The answer is the end that was meant, in the world that is left.
+abbrev pub IsBlockEnd : Result (Unit {0}) (List ErrorKind) → World → Outcome → Type 0
+IsBlockEnd (Ok x) left m = answer_of m ≡ Ok left
+IsBlockEnd (Err chain) left m = (answer_of m ≡ Err chain) × (m.world ≡ left)
+
+-- How a block's render into a writer ended, as `Rendered`.
+pub data BlockWritten (m : Outcome) (result : Result (Unit {0}) (List ErrorKind)) (left : World) (told now : Option (List ℕ))
+    (failures count : ℕ) : Type 0 where
+  block_as_meant : IsBlockEnd result left m → Appends told now m.text → count ≡ failures →
+      BlockWritten m result left told now failures count
+  block_by_writer : result ≡ Err (WriteFailure ∷ []) → AppendsBeginning told now m.text → count ≡ saturating_increment failures →
+      BlockWritten m result left told now failures count
+  block_by_memory : IsMemory result → AppendsBeginning told now m.text → count ≡ failures →
+      BlockWritten m result left told now failures count

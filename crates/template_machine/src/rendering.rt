@@ -1,16 +1,21 @@
 //! What a render runs under.
-ghost use Rattle.std.specs.Prelude.{◌≡◌};
+ghost use Rattle.std.specs.Prelude.{◌≡◌, ◌≤◌, length};
+ghost use Rattle.tm_state.specs.Answers.{KeepsFixed};
 ghost use Rattle.template_machine.specs.Environment.{meant};
+ghost use Rattle.template_machine.specs.Renders.{meaning_from, IsFresh, Ran};
 ghost use Rattle.template_machine.specs.TemplateRef.{entry_id};
 
 use crate::environment::EnvironmentOf;
 use std::alloc::Global;
 use std::marker::Model;
 use tm_meaning::{StreamId, TemplateId};
+use tm_parts::{Captures, Halt, Sink};
+use tm_state::StateData;
 use tm_syntax::{BlockCode, Code, Name, NameMap};
 use tm_tables::{CallableAnswer, Called, Host, Parties, View};
 use tm_templates::CompiledTemplate;
-use tm_values::{Error, UndefinedBehavior, Value};
+use tm_values::{Error, ErrorKind, UndefinedBehavior, Value};
+use tm_vm::Machine;
 
 /// The environment and the template that is rendered: the machine's one party.
 #[derive(Drop)]
@@ -74,6 +79,36 @@ impl<'env, O: Drop> Rendering<'env, O> {
         self.environment
             .find_template(name.as_str())
             .unwrap_or(self.own)
+    }
+}
+
+impl<O: Parties> Rendering<'_, O> {
+    /// Runs the stream that a state names, heard, over captures and a writer, and gives the captures that are left.
+    pub(crate) fn run<W: Sink>(
+        &self,
+        state: &mut StateData,
+        captures: Captures,
+        writer: &mut W,
+    ) -> Result<Captures, Halt>
+        requires { IsFresh captures }
+        ensures ran { Ran (meaning_from O.stated self.now state.old) result state.new captures
+            (W.written writer.old) (W.written writer.new) (W.failures writer.old) (W.failures writer.new) }
+        ensures no_fewer { length state.old.scopes.frames ≤ length state.new.scopes.frames }
+        ensures kept { KeepsFixed state.old state.new }
+    {
+        let alloc = self.allocator();
+        let stream = match state.stream().share() {
+            Ok(stream) => stream,
+            Err(_error) => return Err(Halt::Fault(Error::from(ErrorKind::OutOfMemory))),
+        };
+        let mut machine = Machine::new(alloc, stream, captures, state.take(alloc));
+        let result = machine.run(alloc, self, true, writer);
+        let (captures, left) = machine.into_parts();
+        *state = left;
+        match result {
+            Ok(()) => Ok(captures),
+            Err(halt) => Err(halt),
+        }
     }
 }
 

@@ -6,20 +6,22 @@ ghost use Rattle.tm_syntax.specs.Named.{find, name_cmp, texts_of};
 ghost use Rattle.tm_values.specs.Answer.{IsAnswer, IsLent, OkOrOutOfMemory};
 ghost use Rattle.tm_meaning.specs.World.{emitted, find_name, fuel_levels, name_of, records_of, view_of};
 ghost use Rattle.tm_tables.specs.Known.{AreFound, NamingFails};
-ghost use Rattle.tm_meaning.specs.Calls.{apply_filter, enter_block, perform_test};
-ghost use Rattle.tm_state.specs.Answers.{Becomes, CallLies, IsEmitted, KeepsFixed, KeepsFixedAndNames, NeedsRun, OneDeeper, StaysInPlace};
+ghost use Rattle.tm_meaning.specs.Calls.{apply_filter, enter_block, perform_test, refused};
+ghost use Rattle.tm_meaning.specs.Memory.{is_want_of_memory};
+ghost use Rattle.tm_state.specs.Answers.{Becomes, CallLies, IsEmitted, KeepsFixed, NeedsRun, OneDeeper, StaysInPlace};
 ghost use Rattle.tm_state.specs.State.{callee_of, exported};
 ghost use Rattle.template_machine.specs.Environment.{host_of};
-ghost use Rattle.template_machine.specs.Renders.{as_text, call_by_name, called_value, callee_run, with_temp, with_world, IsCalled, IsCaptured, IsTested, RanApart};
+ghost use Rattle.template_machine.specs.Renders.{as_text, block_meaning, call_by_name, called_value, callee_run, with_temp, with_world};
+ghost use Rattle.template_machine.specs.Renders.{BlockWritten, IsBack, IsCalled, IsCaptured, IsEntered, IsFresh, IsTested, Ran, RanApart};
 ghost use Rattle.tm_meaning.specs.Machine.{new_capture};
 
 use crate::environment::BoxedObjects;
 use crate::rendering::Rendering;
 use std::marker::Model;
 use tm_operations::is_true;
-use tm_parts::{Captures, Halt, NullWriter};
+use tm_parts::{Captures, Halt, NullWriter, Sink};
 use tm_printing::to_text;
-use tm_state::{CallResult, NestedRun, RunOf, StateData};
+use tm_state::{CallResult, NestedRun, RunOf, Saved, SavedBlock, StateData};
 use tm_syntax::{CaptureMode, Name};
 use tm_tables::{Host, NO_PLACE, Parties};
 use tm_values::{AutoEscape, Error, ErrorKind, Value};
@@ -188,18 +190,81 @@ impl<'env, O: Parties> StateOf<'env, O> {
     /// limit, and the fault of its run; OutOfMemory. However it ends, the state stands where it stood, and what the run
     /// kept is kept.
     pub fn render_block(&mut self, name: &str) -> Result<String, Error>
-        ensures called { IsEmitted result (as_text (called_value O.stated self.old.template
-            (enter_block (host_of O.stated self.old.template) name.now self.old.world)))
-            self.new.world }
+        ensures called { IsCaptured result
+            (block_meaning O.stated self.old.template name.now self.old.world) self.new.world }
+        ensures back { IsBack result self.old.world self.new.world }
         ensures template { self.new.template ≡ self.old.template }
         ensures stays { StaysInPlace self.old.world self.new.world }
         ensures kept { KeepsFixed self.old.world self.new.world }
     {
         let alloc = self.rendering.allocator();
-        let hashed = Name::new(alloc, name)?;
-        let called = self.kept.call_block(alloc, &self.rendering, &hashed)?;
-        let value = self.value_of(called)?;
-        to_text(alloc, &value, &self.kept)
+        let mut captures = Captures::new(alloc);
+        captures.begin(alloc, CaptureMode::Capture)?;
+        let mut captures = self.run_block(name, captures, &mut NullWriter)?;
+        match captures.end() {
+            Some((_mode, text)) => Ok(text),
+            None => unreachable!(),
+        }
+    }
+
+    /// Renders the block of a name into a writer, as `render_block` does. WriteFailure where the writer fails or takes
+    /// nothing, and its other errors; then the writer holds a beginning of the text.
+    pub fn render_block_to_write<W: Sink>(
+        &mut self,
+        name: &str,
+        writer: &mut W,
+    ) -> Result<(), Error>
+        ensures rendered { BlockWritten
+            (block_meaning O.stated self.old.template name.now self.old.world) result self.new.world
+            (W.written writer.old) (W.written writer.new) (W.failures writer.old) (W.failures writer.new) }
+        ensures back { IsBack result self.old.world self.new.world }
+        ensures template { self.new.template ≡ self.old.template }
+        ensures stays { StaysInPlace self.old.world self.new.world }
+        ensures kept { KeepsFixed self.old.world self.new.world }
+    {
+        let captures = Captures::new(self.rendering.allocator());
+        let _captures = self.run_block(name, captures, writer)?;
+        Ok(())
+    }
+
+    /// Runs the block of a name over captures and a writer, puts back what that replaced, and gives the captures that
+    /// are left.
+    fn run_block<W: Sink>(
+        &mut self,
+        name: &str,
+        captures: Captures,
+        writer: &mut W,
+    ) -> Result<Captures, Halt>
+        requires { IsFresh captures }
+        ensures ran { Ran (block_meaning O.stated self.old.template name.now self.old.world)
+            result self.new.world captures
+            (W.written writer.old) (W.written writer.new) (W.failures writer.old) (W.failures writer.new) }
+        ensures template { self.new.template ≡ self.old.template }
+        ensures stays { StaysInPlace self.old.world self.new.world }
+        ensures kept { KeepsFixed self.old.world self.new.world }
+    {
+        let saved = self.enter_block(name)?;
+        let result = self.rendering.run(&mut self.kept, captures, writer);
+        self.kept.put_back(Saved::Block(saved));
+        result
+    }
+
+    /// Enters the block of a name, and gives what is put back behind it. As `render_block`, before its run.
+    fn enter_block(&mut self, name: &str) -> Result<SavedBlock, Error>
+        ensures ok { IfOk result (λ saved. IsEntered
+            (enter_block (host_of O.stated self.old.template) name.now self.old.world)
+            saved self.old.world self.new.world) }
+        ensures err { IfErr result (λ e. is_want_of_memory e ≡ false →
+            enter_block (host_of O.stated self.old.template) name.now self.old.world
+            ≡ refused e self.old.world) }
+        ensures unchanged { OnErr result (self.new ≡ self.old) }
+        ensures template { self.new.template ≡ self.old.template }
+        ensures kept { KeepsFixed self.old.world self.new.world }
+    {
+        let alloc = self.rendering.allocator();
+        let name = Name::new(alloc, name)?;
+        let (_stream, saved) = self.kept.enter_block(alloc, &self.rendering, &name)?;
+        Ok(saved)
     }
 
     /// The name of the block that runs, where one does.
@@ -217,7 +282,7 @@ impl<'env, O: Parties> StateOf<'env, O> {
         ensures template { self.new.template ≡ self.old.template }
         ensures stays { (limit : _) (before : _) → CallLies limit (Ok called) before self.old.world →
             StaysInPlace before self.new.world }
-        ensures kept { KeepsFixedAndNames self.old.world self.new.world }
+        ensures kept { KeepsFixed self.old.world self.new.world }
     {
         match called {
             CallResult::Value(value) => Ok(value),
@@ -233,7 +298,7 @@ impl<'env, O: Parties> StateOf<'env, O> {
         ensures template { self.new.template ≡ self.old.template }
         ensures stays { (limit : _) (before : _) → OneDeeper limit run.saved before self.old.world →
             StaysInPlace before self.new.world }
-        ensures kept { KeepsFixedAndNames self.old.world self.new.world }
+        ensures kept { KeepsFixed self.old.world self.new.world }
     {
         let alloc = self.rendering.allocator();
         let NestedRun {
@@ -255,7 +320,7 @@ impl<'env, O: Parties> StateOf<'env, O> {
             (callee_of run) self.old.world) self.new.world }
         ensures template { self.new.template ≡ self.old.template }
         ensures no_fewer { length self.old.world.scopes.frames ≤ length self.new.world.scopes.frames }
-        ensures kept { KeepsFixedAndNames self.old.world self.new.world }
+        ensures kept { KeepsFixed self.old.world self.new.world }
     {
         let alloc = self.rendering.allocator();
         let mut captures = Captures::new(alloc);
@@ -275,7 +340,7 @@ impl<'env, O: Parties> StateOf<'env, O> {
             (callee_of run) self.old.world) self.new.world }
         ensures template { self.new.template ≡ self.old.template }
         ensures no_fewer { length self.old.world.scopes.frames ≤ length self.new.world.scopes.frames }
-        ensures kept { KeepsFixedAndNames self.old.world self.new.world }
+        ensures kept { KeepsFixed self.old.world self.new.world }
     {
         let alloc = self.rendering.allocator();
         let state = self.kept.take(alloc);

@@ -163,10 +163,10 @@ impl<'env, 'source, O: Parties> TemplateOf<'env, 'source, O> {
             RenderedText (meaning O.stated self.now ids.old context) result }
     {
         let alloc = self.environment.allocator();
-        let state = self.first_state(ids, context)?;
+        let mut state = self.first_state(ids, context)?;
         let mut captures = Captures::new(alloc);
         captures.begin(alloc, CaptureMode::Capture)?;
-        let (mut captures, _state) = self.run_over(state, captures, &mut NullWriter)?;
+        let mut captures = self.run_over(&mut state, captures, &mut NullWriter)?;
         match captures.end() {
             Some((_mode, text)) => Ok(text),
             None => unreachable!(),
@@ -191,9 +191,9 @@ impl<'env, 'source, O: Parties> TemplateOf<'env, 'source, O> {
             Rendered self.now (meaning O.stated self.now ids.old context) result
             (W.written writer.old) (W.written writer.new) (W.failures writer.old) (W.failures writer.new) }
     {
-        let first = self.first_state(ids, context)?;
+        let mut state = self.first_state(ids, context)?;
         let alloc = self.environment.allocator();
-        let (_captures, state) = self.run_over(first, Captures::new(alloc), writer)?;
+        let _captures = self.run_over(&mut state, Captures::new(alloc), writer)?;
         Ok(CapturedOf::new(String::new(alloc), StateOf::new(self.rendering(), state)))
     }
 
@@ -220,26 +220,17 @@ impl<'env, 'source, O: Parties> TemplateOf<'env, 'source, O> {
         )
     }
 
-    /// Runs the template's code over a state, captures and a writer, and gives the captures and the state that are left.
+    /// Runs the stream that a state names over captures and a writer, and gives the captures that are left.
     fn run_over<W: Sink>(
         &self,
-        state: StateData,
+        state: &mut StateData,
         captures: Captures,
         writer: &mut W,
-    ) -> Result<(Captures, StateData), Halt>
-        requires own { state.stream ≡ root_of self.now.id }
-        requires fresh { IsFresh captures }
-        ensures { Ran (meaning_from O.stated self.now state.entry) result captures
+    ) -> Result<Captures, Halt>
+        requires { IsFresh captures }
+        ensures { Ran (meaning_from O.stated self.now state.old) result state.new captures
             (W.written writer.old) (W.written writer.new) (W.failures writer.old) (W.failures writer.new) }
     {
-        let alloc = self.environment.allocator();
-        let template = match self.id() {
-            Ok(template) => template,
-            Err(error) => return Err(Halt::Fault(error)),
-        };
-        let stream = StreamId::root(template);
-        let mut machine = Machine::new(alloc, stream, captures, state);
-        machine.run(alloc, &self.rendering(), true, writer)?;
-        Ok(machine.into_parts())
+        self.rendering().run(state, captures, writer)
     }
 }

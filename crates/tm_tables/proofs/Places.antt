@@ -143,7 +143,7 @@ module _ {A : Type 0} where
   ordered_case Greater x a p ps e o rest = (above-put p.0 x a ps (turned x p.0 Greater e) o.0, rest)
 
   -- the names stay in order
-  ordered-put : (x : List ℕ) (a : A) (ps : Named A) → AreOrdered ps → AreOrdered (put x a ps)
+  pub ordered-put : (x : List ℕ) (a : A) (ps : Named A) → AreOrdered ps → AreOrdered (put x a ps)
   unfolding IsStrictlySortedBy
   ordered-put x a [] o = (tt, tt)
   ordered-put x a (p ∷ ps) o = ordered_case (name_cmp x p.0) x a p ps refl o (ordered-put x a ps o.1)

@@ -1,0 +1,231 @@
+-- What the block means that a state is asked for, and what its run answers.
+use Rattle.std.proofs.Common.{◌≡◌, ◌≢◌, ◌∙◌, ◌++◌, ℕ, List, [], ◌∷◌, Option, Result, Ok, Err, String, string_bytes, Bool, true, false, true≢false}
+use Rattle.std.proofs.Common.{refl, sym, ap, subst}
+use Rattle.std.specs.declared.alloc.Global.{Global}
+use Rattle.std.specs.Io.KnownBytes.{Appends}
+use Rattle.tm_values.specs.declared.error.ErrorKind.{ErrorKind}
+use Rattle.tm_values.specs.declared.error.ErrorKind.TheVariants.{WriteFailure}
+use Rattle.tm_output.specs.Counts.{AppendsBeginning}
+use Rattle.tm_output.specs.Pieces.{appends_nothing}
+use Rattle.tm_meaning.specs.Memory.{is_want_of_memory}
+use Rattle.tm_meaning.specs.World.{World, HostValue}
+use Rattle.tm_meaning.specs.Tree.{Trees, empty}
+use Rattle.tm_meaning.specs.declared.stream.StreamId.{StreamId}
+use Rattle.tm_meaning.specs.Calls.{Asked, NestedCall, block_call, enter_block, refused, runs, undone, whole}
+use Rattle.tm_meaning.specs.Machine.{Capture, new_capture, put_in, put_out}
+use Rattle.tm_meaning.specs.Meaning.{Ending, done, leave, next, fault, Outcome, Run, Under, behind, ended, in_place_of, nests_of, new_run, rendered}
+use Rattle.tm_meaning.specs.Meaning.{rendered_block, under}
+use Rattle.tm_parts.specs.Halts.{error_of}
+use Rattle.tm_parts.specs.declared.halt.Halt.{Halt}
+use Rattle.tm_parts.specs.declared.halt.Halt.TheVariants as halt
+use Rattle.tm_simulation.specs.Kept.{PutsBack}
+use Rattle.tm_simulation.proofs.Asks.{block_asks_by, in_block}
+use Rattle.tm_simulation.proofs.Keeps.{tag_puts_back}
+use Rattle.tm_state.specs.State.{behind_block, runs_block, saved_of}
+use Rattle.tm_state.specs.declared.saved.Saved.TheVariants as saved
+use Rattle.tm_state.specs.declared.saved.SavedBlock.{SavedBlock}
+use Rattle.tm_tables.specs.Stated.{StatedObjects}
+use Rattle.tm_vm.proofs.Loop.{undone_is}
+use Rattle.template_machine.specs.Environment.{TemplateValue, host_of, trees}
+use Rattle.template_machine.specs.Renders.{answer_by, answer_of, block_meaning, meaning_from, IsCaptured, IsEntered, IsRun}
+use Rattle.template_machine.specs.Renders.{Ran, run_as_meant, run_by_writer, run_by_memory}
+use Rattle.template_machine.specs.Renders.{BlockWritten, block_as_meant, block_by_writer, block_by_memory}
+
+-- ---------------------------------------------------------------- ends
+-- the world of an end that is done, and the fault of one that isn't
+left_by : (e : Ending) (x left : World) → answer_by e x ≡ Ok left → x ≡ left
+left_by done x left is = cc is
+left_by leave x left is = cc is
+left_by next x left is = cc is
+left_by (fault chain) x left is = absurd (cc is)
+
+fault_by : (e : Ending) (x : World) (chain : List ErrorKind) → answer_by e x ≡ Err chain → e ≡ fault chain
+fault_by done x chain is = absurd (cc is)
+fault_by leave x chain is = absurd (cc is)
+fault_by next x chain is = absurd (cc is)
+fault_by (fault why) x chain is = let same : why ≡ chain = cc is in ap (λ c. fault c) same
+
+-- ---------------------------------------------------------------- what a block means
+module _ (host : HostValue) (trees : Trees) (b : List ℕ) (w : World) where
+  abbrev u : Under
+  u = under host (nests_of host trees (host.limit + 1)) empty
+
+  abbrev run : Run
+  run = new_run true w
+
+  -- it runs in the stream that it names
+  entered_stream : (s : StreamId) (mid : World) → enter_block host b w ≡ runs_block s w mid → mid.stream ≡ s
+  entered_stream s mid =
+      block_asks_by (λ q. q ≡ runs_block s w mid → mid.stream ≡ s) host b w (λ kind e same. absurd (cc same)) (λ stream room same.
+      let call : block_call stream w ≡ block_call s w = cc same in
+      let world : in_block stream b w ≡ mid = cc same in
+      let callee : whole stream ≡ whole s = ap (λ (c : NestedCall). c.callee) call in
+      let is : stream ≡ s = cc callee in
+      sym (ap (λ (x : World). x.stream) world) ∙ is)
+
+  -- its run is what its stream means
+  block_is : (s : StreamId) (mid : World) → enter_block host b w ≡ runs_block s w mid →
+      rendered_block host trees b w ≡ behind (rendered host trees mid).ending (block_call s w) run (rendered host trees mid)
+  block_is s mid is =
+      ap (in_place_of u run []) is ∙ ap (λ x. let o = u.nests (whole x) true [] mid in behind o.ending (block_call s w) run o)
+      (sym (entered_stream s mid is))
+
+  refused_is : (chain : List ErrorKind) → enter_block host b w ≡ refused chain w →
+      rendered_block host trees b w ≡ ended (fault chain) run [] w
+  refused_is chain is = ap (in_place_of u run []) is
+
+-- ---------------------------------------------------------------- what its run answered
+module _ (s : StreamId) (w : World) (run : Run) (o : Outcome) where
+  abbrev c : NestedCall
+  c = block_call s w
+
+  done_behind : (e : Ending) (left : World) → answer_by e o.world ≡ Ok left → answer_of (behind e c run o) ≡ Ok (undone c.undo left)
+  done_behind done left is = ap (λ x. Ok (undone c.undo x)) (left_by done o.world left is)
+  done_behind leave left is = ap (λ x. Ok (undone c.undo x)) (left_by leave o.world left is)
+  done_behind next left is = ap (λ x. Ok (undone c.undo x)) (left_by next o.world left is)
+  done_behind (fault chain) left is = absurd (cc is)
+
+  fault_behind : (e : Ending) (chain : List ErrorKind) → answer_by e o.world ≡ Err chain → answer_of (behind e c run o) ≡ Err chain
+  fault_behind done chain is = absurd (cc is)
+  fault_behind leave chain is = absurd (cc is)
+  fault_behind next chain is = absurd (cc is)
+  fault_behind (fault why) chain is = let same : why ≡ chain = cc is in ap (λ x. Err x) same
+
+  text_behind : (e : Ending) → (behind e c run o).text ≡ o.text
+  text_behind done = refl
+  text_behind leave = refl
+  text_behind next = refl
+  text_behind (fault chain) = refl
+
+  world_behind : (e : Ending) → (behind e c run o).world ≡ undone c.undo o.world
+  world_behind done = refl
+  world_behind leave = refl
+  world_behind next = refl
+  world_behind (fault chain) = refl
+
+  abbrev q : Outcome
+  q = behind o.ending c run o
+
+  is_behind : (result : Result (List Capture) Halt) (left : World) (old : List Capture) → IsRun result left old o →
+      IsRun result (undone c.undo left) old q
+  is_behind (Ok new) left old is = (done_behind o.ending left is.0, is.1 ∙ ap (put_in old) (sym (text_behind o.ending)))
+  is_behind (Err halt.Writer) left old is = is
+  is_behind (Err halt.Stuck) left old is = is
+  is_behind (Err (halt.Fault chain)) left old is =
+      (fault_behind o.ending chain is.0, world_behind o.ending ∙ ap (undone c.undo) is.1)
+
+  ran_behind : (result : Result (List Capture) Halt) (left : World) (old : List Capture) (told now : Option (List ℕ)) (failures count : ℕ) →
+      Ran o result left old told now failures count → Ran q result (undone c.undo left) old told now failures count
+  ran_behind result left old told now failures count (run_as_meant is appended counted) =
+      run_as_meant (is_behind result left old is)
+      (subst (λ t. Appends told now (put_out old t)) (sym (text_behind o.ending)) appended) counted
+  ran_behind result left old told now failures count (run_by_writer is part counted) =
+      run_by_writer is (subst (λ t. AppendsBeginning told now (put_out old t)) (sym (text_behind o.ending)) part) counted
+  ran_behind result left old told now failures count (run_by_memory chain is memory part counted) =
+      run_by_memory chain is memory (subst (λ t. AppendsBeginning told now (put_out old t)) (sym (text_behind o.ending)) part) counted
+
+-- ---------------------------------------------------------------- of a state
+module _ {O : Type 0} (stated : O → StatedObjects) (t : TemplateValue O) (b : List ℕ) (w left : World) (old : List Capture)
+    (told now : Option (List ℕ)) (failures count : ℕ) where
+  abbrev m : Outcome
+  m = block_meaning stated t b w
+
+  abbrev Came : Result (List Capture) Halt → World → Type 0
+  Came result x = Ran m result x old told now failures count
+
+  pub block_ran : (s : SavedBlock) (mid : World) (result : Result (List Capture) Halt) (put : World) →
+      IsEntered (enter_block (host_of stated t) b w) s w mid → Ran (meaning_from stated t mid) result left old told now failures count →
+      put ≡ behind_block s left → Came result put
+  block_ran s mid result put (same, (stream, asked), more) ran is =
+      let o = meaning_from stated t mid in
+      subst (λ x. Came result x) (undone_is (saved.Block s) w left same ∙ sym is)
+      (subst (λ x. Ran x result (undone (block_call stream w).undo left) old told now failures count)
+      (sym (block_is (host_of stated t) (trees t) b w stream mid asked))
+      (ran_behind stream w (new_run true w) o result left old told now failures count ran))
+
+  -- what was put back
+  world_back : m.world ≡ left → PutsBack w left
+  world_back is =
+      let host = host_of stated t in
+      subst (PutsBack w) is (tag_puts_back host (trees t) (host.limit + 1) empty (new_run true w) b [] w)
+
+  pub back_done : (new : List Capture) → Came (Ok new) left → PutsBack w left
+  back_done new (run_as_meant is appended counted) = world_back (left_by m.ending m.world left is.0)
+  back_done new (run_by_writer is part counted) = absurd (cc is)
+  back_done new (run_by_memory chain is memory part counted) = absurd (cc is)
+
+  pub back_failed : (why : Halt) (chain : List ErrorKind) → chain ≡ error_of why → Came (Err why) left →
+      is_want_of_memory chain ≡ false → chain ≢ WriteFailure ∷ [] → PutsBack w left
+  back_failed halt.Writer chain same came own apart = absurd (apart same)
+  back_failed halt.Stuck chain same (run_as_meant is appended counted) own apart = absurd is
+  back_failed halt.Stuck chain same (run_by_writer is part counted) own apart = absurd (cc is)
+  back_failed halt.Stuck chain same (run_by_memory why is memory part counted) own apart = absurd (cc is)
+  back_failed (halt.Fault kinds) chain same (run_as_meant is appended counted) own apart = world_back is.1
+  back_failed (halt.Fault kinds) chain same (run_by_writer is part counted) own apart = absurd (cc is)
+  back_failed (halt.Fault kinds) chain same (run_by_memory why is memory part counted) own apart =
+      let kind : kinds ≡ why = cc is in absurd (true≢false (sym memory ∙ ap is_want_of_memory (sym kind ∙ sym same) ∙ own))
+
+-- a block that is refused
+pub block_refused : {O : Type 0} (stated : O → StatedObjects) (t : TemplateValue O) (b : List ℕ) (w : World) (old : List Capture)
+    (told : Option (List ℕ)) (failures : ℕ) (chain : List ErrorKind) → enter_block (host_of stated t) b w ≡ refused chain w →
+    Ran (block_meaning stated t b w) (Err (halt.Fault chain)) w old told told failures failures
+block_refused stated t b w old told failures chain is =
+    subst (λ m. Ran m (Err (halt.Fault chain)) w old told told failures failures)
+    (sym (refused_is (host_of stated t) (trees t) b w chain is))
+    (run_as_meant (refl, refl) (nothing old) refl)
+  where
+    nothing : (ks : List Capture) → Appends told told (put_out ks [])
+    nothing [] = appends_nothing told
+    nothing (k ∷ ks) = appends_nothing told
+
+-- ---------------------------------------------------------------- its text in a capture, and in a writer
+abbrev text_of : List Capture → List ℕ
+text_of [] = []
+text_of (k ∷ ks) = k.text
+
+module _ (m : Outcome) (left : World) (told now : Option (List ℕ)) where
+  pub text_done : (new rest : List Capture) (heard : Bool) (text : List ℕ) (failures count : ℕ) →
+      Ran m (Ok new) left (new_capture true ∷ []) told now failures count →
+      new ≡ record { heard = heard; text = text } ∷ rest → (text ≡ m.text) × (answer_of m ≡ Ok left)
+  text_done new rest heard text failures count (run_as_meant is appended counted) there =
+      (ap text_of (sym there ∙ is.1), is.0)
+  text_done new rest heard text failures count (run_by_writer is part counted) there = absurd (cc is)
+  text_done new rest heard text failures count (run_by_memory chain is memory part counted) there = absurd (cc is)
+
+  pub text_failed : (why : Halt) (chain : List ErrorKind) (old : List Capture) → chain ≡ error_of why →
+      Ran m (Err why) left old told now 0 0 → IsCaptured (Err chain) m left
+  text_failed halt.Writer chain old same (run_as_meant is appended counted) = absurd is
+  text_failed halt.Writer chain old same (run_by_writer is part counted) = absurd (cc counted)
+  text_failed halt.Writer chain old same (run_by_memory why is memory part counted) = absurd (cc is)
+  text_failed halt.Stuck chain old same (run_as_meant is appended counted) = absurd is
+  text_failed halt.Stuck chain old same (run_by_writer is part counted) = absurd (cc is)
+  text_failed halt.Stuck chain old same (run_by_memory why is memory part counted) = absurd (cc is)
+  text_failed (halt.Fault kinds) chain old same (run_as_meant is appended counted) = λ own.
+      (fault_by m.ending m.world kinds is.0 ∙ ap (λ x. fault x) (sym same), is.1)
+  text_failed (halt.Fault kinds) chain old same (run_by_writer is part counted) = absurd (cc is)
+  text_failed (halt.Fault kinds) chain old same (run_by_memory why is memory part counted) = λ own.
+      let kind : kinds ≡ why = cc is in absurd (true≢false (sym memory ∙ ap is_want_of_memory (sym kind ∙ sym same) ∙ own))
+
+  module _ (failures count : ℕ) where
+    abbrev Came : Result (List Capture) Halt → Type 0
+    Came result = Ran m result left [] told now failures count
+
+    pub written_done : (new : List Capture) → Came (Ok new) → BlockWritten m (Ok tt) left told now failures count
+    written_done new (run_as_meant is appended counted) = block_as_meant is.0 appended counted
+    written_done new (run_by_writer is part counted) = absurd (cc is)
+    written_done new (run_by_memory chain is memory part counted) = absurd (cc is)
+
+    pub written_failed : (why : Halt) (chain : List ErrorKind) → chain ≡ error_of why → Came (Err why) →
+        BlockWritten m (Err chain) left told now failures count
+    written_failed halt.Writer chain same (run_as_meant is appended counted) = absurd is
+    written_failed halt.Writer chain same (run_by_writer is part counted) = block_by_writer (ap (λ x. Err x) same) part counted
+    written_failed halt.Writer chain same (run_by_memory why is memory part counted) = absurd (cc is)
+    written_failed halt.Stuck chain same (run_as_meant is appended counted) = absurd is
+    written_failed halt.Stuck chain same (run_by_writer is part counted) = absurd (cc is)
+    written_failed halt.Stuck chain same (run_by_memory why is memory part counted) = absurd (cc is)
+    written_failed (halt.Fault kinds) chain same (run_as_meant is appended counted) =
+        block_as_meant (is.0 ∙ ap (λ x. Err x) (sym same), is.1) appended counted
+    written_failed (halt.Fault kinds) chain same (run_by_writer is part counted) = absurd (cc is)
+    written_failed (halt.Fault kinds) chain same (run_by_memory why is memory part counted) =
+        let kind : kinds ≡ why = cc is in
+        block_by_memory (ap is_want_of_memory (same ∙ kind) ∙ memory) part counted

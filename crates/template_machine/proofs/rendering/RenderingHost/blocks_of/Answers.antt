@@ -1,0 +1,10 @@
+use Rattle.template_machine.proofs.Meant.{blocks_found, blocks_missing}
+use Rattle.template_machine.proofs.rendering.RenderingHost.blocks_of.Goals as goal
+
+pub returns-in-Some : goal.returns-in-Some
+returns-in-Some g c =
+    blocks_found g.O.Parties.stated c.args.self.now c.args.name.now c.in-Some.template.now c.blocks.result.now c.in-Some.ensures
+    c.blocks.ensures
+
+pub returns-in-None : goal.returns-in-None
+returns-in-None g c = blocks_missing g.O.Parties.stated c.args.self.now c.args.name.now c.in-None.ensures
