@@ -191,10 +191,10 @@ impl<'env, 'source, O: Parties> TemplateOf<'env, 'source, O> {
             Rendered self.now (meaning O.stated self.now ids.old context) result
             (W.written writer.old) (W.written writer.new) (W.failures writer.old) (W.failures writer.new) }
     {
-        let mut state = self.first_state(ids, context)?;
+        let mut first = self.first_state(ids, context)?;
         let alloc = self.environment.allocator();
-        let _captures = self.run_over(&mut state, Captures::new(alloc), writer)?;
-        Ok(CapturedOf::new(String::new(alloc), StateOf::new(self.rendering(), state)))
+        let _captures = self.run_over(&mut first, Captures::new(alloc), writer)?;
+        Ok(CapturedOf::new(String::new(alloc), StateOf::new(self.rendering(), first)))
     }
 
     /// The state that a render starts from. InvalidOperation where the counter is full, OutOfMemory where there is no memory.
