@@ -7,7 +7,7 @@ use Rattle.std.specs.Map.{keys_of}
 use Rattle.std.proofs.lemmas.Slice.Eq.{bytes_eq-Decides}
 use Rattle.tm_syntax.specs.Named.{Named, name_cmp, same_name, find}
 use Rattle.tm_syntax.specs.Names.{is_among}
-use Rattle.tm_syntax.specs.declared.instruction.Instruction.{Instruction}
+use Rattle.tm_syntax.specs.declared.code.BlockCode.{BlockCode}
 use Rattle.tm_syntax.proofs.Named.{same_text}
 use Rattle.tm_meaning.specs.World.{World, HostValue, Card, Template, Layers, Good}
 use Rattle.tm_meaning.specs.Inheritance.{with_blocks, count_left, load_named, names_left}
@@ -80,7 +80,7 @@ by_names : (t : TemplateId) (bs : Named Card) (ls : Named Layers) → with_block
 by_names t [] ls = refl
 by_names t (b ∷ bs) ls = by_names t bs _
 
-module _ (host : HostValue) (x : List ℕ) (old : World) (lent : Bor (Named (List Instruction))) (fresh : is_among x old.loaded ≡ false)
+module _ (host : HostValue) (x : List ℕ) (old : World) (lent : Bor (Named BlockCode)) (fresh : is_among x old.loaded ≡ false)
     (there : AreBlocksOf (Some lent) (find x host.templates)) where
   abbrev Behind : World
   Behind = record old { loaded = old.loaded ++ x ∷ []; blocks = with_each (Entry x) (keys_of lent.now) old.blocks }
