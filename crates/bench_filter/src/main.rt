@@ -1,4 +1,6 @@
-//! Renders standard input over one name and one filter, so that bench/instructions can count what a filter costs.
+//! Renders standard input over one name and one filter, so that bench/instructions can count what a filter costs, and what
+//! blocks cost. The input is one template, or several, each behind a line `=== NAME` with its name: then the first is
+//! rendered. A number behind the program's name says how often.
 #![tactic(auto)]
 
 ghost use Rattle.std.specs.Prelude.{slice_get};
@@ -8,11 +10,16 @@ ghost use Rattle.tm_tables.specs.Stated.{just};
 
 use std::alloc::Global;
 use std::io::{self, Read, Write};
-use std::mem;
 use std::process::ExitCode;
+use std::{env, mem};
 use template_machine::{
     Answering, CallableAnswer, Environment, Error, Plain, StateIds, Value, ValueMap,
 };
+
+/// What stands before the name of a template.
+const MARK: &str = "=== ";
+/// The name of a template that stands alone.
+const ALONE: &str = "source";
 
 /// Answers its first argument.
 #[derive(Drop)]
@@ -39,23 +46,34 @@ fn main(rt: HostRuntime) -> ExitCode {
     }
 }
 
-/// Renders the template that standard input holds, and writes the text.
+/// Renders what standard input holds, and writes the text.
 fn run(rt: &HostRuntime) -> io::Result<()> {
     let alloc = rt.alloc();
-    let mut source = String::new(alloc);
-    rt.stdin().read_to_string(&mut source)?;
-    match render(alloc, source.as_str()) {
+    let times = times(rt)?;
+    let mut input = String::new(alloc);
+    rt.stdin().read_to_string(&mut input)?;
+    match render(alloc, input.as_str(), times) {
         Ok(text) => rt.stdout().write_all(text.as_bytes()),
         Err(_error) => Err(io::Error::from(io::ErrorKind::InvalidData)),
     }
 }
 
+/// How often is rendered: as often as the word behind the program's name says, or once.
+fn times(rt: &HostRuntime) -> io::Result<usize> {
+    let mut words = env::args(rt)?;
+    words.next();
+    match words.next() {
+        Some(word) => Ok(word.parse().unwrap_or(1)),
+        None => Ok(1),
+    }
+}
+
 /// The text of a template in which `x` is a text and the filter `id` answers its argument.
-fn render(alloc: Global, source: &str) -> Result<String, Error> {
+fn render(alloc: Global, input: &str, times: usize) -> Result<String, Error> {
     let mut environment = Environment::new(alloc)?;
     let filter = Box::new(alloc, Plain::new(First))?;
     environment.add_filter("id", filter)?;
-    let text = render_in(&mut environment, alloc, source);
+    let text = render_in(&mut environment, alloc, input, times);
     // The process ends after the render.
     mem::forget(environment);
     text
@@ -65,13 +83,51 @@ fn render(alloc: Global, source: &str) -> Result<String, Error> {
 fn render_in(
     environment: &mut Environment<'_>,
     alloc: Global,
-    source: &str,
+    input: &str,
+    times: usize,
 ) -> Result<String, Error> {
+    add_templates(environment, alloc, input)?;
+    let template = environment.get_template(first_name(input))?;
+    let context = context(alloc)?;
+    let mut ids = StateIds::new();
+    for _ in 1..times {
+        template.render(&mut ids, context.share()?)?;
+    }
+    template.render(&mut ids, context)
+}
+
+/// The context value, in which `x` is a text.
+fn context(alloc: Global) -> Result<Value, Error> {
     let mut names = ValueMap::new(alloc);
     names.insert(Value::text(alloc, "x")?, Value::text(alloc, "World")?)?;
-    let context = Value::from_map(alloc, names)?;
-    environment.add_template_owned("source", source.to_string(alloc)?)?;
-    environment
-        .get_template("source")?
-        .render(&mut StateIds::new(), context)
+    Value::from_map(alloc, names)
+}
+
+/// Adds the templates of an input.
+fn add_templates(
+    environment: &mut Environment<'_>,
+    alloc: Global,
+    input: &str,
+) -> Result<(), Error> {
+    let Some(rest) = input.strip_prefix(MARK) else {
+        return environment.add_template_owned(ALONE, input.to_string(alloc)?);
+    };
+    for part in rest.split("\n=== ") {
+        let (name, source) = name_and_source(part);
+        environment.add_template_owned(name, source.to_string(alloc)?)?;
+    }
+    Ok(())
+}
+
+/// The name of the first template of an input.
+fn first_name(input: &str) -> &str {
+    match input.strip_prefix(MARK) {
+        Some(rest) => name_and_source(rest).0,
+        None => ALONE,
+    }
+}
+
+/// The first line behind its mark, and what follows.
+fn name_and_source(part: &str) -> (&str, &str) {
+    part.split_once('\n').unwrap_or((part, ""))
 }
