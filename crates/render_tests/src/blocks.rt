@@ -270,27 +270,25 @@ fn is_too_deep(environment: &Rows<'_>, blocks: usize) -> bool {
     }
 }
 
-/// Whether long chains of templates are rendered, also with a block that runs the next one; under a limit it is
-/// a fault behind as many blocks as there are scopes but those of the root and of the first block.
-fn are_rendered(alloc: Global, environment: &mut Rows<'_>) -> Result<bool, Error> {
-    add_chain(alloc, environment, "x", "")?;
-    let are_parents = is_rendered(environment)?;
-    let (first, rest) = (
-        "{% block a %}x{% endblock %}",
-        "{% block a %}{{ super() }}{% endblock %}",
-    );
-    add_chain(alloc, environment, first, rest)?;
-    let are_blocks = is_rendered(environment)?;
-    environment.set_recursion_limit(100);
-    let are_too_deep = is_too_deep(environment, 98);
-    environment.set_recursion_limit(500);
-    Ok(are_parents && are_blocks && are_too_deep)
-}
-
-/// Renders long chains.
-pub(crate) fn expect_chains(alloc: Global, environment: &mut Rows<'_>) -> Result<(), Fail> {
-    if are_rendered(alloc, environment)? {
+/// A failure of this name, where something isn't so.
+fn expect(holds: bool, name: &str) -> Result<(), Fail> {
+    if holds {
         return Ok(());
     }
-    Err(Fail::new("chains"))
+    Err(Fail::new(name))
+}
+
+/// Renders long chains of templates, also with a block that runs the next one. Under a limit that is a
+/// fault behind as many blocks as there are scopes but those of the root and of the first block.
+pub(crate) fn expect_chains(alloc: Global, environment: &mut Rows<'_>) -> Result<(), Fail> {
+    add_chain(alloc, environment, "x", "")?;
+    expect(is_rendered(environment)?, "a chain of parents")?;
+    let first = "{% block a %}x{% endblock %}";
+    let rest = "{% block a %}{{ super() }}{% endblock %}";
+    add_chain(alloc, environment, first, rest)?;
+    expect(is_rendered(environment)?, "a chain of blocks")?;
+    environment.set_recursion_limit(100);
+    expect(is_too_deep(environment, 98), "a chain that is too deep")?;
+    environment.set_recursion_limit(500);
+    Ok(())
 }

@@ -79,10 +79,7 @@ fn is_short<'source>(environment: &mut Rows<'source>, rest: &'source str) -> boo
     true
 }
 
-fn rendered<'source>(
-    environment: &Rows<'source>,
-    source: &'source str,
-) -> Result<String, Error> {
+fn rendered<'source>(environment: &Rows<'source>, source: &'source str) -> Result<String, Error> {
     let template = template_of(environment, "<string>", source)?;
     template.render(&mut StateIds::new(), Value::undefined())
 }
