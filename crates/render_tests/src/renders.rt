@@ -233,7 +233,8 @@ fn is_end(end: &End, wanted: &str) -> bool {
     match end {
         Ok((charges, is_left)) => *is_left
             && (wanted == "ok" || wanted.parse().ok() == Some(*charges)),
-        Err(error) => is_chain(error, wanted),
+        // A kind alone says nothing of causes.
+        Err(error) => error.kind().name() == wanted || is_chain(error, wanted),
     }
 }
 
