@@ -72,7 +72,8 @@ fn made(alloc: Global, given: Given) -> Result<Value, Error> {
 }
 
 /// A source, or the name of a template that is kept behind `&`; what it writes; how it ends: with
-/// so many charges, `ok` with any, or by a kind of error; and what is asked of the state behind it.
+/// so many charges, `ok` with any, or by a kind of error, with the kinds of its causes behind `>`;
+/// and what is asked of the state behind it.
 /// Where four ends are given, they are those under each behavior, from the loosest.
 #[derive(Clone, Copy)]
 pub(crate) struct Row<'a> {
@@ -105,7 +106,8 @@ pub(crate) fn are(names: &[&str], wanted: &str) -> bool {
     rest.next().is_none()
 }
 
-fn lists(found: &Result<Vec<&str>, Error>, wanted: &str) -> bool {
+/// Whether the names that were found are these, or the error is of this kind.
+pub(crate) fn lists(found: &Result<Vec<&str>, Error>, wanted: &str) -> bool {
     match found {
         Ok(names) => are(names, wanted),
         Err(error) => error.kind().name() == wanted,
@@ -153,8 +155,32 @@ fn charges(state: &Left<'_>) -> u64 {
     }
 }
 
-/// How a render ends: by its charges, and whether its state is left as a row asks; or by a kind.
-type End = Result<(u64, bool), ErrorKind>;
+/// Whether an error and its causes are of these kinds, from the outermost one.
+pub(crate) fn is_chain(error: &Error, kinds: &str) -> bool {
+    let mut rest = Some(error);
+    for kind in kinds.split('>') {
+        match rest {
+            Some(found) if found.kind().name() == kind => rest = found.cause(),
+            _ => return false,
+        }
+    }
+    rest.is_none()
+}
+
+/// How many runs of blocks an error came through, and what it was inside them.
+pub(crate) fn fault_of(error: &Error) -> (usize, &Error) {
+    let mut fault = error;
+    for depth in 0..usize::MAX {
+        match fault.cause() {
+            Some(cause) if fault.kind() == ErrorKind::EvalBlock => fault = cause,
+            _ => return (depth, fault),
+        }
+    }
+    (usize::MAX, fault)
+}
+
+/// How a render ends: by its charges, and whether its state is left as a row asks; or by an error.
+type End = Result<(u64, bool), Error>;
 
 fn end_of(template: &Page<'_, '_>, given: Value, writer: &mut Counted<Narrow>, left: &str) -> End {
     match template.render_captured_to(&mut StateIds::new(), given, writer) {
@@ -162,12 +188,12 @@ fn end_of(template: &Page<'_, '_>, given: Value, writer: &mut Counted<Narrow>, l
             let state = captured.state();
             Ok((charges(state), is_left(state, left)))
         }
-        Err(error) => Err(error.kind()),
+        Err(error) => Err(error),
     }
 }
 
 /// The template of a source under a name, or the one that is kept.
-fn template_of<'env, 'source>(
+pub(crate) fn template_of<'env, 'source>(
     environment: &'env Rows<'source>,
     name: &'env str,
     source: &'source str,
@@ -188,7 +214,7 @@ fn ended<'source>(
 ) -> End {
     match template_of(environment, setup.name, source) {
         Ok(template) => end_of(&template, given, writer, left),
-        Err(error) => Err(error.kind()),
+        Err(error) => Err(error),
     }
 }
 
@@ -203,11 +229,12 @@ fn wanted(end: &str, behavior: UndefinedBehavior) -> &str {
     end.split(' ').nth(place).unwrap_or(end)
 }
 
-fn is_end(end: End, wanted: &str) -> bool {
+fn is_end(end: &End, wanted: &str) -> bool {
     match end {
-        Ok((charges, is_left)) => is_left
-            && (wanted == "ok" || wanted.parse().ok() == Some(charges)),
-        Err(kind) => kind.name() == wanted,
+        Ok((charges, is_left)) => *is_left
+            && (wanted == "ok" || wanted.parse().ok() == Some(*charges)),
+        // A kind alone says nothing of causes.
+        Err(error) => error.kind().name() == wanted || is_chain(error, wanted),
     }
 }
 
@@ -225,7 +252,7 @@ pub(crate) fn expect_row(
     });
     let given = made(alloc, setup.given)?;
     let end = ended(environment, setup, row.source, row.left, given, &mut writer);
-    let is_ended = is_end(end, wanted(row.end, environment.undefined_behavior()));
+    let is_ended = is_end(&end, wanted(row.end, environment.undefined_behavior()));
     let written = writer.inner().bytes.as_slice();
     // What stands before a use that is refused under some behaviors alone is none of the row's.
     let is_written = written == row.text.as_bytes() || end.is_err() && row.end.contains(' ');

@@ -2,8 +2,8 @@
 
 use crate::callbacks::{method_of, rule_of, style_of};
 use crate::party::{Party, Rows, add_objects};
-use crate::renders::{Given, Setup, are, expect_row, row_of, usual};
-use crate::{bounds, loops, macros, rows, values};
+use crate::renders::{Given, Setup, are, expect_row, fault_of, row_of, template_of, usual};
+use crate::{blocks, bounds, loops, macros, rows, values};
 use std::alloc::Global;
 use std::test::Fail;
 use template_machine::*;
@@ -65,8 +65,9 @@ fn is_refused<'source>(environment: &mut Rows<'source>, rest: &'source str) -> b
     }
 }
 
-/// Whether a source runs out of each fuel up to the number before it. That fuel is set behind it.
-fn is_short(environment: &mut Rows<'_>, rest: &str) -> bool {
+/// Whether a source, or the template that is kept behind `&`, runs out of each fuel up to the number
+/// before it. That fuel is set behind it.
+fn is_short<'source>(environment: &mut Rows<'source>, rest: &'source str) -> bool {
     let (most, source) = rest.split_once(' ').unwrap_or(("0", rest));
     let most: u64 = most.parse().unwrap_or(0);
     for fuel in 0..=most {
@@ -78,10 +79,16 @@ fn is_short(environment: &mut Rows<'_>, rest: &str) -> bool {
     true
 }
 
-fn runs_out(environment: &Rows<'_>, source: &str) -> bool {
-    match environment.render_str(&mut StateIds::new(), source, Value::undefined()) {
+fn rendered<'source>(environment: &Rows<'source>, source: &'source str) -> Result<String, Error> {
+    let template = template_of(environment, "<string>", source)?;
+    template.render(&mut StateIds::new(), Value::undefined())
+}
+
+/// Whether it does, be it in a block that another one runs.
+fn runs_out<'source>(environment: &Rows<'source>, source: &'source str) -> bool {
+    match rendered(environment, source) {
         Ok(_) => false,
-        Err(error) => error.kind() == ErrorKind::OutOfFuel,
+        Err(error) => fault_of(&error).1.kind() == ErrorKind::OutOfFuel,
     }
 }
 
@@ -174,7 +181,7 @@ fn expect_table<'source>(
     Ok(())
 }
 
-static TABLES: [&str; 25] = [
+static TABLES: [&str; 26] = [
     rows::TEXTS,
     rows::CALLS,
     rows::FILTERS,
@@ -187,6 +194,7 @@ static TABLES: [&str; 25] = [
     loops::RECURSIONS,
     loops::METHODS,
     macros::MACROS,
+    blocks::BLOCKS,
     values::OPERATIONS,
     values::WRITTEN,
     values::FUNCTIONS,
@@ -205,6 +213,9 @@ static TABLES: [&str; 25] = [
 /// Renders all tables. A setting holds until the next one, also in the tables behind its own.
 fn expect_tables(alloc: Global, environment: &mut Rows<'_>) -> Result<(), Fail> {
     add_objects(environment)?;
+    blocks::add_layouts(environment)?;
+    blocks::expect_states(environment)?;
+    blocks::expect_chains(alloc, environment)?;
     for table in TABLES {
         expect_table(alloc, environment, table)?;
     }

@@ -1,12 +1,13 @@
-//! What stands by itself of a render: fuel, and the parts around a writer.
-use std::alloc::Global;
+//! What stands by itself of a render: fuel, the block of one name, and the parts around a writer.
+use std::alloc::{AllocError, Global};
 use std::io::{self, Write};
 use std::test::Fail;
 use tm_compiler::Instruction;
+use tm_meaning::TemplateId;
 use tm_output::{Counted, NullWriter};
 use tm_parts::{Output, Sink, WriteWrapper};
-use tm_syntax::CaptureMode;
-use tm_tables::FuelTracker;
+use tm_syntax::{CaptureMode, Name};
+use tm_tables::{BlockStack, FuelTracker};
 use tm_values::{AutoEscape, Error, ErrorKind, Value};
 
 /// So much fuel, how often a charge is taken from it, whether the last one is refused, and then
@@ -32,6 +33,56 @@ fn fuel_is_charged(rt: HostRuntime) {
     for charges in &CHARGES {
         assert!(rt; are_charged(charges));
     }
+}
+
+/// A template of an environment.
+fn entry(alloc: Global, name: &str) -> Result<TemplateId, AllocError> {
+    Ok(TemplateId::Entry(Name::new(alloc, name)?))
+}
+
+/// Whether of the blocks of so many templates the one at a place is meant, which is this template's.
+fn means(stack: &BlockStack, len: usize, place: usize, wanted: &TemplateId) -> bool {
+    let is_meant = match stack.template() {
+        Some(template) => template.is(wanted),
+        None => false,
+    };
+    is_meant && stack.len() == len && stack.place() == place
+}
+
+/// Whether the block of the last template is meant, behind which there is none.
+fn is_last(stack: &mut BlockStack, len: usize, place: usize, wanted: &TemplateId) -> bool {
+    let is_meant = means(stack, len, place, wanted);
+    let is_moved = stack.push();
+    is_meant && !is_moved && means(stack, len, place, wanted)
+}
+
+/// Whether the first template's block is meant, before which there is none.
+fn is_first(stack: &mut BlockStack, len: usize) -> bool {
+    let is_meant = means(stack, len, 0, &TemplateId::Own);
+    stack.pop();
+    is_meant && means(stack, len, 0, &TemplateId::Own)
+}
+
+/// Whether the next template's block is meant up to the last one's, and those before down to the first one's.
+fn moves(alloc: Global, stack: &mut BlockStack) -> Result<bool, Error> {
+    let is_alone = is_last(stack, 1, 0, &TemplateId::Own) && is_first(stack, 1);
+    let (parent, root) = (entry(alloc, "parent")?, entry(alloc, "root")?);
+    stack.append(parent.share()?)?;
+    stack.append(root.share()?)?;
+    let is_before = is_first(stack, 3);
+    let is_next = stack.push() && means(stack, 3, 1, &parent);
+    let is_behind = stack.push() && is_last(stack, 3, 2, &root);
+    stack.pop();
+    let is_back = means(stack, 3, 1, &parent);
+    stack.pop();
+    Ok(is_alone && is_before && is_next && is_behind && is_back && is_first(stack, 3))
+}
+
+#[test]
+fn blocks_are_moved_along(rt: HostRuntime) -> Result<(), Fail> {
+    let mut stack = BlockStack::new(rt.alloc(), TemplateId::Own)?;
+    assert!(rt; moves(rt.alloc(), &mut stack)?);
+    Ok(())
 }
 
 /// A writer that fails; where it has no error, it takes nothing.

@@ -1,0 +1,294 @@
+//! Rows of blocks and of templates that extend others, and blocks that a state is asked for.
+use crate::party::{Left, Rows};
+use crate::renders::{Row, fault_of, is_chain, lists, row_of};
+use std::alloc::Global;
+use std::test::Fail;
+use template_machine::*;
+
+/// The templates that rows extend, each behind its name.
+static LAYOUTS: [&str; 5] = [
+    "base B:{% block a %}x{% endblock %}",
+    "base2 P",
+    r#"mid {% extends "base" %}{% block a %}m{{ super() }}{% endblock %}"#,
+    "req {% block a required %}{% endblock %}",
+    "hidden {% if false %}{% block a %}2{{ y.z }}{% endblock %}{% endif %}",
+];
+
+/// Adds them.
+pub(crate) fn add_layouts(environment: &mut Rows<'_>) -> Result<(), Error> {
+    for layout in LAYOUTS {
+        let (name, source) = layout.split_once(' ').unwrap_or((layout, ""));
+        environment.add_template(name, source)?;
+    }
+    Ok(())
+}
+
+/// Blocks, and templates that extend others.
+pub(crate) const BLOCKS: &str = r#"Blocks, and templates that extend others.
+- @undefined-names
+- &base => B:x => ok => name base
+- &mid => B:mx => ok => name base
+- {% extends "base" %}{% set y = 1 %}ignored{% block a %}[{{ super() }}{{ y }}]{% endblock %} => B:[x1] => 13 => name base
+- @fuel 14
+- {% extends "base" %}{% set y = 1 %}ignored{% block a %}[{{ super() }}{{ y }}]{% endblock %} => B:[x1] => 13 => fuel 1
+- @fuel 12
+- {% extends "base" %}{% set y = 1 %}ignored{% block a %}[{{ super() }}{{ y }}]{% endblock %} => B:[x => OutOfFuel
+- @fuel 10
+- {% extends "base" %}{% set y = 1 %}ignored{% block a %}[{{ super() }}{{ y }}]{% endblock %} => B:[ => EvalBlock>OutOfFuel
+- @fuel 10000
+- {% extends "mid" %}{% block a %}c{{ super() }}{% endblock %} => B:cmx => 11 => name base
+- {% extends "mid" %}{% block a %}c{{ super() ~ "!" }}{% endblock %} => B:cmx! => 14
+- @limit 4
+- {% extends "mid" %}{% block a %}c{{ super() }}{% endblock %} => B:cmx => 11
+- @limit 3
+- {% extends "mid" %}{% block a %}c{{ super() }}{% endblock %} => B:cm => EvalBlock>InvalidOperation
+- @limit 500
+- {% extends "mid" %} => B:mx => 8
+- {% extends "mid" %}{% block a %}{{ super() }}{{ super() }}{% endblock %} => B:mxmx => 14
+- {% if x %}{% extends "base" %}{% else %}{% extends "base2" %}{% endif %}t => P => 5 => name base2
+- {% for n in [1,2] %}{{ n }}{% if n == 2 %}{% extends "base2" %}{% endif %}{% endfor %}z => 12P => 25
+- {% block a %}{% extends "base2" %}q{% endblock %}! => P! => 5 => name <string>
+- {% macro m() %}{% extends "base2" %}q{% endmacro %}[{{ m() }}] => [] => 10 => name <string>
+- @short 2 {% extends "base2" %}{% extends "base2" %}
+- @fuel 3
+- {% extends "base2" %}{% extends "base2" %} =>  => InvalidOperation
+- @short 1 {% extends 1 %}
+- @fuel 2
+- {% extends 1 %} =>  => InvalidOperation
+- @short 1 {% extends x %}
+- @fuel 2
+- {% extends x %} =>  => InvalidOperation
+- @short 1 {% extends "no" %}
+- @fuel 2
+- {% extends "no" %} =>  => TemplateNotFound
+- @short 1 {% set x %}{% extends "no" %}{% endset %}
+- @fuel 2
+- {% set x %}{% extends "no" %}{% endset %} =>  => InvalidOperation
+- @template t {% extends "t" %}x
+- @short 3 &t
+- @fuel 4
+- &t =>  => InvalidOperation
+- @name t
+- {% extends "t" %}x =>  => InvalidOperation
+- @name <string>
+- @fuel 10000
+- {% block a %}x{% endblock %}{{ self.a() }} => xx => 4
+- {{ self.q() }} =>  => UnknownBlock
+- @short 1 {{ super() }}
+- @fuel 2
+- {{ super() }} =>  => InvalidOperation
+- @short 2 {% block a %}{{ super() }}{% endblock %}
+- @fuel 3
+- {% block a %}{{ super() }}{% endblock %} =>  => InvalidOperation
+- @short 2 {{ super(1) }}
+- @fuel 3
+- {{ super(1) }} =>  => InvalidOperation
+- @short 1 {{ super().x }}
+- @fuel 2
+- {{ super().x }} =>  => InvalidOperation
+- @short 4 {% block a %}{{ self.a(1) }}{% endblock %}
+- @fuel 5
+- {% block a %}{{ self.a(1) }}{% endblock %} =>  => UnknownMethod
+- @fuel 10000
+- &req =>  => InvalidOperation
+- {% block a required %}{% endblock %} =>  => InvalidOperation
+- {% extends "req" %} =>  => InvalidOperation
+- {% extends "req" %}{% block a %}ok{% endblock %} => ok => 4
+- {% block a %}{% endblock %}{% block a %}{% endblock %} =>  => SyntaxError
+- {% block a %}{% block a %}{% endblock %}{% endblock %} =>  => SyntaxError
+- {% block a %}{% endblock b %} =>  => SyntaxError
+- {% for x in [1] %}{% block a %}{% break %}{% endblock %}{% endfor %} =>  => SyntaxError
+- @template q {{ x }}
+- {% set x = 1 %}{% extends "q" %}{% set x = 2 %} => 2 => 7
+- @template q {% set x = 4 %}{% block a %}{% endblock %}{% with x = 5 %}{% block b %}{% endblock %}{{ self.a() }}{% endwith %}
+- {% extends "q" %}{% block a %}{{ x }}{% endblock %} => 45 => 13
+- @owned q {% for n in [1,2] %}{% block a %}{% endblock %}{% endfor %}
+- {% extends "q" %}{% block a %}{{ n }}{% endblock %} => 12 => 18
+- @template q {% block a %}{% endblock %}{{ f() }}
+- {% extends "q" %}{% macro f() %}M{% endmacro %}{% block a %}{{ f() }}{% endblock %} => MM => 13
+- @name p.html
+- {% block a %}<b>{% endblock %}{% set s = self.a() %}{{ s }}{{ self.a() ~ "" }} => <b><b>&lt;b&gt; => 14
+- @name <string>
+- {% extends "base" %}{% set s = self.a() %}{% block a %}c{% endblock %} => B:c => 8
+- {% extends "base" %}{% block a %}{% set s = super() %}[{{ s }}]{% endblock %} => B:[x] => 11
+- @template q {% block a %}2{{ y.z }}{% endblock %}
+- @short 8 {% extends "q" %}{% block a %}1{{ super() }}{% endblock %}
+- @fuel 9
+- {% extends "q" %}{% block a %}1{{ super() }}{% endblock %} => 12 => EvalBlock>UndefinedError
+- @fuel 10000
+- @template p {{ "<" }}{% block a %}{% endblock %}
+- @name c.html
+- {% extends "p" %}{% block a %}{{ "<" }}{% endblock %} => &lt;&lt; => 7
+- @template p.html {{ "<" }}{% block a %}{% endblock %}
+- @name t
+- {% extends "p.html" %}{% block a %}{{ "<" }}{% endblock %} => << => 7 => name p.html
+- @name <string>
+- {{ by_block("a") }}{% block a %}<{% endblock %} => << => 6
+- {{ by_block("no") }}{% block a %}<{% endblock %} =>  => UnknownBlock
+- @name p.html
+- {{ by_block("a") }}{% block a %}<{% endblock %} => &lt;< => 6
+- @name <string>
+- @short 2 {% extends "base" %}{{ nope() }}
+- @fuel 3
+- {% extends "base" %}{{ nope() }} =>  => UnknownFunction
+- @short 4 {% extends "base" %}{% set s = 1 // 0 %}
+- @fuel 5
+- {% extends "base" %}{% set s = 1 // 0 %} =>  => InvalidOperation
+- @fuel 10000
+- {% for x in [[1]] recursive %}{% block b %}{{ loop(x) }}{% endblock %}{% endfor %} =>  => InvalidOperation
+- {% if false %}{% block b %}{% for x in [1] %}{{ y.z }}{% endfor %}{% endblock %}{% endif %}ok => ok => ok"#;
+
+/// A source; the name of the template that the state of its render stands in; the names that it
+/// exports; and calls of its blocks, each with a text behind `:` or with the kinds of a fault
+/// behind `!`.
+static STATES: [&str; 11] = [
+    "{% if false %}{% block b %}{% for x in [1] %}{{ y.z }}{% endfor %}{% endblock %}{% endif %}ok => <string> =>  => b!UndefinedError b!UndefinedError no!UnknownBlock",
+    "{% set v = 1 %}{% if false %}{% block b %}{% for x in [1] %}{% set w = 3 %}{{ y.z }}{% endfor %}{% endblock %}{% block c %}{% set w = 2 %}{{ v }}{{ w }}{% endblock %}{% endif %} => <string> => v => c:12 b!UndefinedError c:12 no!UnknownBlock b!UndefinedError c:12",
+    r#"{% extends "mid" %}{% block a %}c{{ super() }}{% endblock %} => base =>  => a:cmx a:cmx"#,
+    r#"{% set v = 1 %}{% extends "hidden" %}{% block a %}1{{ super() }}{% endblock %}{% block c %}{{ v }}{% endblock %} => hidden => v => a!EvalBlock>UndefinedError c:1 a!EvalBlock>UndefinedError"#,
+    "{% if false %}{% block a required %}{% endblock %}{% endif %} => <string> =>  => a!InvalidOperation a!InvalidOperation",
+    "{% if false %}{% block a %}{{ super() }}{% endblock %}{% endif %} => <string> =>  => a!InvalidOperation a!InvalidOperation",
+    "{% if false %}{% block a %}x{% endblock %}{% block b %}[{{ self.a() }}]{% endblock %}{% block c %}{{ self.b() }}{{ self.no() }}{% endblock %}{% endif %} => <string> =>  => b:[x] c!UnknownBlock b:[x]",
+    r#"{% if false %}{% block a %}{% extends "base2" %}q{% endblock %}{% endif %} => <string> =>  => a:P"#,
+    r#"{% if false %}{% block a %}{% autoescape "html" %}{{ y.z }}{% endautoescape %}{% endblock %}{% block b %}{{ "<" }}{% endblock %}{% endif %} => <string> =>  => b:< a!UndefinedError b:<"#,
+    "{% if false %}{% block a %}{{ 1|kept }}{% endblock %}{% block b %}{{ read() }}{% endblock %}{% block c %}{{ keep() }}{% endblock %}{% endif %} => <string> =>  => b: a!MissingArgument b:1 c:2 b:1",
+    "{% set n = namespace(v=0) %}{% if false %}{% block b %}{% set n.v = n.v + 1 %}{{ n.v }}{% endblock %}{% endif %} => <string> => n => b:1 b:2",
+];
+
+/// Whether a state stands where its row says, in no block.
+fn stands(state: &Left<'_>, row: &Row<'_>) -> bool {
+    state.name() == row.text
+        && state.current_block().is_none()
+        && state.auto_escape() == AutoEscape::None
+        && lists(&state.exports(), row.end)
+}
+
+/// Whether a block gives this text.
+fn gives(state: &mut Left<'_>, block: &str, text: &str) -> bool {
+    match state.render_block(block) {
+        Ok(found) => found.as_str() == text,
+        Err(_) => false,
+    }
+}
+
+/// Whether it is a fault of these kinds.
+fn faults(state: &mut Left<'_>, block: &str, kinds: &str) -> bool {
+    match state.render_block(block) {
+        Ok(_) => false,
+        Err(error) => is_chain(&error, kinds),
+    }
+}
+
+/// Whether a call comes to what stands behind it.
+fn is_answered(state: &mut Left<'_>, call: &str) -> bool {
+    if let Some((block, kinds)) = call.split_once('!') {
+        return faults(state, block, kinds);
+    }
+    let (block, text) = call.split_once(':').unwrap_or((call, ""));
+    gives(state, block, text)
+}
+
+/// Whether all calls of a row do, and the state stands behind each as it stood before.
+fn are_answered(state: &mut Left<'_>, row: &Row<'_>) -> bool {
+    for call in row.left.split(' ') {
+        if !is_answered(state, call) || !stands(state, row) {
+            return false;
+        }
+    }
+    true
+}
+
+/// Whether the state of a row's render is as the row says.
+fn is_state(environment: &Rows<'_>, row: &Row<'_>) -> Result<bool, Error> {
+    let template = environment.template_from_str(row.source)?;
+    let mut ids = StateIds::new();
+    let captured = template.render_captured_to(&mut ids, Value::undefined(), &mut NullWriter)?;
+    let (_output, mut state) = captured.into_parts();
+    Ok(stands(&state, row) && are_answered(&mut state, row))
+}
+
+/// Asks states for their blocks.
+pub(crate) fn expect_states(environment: &Rows<'_>) -> Result<(), Fail> {
+    for line in STATES {
+        let row = row_of(line);
+        if !is_state(environment, &row)? {
+            return Err(Fail::new(row.source));
+        }
+    }
+    Ok(())
+}
+
+/// The source of a template that extends the one of a name, and goes on with the rest.
+fn extending(alloc: Global, parent: &str, rest: &str) -> Result<String, Error> {
+    let mut source = String::from_str(alloc, "{% extends '")?;
+    source.push_str(parent)?;
+    source.push_str("' %}")?;
+    source.push_str(rest)?;
+    Ok(source)
+}
+
+/// Adds 400 templates: t0 is the first source, and each one behind extends the one before it.
+fn add_chain(
+    alloc: Global,
+    environment: &mut Rows<'_>,
+    first: &str,
+    rest: &str,
+) -> Result<(), Error> {
+    let mut parent = String::from_str(alloc, "t0")?;
+    environment.add_template_owned("t0", String::from_str(alloc, first)?)?;
+    for number in 1..400_usize {
+        let name = format!(in alloc; "t{number}")?;
+        let source = extending(alloc, parent.as_str(), rest)?;
+        environment.add_template_owned(name.as_str(), source)?;
+        parent = name;
+    }
+    Ok(())
+}
+
+/// The text of the last one.
+fn rendered(environment: &Rows<'_>) -> Result<String, Error> {
+    let template = environment.get_template("t399")?;
+    template.render(&mut StateIds::new(), Value::undefined())
+}
+
+/// Whether it is that of the first one.
+fn is_rendered(environment: &Rows<'_>) -> Result<bool, Error> {
+    let text = rendered(environment)?;
+    Ok(text.as_str() == "x")
+}
+
+/// Whether it lies too deep, behind so many blocks.
+fn is_too_deep(environment: &Rows<'_>, blocks: usize) -> bool {
+    match rendered(environment) {
+        Ok(_) => false,
+        Err(error) => {
+            let (depth, fault) = fault_of(&error);
+            depth == blocks
+                && fault.kind() == ErrorKind::InvalidOperation
+                && fault.cause().is_none()
+        }
+    }
+}
+
+/// A failure of this name, where something isn't so.
+fn expect(holds: bool, name: &str) -> Result<(), Fail> {
+    if holds {
+        return Ok(());
+    }
+    Err(Fail::new(name))
+}
+
+/// Renders long chains of templates, also with a block that runs the next one. Under a limit that is a
+/// fault behind as many blocks as there are scopes but those of the root and of the first block.
+pub(crate) fn expect_chains(alloc: Global, environment: &mut Rows<'_>) -> Result<(), Fail> {
+    add_chain(alloc, environment, "x", "")?;
+    expect(is_rendered(environment)?, "a chain of parents")?;
+    let first = "{% block a %}x{% endblock %}";
+    let rest = "{% block a %}{{ super() }}{% endblock %}";
+    add_chain(alloc, environment, first, rest)?;
+    expect(is_rendered(environment)?, "a chain of blocks")?;
+    environment.set_recursion_limit(100);
+    expect(is_too_deep(environment, 98), "a chain that is too deep")?;
+    environment.set_recursion_limit(500);
+    Ok(())
+}
