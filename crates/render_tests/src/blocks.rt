@@ -218,6 +218,42 @@ pub(crate) fn expect_states(environment: &Rows<'_>) -> Result<(), Fail> {
     Ok(())
 }
 
+/// Whether a block, written into a sink that takes so many bytes, ends with this kind, or none, and the sink has this.
+fn is_written(
+    alloc: Global,
+    state: &mut Left<'_>,
+    block: &str,
+    room: usize,
+    kind: Option<ErrorKind>,
+    text: &str,
+) -> bool {
+    let mut writer = Limited::new(Counted::new(Vec::new(alloc)), room);
+    let found = match state.render_block_to_write(block, &mut writer) {
+        Ok(()) => None,
+        Err(error) => Some(error.kind()),
+    };
+    found == kind && writer.inner().inner().as_slice() == text.as_bytes()
+}
+
+/// Whether blocks of a state are written: whole, into a sink with an end, and with a fault.
+fn are_written(alloc: Global, environment: &Rows<'_>) -> Result<bool, Error> {
+    let source = "{% if false %}{% block b %}ab{{ 1 }}{% endblock %}{% block c %}d{{ y.z }}{% endblock %}{% endif %}";
+    let template = environment.template_from_str(source)?;
+    let mut ids = StateIds::new();
+    let captured = template.render_captured_to(&mut ids, Value::undefined(), &mut NullWriter)?;
+    let (_output, mut state) = captured.into_parts();
+    Ok(is_written(alloc, &mut state, "b", 9, None, "ab1")
+        && is_written(alloc, &mut state, "b", 1, Some(ErrorKind::WriteFailure), "a")
+        && is_written(alloc, &mut state, "c", 9, Some(ErrorKind::UndefinedError), "d")
+        && is_written(alloc, &mut state, "no", 9, Some(ErrorKind::UnknownBlock), "")
+        && is_written(alloc, &mut state, "b", 9, None, "ab1"))
+}
+
+/// Writes blocks of a state.
+pub(crate) fn expect_written(alloc: Global, environment: &Rows<'_>) -> Result<(), Fail> {
+    expect(are_written(alloc, environment)?, "blocks that are written")
+}
+
 /// The source of a template that extends the one of a name, and goes on with the rest.
 fn extending(alloc: Global, parent: &str, rest: &str) -> Result<String, Error> {
     let mut source = String::from_str(alloc, "{% extends '")?;

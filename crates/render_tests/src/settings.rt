@@ -215,6 +215,7 @@ fn expect_tables(alloc: Global, environment: &mut Rows<'_>) -> Result<(), Fail> 
     add_objects(environment)?;
     blocks::add_layouts(environment)?;
     blocks::expect_states(environment)?;
+    blocks::expect_written(alloc, environment)?;
     blocks::expect_chains(alloc, environment)?;
     for table in TABLES {
         expect_table(alloc, environment, table)?;
