@@ -1,12 +1,12 @@
 -- What the block means that a state is asked for, and what its run answers.
-use Rattle.std.proofs.Common.{◌≡◌, ◌≢◌, ◌∙◌, ◌++◌, ℕ, List, [], ◌∷◌, Option, Result, Ok, Err, String, string_bytes, Bool, true, false, true≢false}
+use Rattle.std.proofs.Common.{◌≡◌, ◌≢◌, ◌∙◌, ◌+◌, ◌++◌, ℕ, List, [], ◌∷◌, Option, Result, Ok, Err, String, string_bytes, Bool, true, false, true≢false}
 use Rattle.std.proofs.Common.{refl, sym, ap, subst}
 use Rattle.std.specs.declared.alloc.Global.{Global}
 use Rattle.std.specs.Io.KnownBytes.{Appends}
 use Rattle.tm_values.specs.declared.error.ErrorKind.{ErrorKind}
 use Rattle.tm_values.specs.declared.error.ErrorKind.TheVariants.{WriteFailure}
 use Rattle.tm_output.specs.Counts.{AppendsBeginning}
-use Rattle.tm_output.specs.Pieces.{appends_nothing}
+use Rattle.tm_output.specs.Pieces.{appends_nothing, beginning_nothing}
 use Rattle.tm_meaning.specs.Memory.{is_want_of_memory}
 use Rattle.tm_meaning.specs.World.{World, HostValue}
 use Rattle.tm_meaning.specs.Tree.{Trees, empty}
@@ -27,23 +27,16 @@ use Rattle.tm_state.specs.declared.saved.SavedBlock.{SavedBlock}
 use Rattle.tm_tables.specs.Stated.{StatedObjects}
 use Rattle.tm_vm.proofs.Loop.{undone_is}
 use Rattle.template_machine.specs.Environment.{TemplateValue, host_of, trees}
-use Rattle.template_machine.specs.Renders.{answer_by, answer_of, block_meaning, meaning_from, IsCaptured, IsEntered, IsRun}
+use Rattle.template_machine.specs.Renders.{answer_by, answer_of, block_meaning, meaning_from, IsEntered, IsRun}
 use Rattle.template_machine.specs.Renders.{Ran, run_as_meant, run_by_writer, run_by_memory}
-use Rattle.template_machine.specs.Renders.{BlockWritten, block_as_meant, block_by_writer, block_by_memory}
 
 -- ---------------------------------------------------------------- ends
--- the world of an end that is done, and the fault of one that isn't
+-- the world of an end that is done
 left_by : (e : Ending) (x left : World) → answer_by e x ≡ Ok left → x ≡ left
 left_by done x left is = cc is
 left_by leave x left is = cc is
 left_by next x left is = cc is
 left_by (fault chain) x left is = absurd (cc is)
-
-fault_by : (e : Ending) (x : World) (chain : List ErrorKind) → answer_by e x ≡ Err chain → e ≡ fault chain
-fault_by done x chain is = absurd (cc is)
-fault_by leave x chain is = absurd (cc is)
-fault_by next x chain is = absurd (cc is)
-fault_by (fault why) x chain is = let same : why ≡ chain = cc is in ap (λ c. fault c) same
 
 -- ---------------------------------------------------------------- what a block means
 module _ (host : HostValue) (trees : Trees) (b : List ℕ) (w : World) where
@@ -166,10 +159,10 @@ module _ {O : Type 0} (stated : O → StatedObjects) (t : TemplateValue O) (b : 
       let kind : kinds ≡ why = cc is in absurd (true≢false (sym memory ∙ ap is_want_of_memory (sym kind ∙ sym same) ∙ own))
 
 -- a block that is refused
-pub block_refused : {O : Type 0} (stated : O → StatedObjects) (t : TemplateValue O) (b : List ℕ) (w : World) (old : List Capture)
+refused_ran : {O : Type 0} (stated : O → StatedObjects) (t : TemplateValue O) (b : List ℕ) (w : World) (old : List Capture)
     (told : Option (List ℕ)) (failures : ℕ) (chain : List ErrorKind) → enter_block (host_of stated t) b w ≡ refused chain w →
     Ran (block_meaning stated t b w) (Err (halt.Fault chain)) w old told told failures failures
-block_refused stated t b w old told failures chain is =
+refused_ran stated t b w old told failures chain is =
     subst (λ m. Ran m (Err (halt.Fault chain)) w old told told failures failures)
     (sym (refused_is (host_of stated t) (trees t) b w chain is))
     (run_as_meant (refl, refl) (nothing old) refl)
@@ -178,54 +171,29 @@ block_refused stated t b w old told failures chain is =
     nothing [] = appends_nothing told
     nothing (k ∷ ks) = appends_nothing told
 
--- ---------------------------------------------------------------- its text in a capture, and in a writer
+pub block_refused : {O : Type 0} (stated : O → StatedObjects) (t : TemplateValue O) (b : List ℕ) (w left : World) (old : List Capture)
+    (told : Option (List ℕ)) (failures : ℕ) (chain : List ErrorKind) → left ≡ w →
+    (is_want_of_memory chain ≡ false → enter_block (host_of stated t) b w ≡ refused chain w) →
+    Ran (block_meaning stated t b w) (Err (halt.Fault chain)) left old told told failures failures
+block_refused stated t b w left old told failures chain same is =
+    subst (λ x. Ran (block_meaning stated t b w) (Err (halt.Fault chain)) x old told told failures failures) (sym same)
+    (by_kind (is_want_of_memory chain) refl)
+  where
+    by_kind : (memory : Bool) → is_want_of_memory chain ≡ memory →
+        Ran (block_meaning stated t b w) (Err (halt.Fault chain)) w old told told failures failures
+    by_kind true e = run_by_memory chain refl e (beginning_nothing _ _) refl
+    by_kind false e = refused_ran stated t b w old told failures chain (is e)
+
+-- ---------------------------------------------------------------- its text in a capture
 abbrev text_of : List Capture → List ℕ
 text_of [] = []
 text_of (k ∷ ks) = k.text
 
 module _ (m : Outcome) (left : World) (told now : Option (List ℕ)) where
-  pub text_done : (new rest : List Capture) (heard : Bool) (text : List ℕ) (failures count : ℕ) →
-      Ran m (Ok new) left (new_capture true ∷ []) told now failures count →
+  pub text_done : (old new rest : List Capture) (heard : Bool) (text : List ℕ) (failures count : ℕ) → old ≡ new_capture true ∷ [] →
+      Ran m (Ok new) left old told now failures count →
       new ≡ record { heard = heard; text = text } ∷ rest → (text ≡ m.text) × (answer_of m ≡ Ok left)
-  text_done new rest heard text failures count (run_as_meant is appended counted) there =
-      (ap text_of (sym there ∙ is.1), is.0)
-  text_done new rest heard text failures count (run_by_writer is part counted) there = absurd (cc is)
-  text_done new rest heard text failures count (run_by_memory chain is memory part counted) there = absurd (cc is)
-
-  pub text_failed : (why : Halt) (chain : List ErrorKind) (old : List Capture) → chain ≡ error_of why →
-      Ran m (Err why) left old told now 0 0 → IsCaptured (Err chain) m left
-  text_failed halt.Writer chain old same (run_as_meant is appended counted) = absurd is
-  text_failed halt.Writer chain old same (run_by_writer is part counted) = absurd (cc counted)
-  text_failed halt.Writer chain old same (run_by_memory why is memory part counted) = absurd (cc is)
-  text_failed halt.Stuck chain old same (run_as_meant is appended counted) = absurd is
-  text_failed halt.Stuck chain old same (run_by_writer is part counted) = absurd (cc is)
-  text_failed halt.Stuck chain old same (run_by_memory why is memory part counted) = absurd (cc is)
-  text_failed (halt.Fault kinds) chain old same (run_as_meant is appended counted) = λ own.
-      (fault_by m.ending m.world kinds is.0 ∙ ap (λ x. fault x) (sym same), is.1)
-  text_failed (halt.Fault kinds) chain old same (run_by_writer is part counted) = absurd (cc is)
-  text_failed (halt.Fault kinds) chain old same (run_by_memory why is memory part counted) = λ own.
-      let kind : kinds ≡ why = cc is in absurd (true≢false (sym memory ∙ ap is_want_of_memory (sym kind ∙ sym same) ∙ own))
-
-  module _ (failures count : ℕ) where
-    abbrev Came : Result (List Capture) Halt → Type 0
-    Came result = Ran m result left [] told now failures count
-
-    pub written_done : (new : List Capture) → Came (Ok new) → BlockWritten m (Ok tt) left told now failures count
-    written_done new (run_as_meant is appended counted) = block_as_meant is.0 appended counted
-    written_done new (run_by_writer is part counted) = absurd (cc is)
-    written_done new (run_by_memory chain is memory part counted) = absurd (cc is)
-
-    pub written_failed : (why : Halt) (chain : List ErrorKind) → chain ≡ error_of why → Came (Err why) →
-        BlockWritten m (Err chain) left told now failures count
-    written_failed halt.Writer chain same (run_as_meant is appended counted) = absurd is
-    written_failed halt.Writer chain same (run_by_writer is part counted) = block_by_writer (ap (λ x. Err x) same) part counted
-    written_failed halt.Writer chain same (run_by_memory why is memory part counted) = absurd (cc is)
-    written_failed halt.Stuck chain same (run_as_meant is appended counted) = absurd is
-    written_failed halt.Stuck chain same (run_by_writer is part counted) = absurd (cc is)
-    written_failed halt.Stuck chain same (run_by_memory why is memory part counted) = absurd (cc is)
-    written_failed (halt.Fault kinds) chain same (run_as_meant is appended counted) =
-        block_as_meant (is.0 ∙ ap (λ x. Err x) (sym same), is.1) appended counted
-    written_failed (halt.Fault kinds) chain same (run_by_writer is part counted) = absurd (cc is)
-    written_failed (halt.Fault kinds) chain same (run_by_memory why is memory part counted) =
-        let kind : kinds ≡ why = cc is in
-        block_by_memory (ap is_want_of_memory (same ∙ kind) ∙ memory) part counted
+  text_done old new rest heard text failures count one (run_as_meant is appended counted) there =
+      (ap text_of (sym there ∙ is.1 ∙ ap (λ ks. put_in ks m.text) one), is.0)
+  text_done old new rest heard text failures count one (run_by_writer is part counted) there = absurd (cc is)
+  text_done old new rest heard text failures count one (run_by_memory chain is memory part counted) there = absurd (cc is)

@@ -1,7 +1,7 @@
 //! States, and what a render leaves.
 ghost use Rattle.std.specs.Fn.{FnOnceReturnsAtMut};
 ghost use Rattle.std.specs.List.Sorted.{IsStrictlySortedBy};
-ghost use Rattle.std.specs.Prelude.{◌≡◌, ◌+◌, ◌≤◌, [], ◌∷◌, Some, IfErr, IfOk, IfSome, Ok, OnErr, OnOk, length, string_bytes, true};
+ghost use Rattle.std.specs.Prelude.{◌≡◌, ◌+◌, ◌≤◌, [], ◌∷◌, Some, IfErr, IfOk, IfSome, Ok, OnErr, OnOk, false, length, string_bytes, true};
 ghost use Rattle.tm_syntax.specs.Named.{find, name_cmp, texts_of};
 ghost use Rattle.tm_values.specs.Answer.{IsAnswer, IsLent, OkOrOutOfMemory};
 ghost use Rattle.tm_meaning.specs.World.{emitted, find_name, fuel_levels, name_of, records_of, view_of};
@@ -62,7 +62,7 @@ impl<'env, O: Drop> Model for StateOf<'env, O> {
 impl<'env, O: Drop> StateOf<'env, O> {
     /// A state of what a render ran under.
     pub(crate) fn new(rendering: Rendering<'env, O>, kept: StateData) -> StateOf<'env, O>
-        ensures { result ≡ record { template = rendering.entry; world = kept.entry } }
+        ensures { result ≡ record { template = rendering.entry; world = kept } }
     {
         StateOf { rendering, kept }
     }
@@ -362,7 +362,7 @@ impl<'env, O: Parties> StateOf<'env, O> {
 
     /// Puts data in the place of those that are there.
     fn put(&mut self, kept: StateData)
-        ensures { self.new ≡ with_world kept.entry self.old }
+        ensures { self.new ≡ with_world kept self.old }
     {
         self.kept = kept;
     }

@@ -1,0 +1,38 @@
+use Rattle.std.proofs.Common.{◌≡◌, ◌∙◌, ap, length, refl, sym}
+use Rattle.tm_meaning.specs.Machine.{Config, run_from, running}
+use Rattle.tm_meaning.specs.Memory.{is_want_of_memory}
+use Rattle.tm_output.specs.Pieces.{beginning_nothing}
+use Rattle.template_machine.specs.Renders.{run_by_memory}
+use Rattle.template_machine.proofs.Runs.{over_done, over_halted}
+use Rattle.template_machine.proofs.rendering.Rendering.run.Goals as goal
+
+-- no memory for the stream's name
+pub returns-in-Err-clause-ran : goal.returns-in-Err-clause-ran
+returns-in-Err-clause-ran g c = run_by_memory c.from.result refl (ap is_want_of_memory c.from.ensures) (beginning_nothing _ _) refl
+
+pub returns-in-Ok-result-clause-ran : goal.returns-in-Ok-result-clause-ran
+returns-in-Ok-result-clause-ran g c =
+    let old = c.args.state.now in
+    let ks = c.args.captures in
+    let begins : c.new-machine.result ≡ running (run_from old.stream (length ks)) ks old =
+    c.new-machine.ensures ∙ ap (λ s. running (run_from s (length ks)) ks c.take.result) (c.in-Ok.ensures ∙ c.stream.ensures)
+    ∙ ap (λ w. running (run_from old.stream (length ks)) ks w) c.take.ensures in
+    let left : Config = c.run-result.new.self in
+    over_done g.O.Parties.stated c.args.self.now ks left.captures old left.world (g.W.Sink.written c.args.writer.now)
+    (g.W.Sink.written c.run-result.new.writer) (g.W.Sink.failures c.args.writer.now) (g.W.Sink.failures c.run-result.new.writer)
+    c.new-machine.result begins c.requires c.into_parts-captures.result.0 c.into_parts-captures.result.1
+    (sym c.into_parts-captures.ensures.captures) (sym c.into_parts-captures.ensures.state) c.in-Ok-result.ensures.ended
+    c.in-Ok-result.ensures.failures
+
+pub returns-in-Err-result-clause-ran : goal.returns-in-Err-result-clause-ran
+returns-in-Err-result-clause-ran g c =
+    let old = c.args.state.now in
+    let ks = c.args.captures in
+    let begins : c.new-machine.result ≡ running (run_from old.stream (length ks)) ks old =
+    c.new-machine.ensures ∙ ap (λ s. running (run_from s (length ks)) ks c.take.result) (c.in-Ok.ensures ∙ c.stream.ensures)
+    ∙ ap (λ w. running (run_from old.stream (length ks)) ks w) c.take.ensures in
+    let left : Config = c.run-result.new.self in
+    over_halted g.O.Parties.stated c.args.self.now ks left.captures old left.world (g.W.Sink.written c.args.writer.now)
+    (g.W.Sink.written c.run-result.new.writer) (g.W.Sink.failures c.args.writer.now) (g.W.Sink.failures c.run-result.new.writer)
+    c.new-machine.result begins c.requires c.in-Err-result.halt c.into_parts-captures.result.1 (sym c.into_parts-captures.ensures.state)
+    c.in-Err-result.ensures.ended c.in-Err-result.ensures.beginning c.in-Err-result.ensures.failures

@@ -1,0 +1,37 @@
+use Rattle.std.proofs.Common.{List, Result, ap, subst}
+use Rattle.tm_meaning.specs.Machine.{Capture}
+use Rattle.tm_parts.specs.declared.halt.Halt.{Halt}
+use Rattle.tm_parts.specs.declared.halt.Halt.TheVariants as halt
+use Rattle.template_machine.specs.Environment.{TemplateValue}
+use Rattle.template_machine.specs.Renders.{StateValue, block_meaning, meaning_from, Ran}
+use Rattle.template_machine.proofs.Answered.{passed}
+use Rattle.template_machine.proofs.BlockCalls.{block_ran, block_refused}
+use Rattle.template_machine.proofs.state.StateOf.run_block.Goals as goal
+
+pub returns-in_err-saved-clause-ran : goal.returns-in_err-saved-clause-ran
+returns-in_err-saved-clause-ran g c =
+    let s = c.args.self.now in
+    let told = g.W.Sink.written c.args.writer.now in
+    let failures = g.W.Sink.failures c.args.writer.now in
+    let why = c.in_err-saved.field-0.0 in
+    let Came : Result (List Capture) Halt → Type 0 = λ r. Ran (block_meaning g.O.Parties.stated s.template c.args.name.now s.world) r
+    c.enter_block.new.self.world c.args.captures told told failures failures in
+    passed c.from_residual.result Came (halt.Fault why) c.from_residual.ensures.1
+    (block_refused g.O.Parties.stated s.template c.args.name.now s.world c.enter_block.new.self.world c.args.captures told failures why
+    (ap {A = StateValue g.row.O.Denot} (λ x. x.world) c.in_err-saved.ensures.unchanged) c.in_err-saved.ensures.err)
+
+pub returns-clause-ran : goal.returns-clause-ran
+returns-clause-ran g c =
+    let s = c.args.self.now in
+    let mid = c.enter_block.new.self in
+    let left = c.run-result.new.state in
+    let told = g.W.Sink.written c.args.writer.now in
+    let now = g.W.Sink.written c.run-result.new.writer in
+    let failures = g.W.Sink.failures c.args.writer.now in
+    let count = g.W.Sink.failures c.run-result.new.writer in
+    let ran = subst (λ (x : StateValue g.row.O.Denot). Ran (meaning_from g.O.Parties.stated x.template x.world) c.run-result.result left
+    c.args.captures told now failures count) c.self.view_is c.run-result.ensures.ran in
+    block_ran g.O.Parties.stated s.template c.args.name.now s.world left c.args.captures told now failures count c.in_ok-saved.saved mid.world
+    c.run-result.result c.put_back.new.self c.in_ok-saved.ensures.ok
+    (subst (λ (t : TemplateValue g.row.O.Denot). Ran (meaning_from g.O.Parties.stated t mid.world) c.run-result.result left c.args.captures told
+    now failures count) c.in_ok-saved.ensures.template ran) c.put_back.ensures
