@@ -16,6 +16,7 @@ use Rattle.tm_syntax.specs.declared.tree.Stmt.{end_of-Stmt as no_statement, more
 use Rattle.tm_syntax.specs.Forms.{plain, binary}
 use Rattle.tm_meaning.specs.Tree.{Body, TemplateTree}
 use Rattle.tm_meaning.specs.World.{Named, Object, World, callers, depth, name_of}
+use Rattle.tm_meaning.specs.Inheritance.{place_in}
 use Rattle.tm_meaning.specs.declared.reply.Reply.TheVariants.{Further as asks_for, Value as gives}
 use Rattle.tm_meaning.specs.declared.reply.Call.TheVariants as further
 use Rattle.tm_meaning.specs.Rows.{Page, Says, Behind, host_of, trees, world_of, nothing, raw, named, one, two, literal, literal_number}
@@ -97,7 +98,7 @@ abbrev pub EndsIn : Page → List ℕ → Type 0
 EndsIn p name = Behind (λ w. name_of (host_of p) w ≡ name) p
 
 abbrev pub places : World → List ℕ
-places w = each (λ b. b.1.place) w.blocks
+places w = each (λ b. place_in b.0 w.places) w.blocks
 
 -- every list of blocks is at its child's place, of so many
 abbrev pub AtChildren : Page → List ℕ → Type 0

@@ -24,11 +24,11 @@ use Rattle.tm_meaning.specs.declared.run_text.RunText.{RunText}
 use Rattle.tm_meaning.specs.declared.run_text.RunText.TheVariants as texts
 use Rattle.tm_meaning.specs.Memory.{kind_of_wrapping}
 use Rattle.tm_meaning.specs.declared.function.GlobalFunction.TheVariants as own
-use Rattle.tm_meaning.specs.World.{TemplateId, StreamId, block_of, Named, Bindings, find, put, put_each, same_name, Card, Layers}
+use Rattle.tm_meaning.specs.World.{TemplateId, StreamId, block_of, Named, Bindings, find, put, put_each, same_name, Card}
 use Rattle.tm_meaning.specs.World.{choose, HostValue, Scope, Scopes, Loop, World, Object, Fallback, Function, callers, languages, Res, Good}
 use Rattle.tm_meaning.specs.World.{Bad, bind, bad, answered, same_stream, depth, items_over, innermost, records_of, make_namespace, need, check, card_at, view_of, lookup}
 use Rattle.tm_meaning.specs.World.{context_member, place_of, plain_scope, push, captured_text}
-use Rattle.tm_meaning.specs.Inheritance.{one_on, placed_as}
+use Rattle.tm_meaning.specs.Inheritance.{place_in}
 use Rattle.tm_meaning.specs.declared.reply.Reply.{Reply}
 use Rattle.tm_meaning.specs.declared.reply.Reply.TheVariants.{Value as gives, Fault as faults, Further as asks_for}
 use Rattle.tm_meaning.specs.declared.reply.Call.{Call}
@@ -39,10 +39,10 @@ pub data Callee : Type 0 where
   whole : StreamId → Callee
   macro_of : StreamId → ℕ → List Val → Callee
 
--- What is put back behind a run, from the world before it; of a `super()` also the name of the block.
+-- What is put back behind a run, from the world before it.
 pub data Undo : Type 0 where
   of_block : World → Undo
-  of_super : List ℕ → World → Undo
+  of_super : World → Undo
   of_macro : World → Undo
 
 -- A run, what is put back behind it, the kind that is put before its fault, if one is, and what its text is where that is a value.
@@ -78,17 +78,18 @@ abbrev pub block_undone : World → World → World
 block_undone b w = record (cut_to (length b.scopes.frames) b.scopes.outer w) { stream = b.stream; block = b.block; escape = b.escape }
 
 -- However the run ended, only the scopes stay that stood before it, and stream, block, escape and outer depth are those before it; behind a
--- `super()` its list of blocks is at the place before it; behind a macro, which has scopes of its own, lists of blocks and loaded names are
--- those before it. Records, kept values and fuel go on.
+-- `super()` so are the places in lists of blocks; behind a macro, which has scopes of its own, so are these lists too, their places and the
+-- loaded names. Records, kept values and fuel go on.
 abbrev pub undone : Undo → World → World
 undone (of_block b) w = block_undone b w
-undone (of_super x b) w = record (block_undone b w) { blocks = placed_as b.blocks x w.blocks }
+undone (of_super b) w = record (block_undone b w) { places = b.places }
 undone (of_macro b) w = record w {
   scopes = b.scopes;
   stream = b.stream;
   block = b.block;
   escape = b.escape;
   blocks = b.blocks;
+  places = b.places;
   loaded = b.loaded;
 }
 
@@ -107,8 +108,8 @@ abbrev pub is_required : Option Card → Bool
 is_required None = false
 is_required (Some c) = c.required
 
-abbrev pub required_alone : HostValue → StreamId → Layers → Bool
-required_alone host s l = nat_eq (length l.templates) 1 && is_required (card_at host s)
+abbrev pub required_alone : HostValue → StreamId → List TemplateId → Bool
+required_alone host s l = nat_eq (length l) 1 && is_required (card_at host s)
 
 -- the run of a block, needed in this world
 abbrev pub block_call : StreamId → World → NestedCall
@@ -118,15 +119,15 @@ block_call s w = record { callee = whole s; undo = of_block w; wrap = None; text
 abbrev pub enter_block : HostValue → List ℕ → World → Asked
 enter_block host b w =
     ask (need (find b w.blocks) UnknownBlock w) (λ l world1.
-    ask (need (slice_get l.templates l.place) UnknownBlock world1) (λ t world2.
+    ask (need (slice_get l (place_in b world1.places)) UnknownBlock world1) (λ t world2.
     ask (check (not (required_alone host (block_of t b) l)) InvalidOperation world2) (λ _ world3.
     ask (push host (plain_scope (undefined false)) world3) (λ _ world4.
     runs (block_call (block_of t b) w)
     (record world4 { stream = block_of t b; block = Some b })))))
 
 -- the run of the next block of a name, needed in this world; before its fault stands EvalBlock
-abbrev pub super_call : StreamId → List ℕ → World → NestedCall
-super_call s x w = record { callee = whole s; undo = of_super x w; wrap = Some EvalBlock; text = texts.Captured }
+abbrev pub super_call : StreamId → World → NestedCall
+super_call s w = record { callee = whole s; undo = of_super w; wrap = Some EvalBlock; text = texts.Captured }
 
 -- The block behind the one that runs, in a new scope, with the list one place on. Where no block runs, or none is behind it, or the scope
 -- would lie too deep it is refused, before its run.
@@ -134,16 +135,16 @@ abbrev pub enter_super : HostValue → World → Asked
 enter_super host w =
     ask (need w.block InvalidOperation w) (λ x world1.
     ask (need (find x world1.blocks) InvalidOperation world1) (λ l world2.
-    ask (need (slice_get l.templates (l.place + 1)) InvalidOperation world2) (λ t world3.
+    ask (need (slice_get l (place_in x world2.places + 1)) InvalidOperation world2) (λ t world3.
     ask (push host (plain_scope (undefined false)) world3) (λ _ world4.
-    runs (super_call (block_of t x) x w)
-    (record world4 { stream = block_of t x; blocks = put x (one_on l) world4.blocks })))))
+    runs (super_call (block_of t x) w)
+    (record world4 { stream = block_of t x; places = put x (place_in x world4.places + 1) world4.places })))))
 
 -- the blocks of a template, each alone
-abbrev pub alone : TemplateId → List ℕ × Card → List ℕ × Layers
-alone t b = (b.0, record { templates = t ∷ []; place = 0 })
+abbrev pub alone : TemplateId → List ℕ × Card → List ℕ × List TemplateId
+alone t b = (b.0, t ∷ [])
 
-abbrev pub own_blocks : TemplateId → Named Card → Named Layers
+abbrev pub own_blocks : TemplateId → Named Card → Named (List TemplateId)
 own_blocks t bs = each (alone t) bs
 
 -- ---------------------------------------------------------------- macros

@@ -1,36 +1,24 @@
 -- Lists of blocks, and the parents that templates load.
-use Rattle.std.specs.Prelude.{ℕ, suc, ◌+◌, List, [], ◌∷◌, ◌++◌, Option, Some, None, option_map, Bool, not, is_none}
+use Rattle.std.specs.Prelude.{ℕ, suc, List, [], ◌∷◌, ◌++◌, Option, Some, None, Bool, not, is_none}
 use Rattle.std.specs.Prelude.{if◌then◌else◌}
 use Rattle.tm_values.specs.Val.{Val, text_in}
 use Rattle.tm_values.specs.declared.error.ErrorKind.TheVariants.{InvalidOperation, TemplateNotFound}
 use Rattle.tm_syntax.specs.Names.{is_among}
-use Rattle.tm_meaning.specs.World.{TemplateId, entry, Named, find, put, Card, Template, Layers, World, HostValue, Res, Good, bind, need, check}
-use Rattle.tm_meaning.specs.World.{answered, name_of}
+use Rattle.tm_meaning.specs.World.{TemplateId, entry, Named, find, put, Card, Template, World, HostValue, Res, Good, bind, need, check}
+use Rattle.tm_meaning.specs.World.{answered, name_of, or_is}
 
 -- ---------------------------------------------------------------- lists of blocks
--- the list at its next place, and at the place of another one
-abbrev pub one_on : Layers → Layers
-one_on l = record l { place = l.place + 1 }
-
-abbrev pub at_place_of : Option Layers → Layers → Layers
-at_place_of None l = l
-at_place_of (Some before) l = record l { place = before.place }
-
-abbrev pub put_list : List ℕ → Option Layers → Named Layers → Named Layers
-put_list x None ls = ls
-put_list x (Some l) ls = put x l ls
-
--- the list of a name is at the place that it had before
-abbrev pub placed_as : Named Layers → List ℕ → Named Layers → Named Layers
-placed_as before x ls = put_list x (option_map (at_place_of (find x before)) (find x ls)) ls
+-- the place in the list of a name: where none is given, that of the child
+abbrev pub place_in : List ℕ → Named ℕ → ℕ
+place_in x places = or_is (find x places) 0
 
 -- a template's block stands behind those of its name
-abbrev pub behind_all : TemplateId → Option Layers → Layers
-behind_all t None = record { templates = t ∷ []; place = 0 }
-behind_all t (Some l) = record l { templates = l.templates ++ t ∷ [] }
+abbrev pub behind_all : TemplateId → Option (List TemplateId) → List TemplateId
+behind_all t None = t ∷ []
+behind_all t (Some l) = l ++ t ∷ []
 
 -- the blocks of a parent stand behind those that are there
-abbrev pub with_blocks : TemplateId → Named Card → Named Layers → Named Layers
+abbrev pub with_blocks : TemplateId → Named Card → Named (List TemplateId) → Named (List TemplateId)
 with_blocks t [] ls = ls
 with_blocks t (b ∷ bs) ls = with_blocks t bs (put b.0 (behind_all t (find b.0 ls)) ls)
 

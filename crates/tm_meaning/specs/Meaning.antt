@@ -608,6 +608,7 @@ first_world host t id fuel context = record {
   streams = [];
   temps = [];
   blocks = own_blocks t (template_at host t).blocks;
+  places = [];
   loaded = [];
   block = None;
   escape = (template_at host t).escape;

@@ -86,13 +86,9 @@ pub record Loop : Type 0 where
   pub stream : StreamId
   pub kept : Option (List Val)
 
--- The templates that have a block of one name, from child to root, and the place in them.
-pub record Layers : Type 0 where
-  pub templates : List TemplateId
-  pub place : ℕ
-
--- A state: its id, scopes and records, the streams that declared macros, the kept values, the blocks, the names loaded so far,
--- the block that runs, the escape, the stream that runs, the fuel that was set, and the fuel left.
+-- A state: its id, scopes and records, the streams that declared macros, the kept values, for each block the templates that have it, from
+-- child to root, the places in these lists that a `super()` moved, the names loaded so far, the block that runs, the escape, the stream
+-- that runs, the fuel that was set, and the fuel left.
 pub record World : Type 0 where
   pub id : ℕ
   pub scopes : Scopes
@@ -101,7 +97,8 @@ pub record World : Type 0 where
   pub closures : List Bindings
   pub streams : List StreamId
   pub temps : Bindings
-  pub blocks : Named Layers
+  pub blocks : Named (List TemplateId)
+  pub places : Named ℕ
   pub loaded : List (List ℕ)
   pub block : Option (List ℕ)
   pub escape : AutoEscape

@@ -10,17 +10,17 @@ use Rattle.tm_values.specs.declared.error.ErrorKind.TheVariants.{InvalidOperatio
 use Rattle.tm_syntax.specs.declared.instruction.LoopFlags.{LoopFlags}
 use Rattle.tm_meaning.specs.World.{Bindings, choose, with_frames, World, Scopes, Scope, Loop, loop_scope, new_loop, turned_at, turned_of}
 use Rattle.tm_meaning.specs.World.{top_mark, next_turn, without_locals, cleared, Res, Good, Bad, pop, depth, without_first, stored_in}
-use Rattle.tm_meaning.specs.World.{own_closure, put_at, put_in, put_enclosed, store, with_escape, Layers, with_own, one_closure_more}
+use Rattle.tm_meaning.specs.World.{own_closure, put_at, put_in, put_enclosed, store, with_escape, with_own, one_closure_more}
 use Rattle.tm_meaning.specs.World.{closing_over, is_there, with_stream}
 use Rattle.tm_meaning.specs.Calls.{keeping_at, is_changed, outermost, undone, of_block, of_super, of_macro}
 use Rattle.tm_meaning.specs.declared.mark.LoopMark.{LoopMark}
 use Rattle.tm_simulation.specs.Kept.{shape, shapes, GoesOn, bare, LieOver, BlocksGrow, NamesGrow}
-use Rattle.tm_simulation.proofs.Parents.{blocks_same, blocks_then, blocks_placed, blocks_behind, names_same, names_then, count_fewer}
-use Rattle.tm_meaning.specs.Inheritance.{one_on, with_blocks, names_left}
+use Rattle.tm_simulation.proofs.Parents.{blocks_same, blocks_then, blocks_behind, names_same, names_then, count_fewer}
+use Rattle.tm_meaning.specs.Inheritance.{with_blocks, names_left}
 use Rattle.tm_meaning.specs.World.{HostValue, Template}
 use Rattle.tm_meaning.specs.declared.stream.TemplateId.TheVariants.{Entry as entry}
 use Rattle.tm_meaning.specs.declared.stream.StreamId.{StreamId}
-use Rattle.tm_syntax.specs.Named.{name_cmp, find, put, put_each}
+use Rattle.tm_syntax.specs.Named.{Named, name_cmp, put, put_each}
 use Rattle.std.specs.Ordering.{match_ordering}
 use Rattle.std.specs.declared.cmp.Ordering.{Ordering}
 use Rattle.std.specs.declared.cmp.Ordering.TheVariants.{Less, Equal, Greater}
@@ -100,6 +100,7 @@ pub record Lasts (old new : World) : Type 0 where
   pub temps : length old.temps ≤ length new.temps
   pub loaded : NamesGrow old.loaded new.loaded
   pub blocks : BlocksGrow old.blocks new.blocks
+  pub same_places : new.places ≡ old.places
 
 -- However they end: what was there lasts, the scopes that stood are there, but for the names of the innermost one, and stream and block
 -- are as before.
@@ -128,6 +129,7 @@ lasts_then {a = a} {b = b} {c = c} h k = record {
   temps = omega (arith, h.temps, k.temps);
   loaded = names_then a.loaded b.loaded c.loaded h.loaded k.loaded;
   blocks = blocks_then a.blocks b.blocks c.blocks h.blocks k.blocks;
+  same_places = k.same_places ∙ h.same_places;
 }
 
 pub advances_then : {a b c : World} → Advances a b → Advances b c → Advances a c
@@ -173,6 +175,7 @@ lasts_to left loops namespaces temps scopes stream block escape w less more_loop
   temps = more_temps;
   loaded = names_same w.loaded;
   blocks = blocks_same w.blocks;
+  same_places = refl;
 }
 
 lasts_anywhere : (scopes : Scopes) (stream : StreamId) (block : Option (List ℕ)) (escape : AutoEscape) (w : World) →
@@ -210,6 +213,7 @@ lasts_by_closures w cs more = record {
   temps = omega arith;
   loaded = names_same w.loaded;
   blocks = blocks_same w.blocks;
+  same_places = refl;
 }
 
 -- what lasts, with scopes, stream, block and escape as they are
@@ -329,6 +333,7 @@ stream_kept s w = kept_lasting (record {
   temps = omega arith;
   loaded = names_same w.loaded;
   blocks = blocks_same w.blocks;
+  same_places = refl;
 }) refl refl refl refl
 
 pub store_kept : (x : List ℕ) (v : Val) (w : World) → Kept w (store x v w)
@@ -413,6 +418,7 @@ kept_in s {w = w} {v = v} h =
           temps = l.temps;
           loaded = l.loaded;
           blocks = l.blocks;
+          same_places = l.same_places;
         };
         scopes = a.scopes;
         outer = a.outer;
@@ -449,21 +455,19 @@ pub undone_scopes : (s : Scope) (stream : StreamId) (block : Option (List ℕ)) 
 undone_scopes s stream block w v l = undone_scopes_at w.scopes.outer s stream block w v l
 
 -- the very scopes are there behind a `super()` too
-pub super_undone_scopes : (s : Scope) (stream : StreamId) (x : List ℕ) (l : Layers) (w v : World) →
-    Advances (in_stream v.stream (record (within s w) { stream = stream; blocks = put x (one_on l) w.blocks })) v →
-    (undone (of_super x w) v).scopes ≡ w.scopes
-super_undone_scopes s stream x l w v h =
+pub super_undone_scopes : (s : Scope) (stream : StreamId) (places : Named ℕ) (w v : World) →
+    Advances (in_stream v.stream (record (within s w) { stream = stream; places = places })) v → (undone (of_super w) v).scopes ≡ w.scopes
+super_undone_scopes s stream places w v h =
     ap (λ frames. record { frames = frames; outer = w.scopes.outer }) (outermost_below s w.scopes.frames v.scopes.frames h.scopes)
 
 pub undone_kept : (s : Scope) (stream : StreamId) (block : Option (List ℕ)) (w v : World) →
     Advances (in_stream v.stream (record (within s w) { stream = stream; block = block })) v → Kept w (undone (of_block w) v)
 undone_kept s stream block w v l = undone_at w.scopes.outer s stream block w v l
 
--- The same behind a `super()`, whose list was one on meanwhile.
-pub super_undone_kept : (s : Scope) (stream : StreamId) (x : List ℕ) (l : Layers) (w v : World) → find x w.blocks ≡ Some l →
-    Advances (in_stream v.stream (record (within s w) { stream = stream; blocks = put x (one_on l) w.blocks })) v →
-    Kept w (undone (of_super x w) v)
-super_undone_kept s stream x l w v found h =
+-- The same behind a `super()`, in whose run the places were others.
+pub super_undone_kept : (s : Scope) (stream : StreamId) (places : Named ℕ) (w v : World) →
+    Advances (in_stream v.stream (record (within s w) { stream = stream; places = places })) v → Kept w (undone (of_super w) v)
+super_undone_kept s stream places w v h =
     let k = h.lasts in
     kept_lasting (record {
       same_id = k.same_id;
@@ -475,8 +479,9 @@ super_undone_kept s stream x l w v found h =
       streams = k.streams;
       temps = k.temps;
       loaded = k.loaded;
-      blocks = blocks_placed x l w.blocks v.blocks found k.blocks;
-    }) (super_undone_scopes s stream x l w v h) refl refl refl
+      blocks = k.blocks;
+      same_places = refl;
+    }) (super_undone_scopes s stream places w v h) refl refl refl
 
 -- A parent is loaded.
 pub loading_kept : (x : List ℕ) (t : Template) (w : World) →
@@ -492,6 +497,7 @@ loading_kept x t w = kept_lasting (record {
   temps = omega arith;
   loaded = (x ∷ [], refl);
   blocks = blocks_behind (entry x) t.blocks w.blocks;
+  same_places = refl;
 }) refl refl refl refl
 
 -- No more names are left to be loaded.
@@ -518,6 +524,7 @@ macro_undone_kept scopes stream w v h =
       temps = l.temps;
       loaded = names_same w.loaded;
       blocks = blocks_same w.blocks;
+      same_places = refl;
     }) refl refl refl refl
 
 -- ---------------------------------------------------------------- loops
@@ -567,6 +574,7 @@ kept_turned g w world1 k =
           temps = l.temps;
           loaded = l.loaded;
           blocks = l.blocks;
+          same_places = l.same_places;
         };
         scopes = a.scopes;
         outer = a.outer;

@@ -16,7 +16,7 @@ use Rattle.tm_meaning.specs.World.{choose, unpacked_items, emitted, escape_for, 
 use Rattle.tm_meaning.specs.World.{innermost}
 use Rattle.tm_meaning.specs.World.{items_over, Res, Good, Bad}
 use Rattle.tm_meaning.specs.World.{need, check, answered, depth, lookup, Function, callers, languages, records_of}
-use Rattle.tm_meaning.specs.World.{Layers, plain_scope, Object, View, same_stream}
+use Rattle.tm_meaning.specs.World.{plain_scope, Object, View, same_stream}
 use Rattle.tm_meaning.specs.declared.reply.Reply.{Reply}
 use Rattle.tm_meaning.specs.declared.reply.Reply.TheVariants.{Value as gives, Fault as faults, Further as asks_for}
 use Rattle.tm_meaning.specs.declared.reply.Call.{Call}
@@ -29,7 +29,7 @@ use Rattle.tm_meaning.specs.Calls.{depths_left, by_depths, function_call, value_
 use Rattle.tm_meaning.specs.Calls.{enter_macro, bound_to, known_stream, macro_depth, macro_scopes}
 use Rattle.tm_meaning.specs.Calls.{loop_method, method_in, of_loop, record_at, given_by, replied, required_alone}
 use Rattle.tm_meaning.specs.Calls.{super_call, enter_super, no_values, call_super, call_looked_up}
-use Rattle.tm_meaning.specs.Inheritance.{one_on}
+use Rattle.tm_meaning.specs.Inheritance.{place_in}
 use Rattle.tm_meaning.specs.declared.function.GlobalFunction.{GlobalFunction}
 use Rattle.tm_meaning.specs.declared.function.GlobalFunction.TheVariants as own
 use Rattle.tm_meaning.specs.declared.stream.StreamId.{StreamId}
@@ -100,7 +100,7 @@ pub block_asks_by : (Holds : Asked → Type 0) (host : HostValue) (b : List ℕ)
     Holds (enter_block host b w)
 block_asks_by Holds host b w refuses enters =
     need_asks Holds w (find b w.blocks) UnknownBlock _ (refuses UnknownBlock refl) (λ l _.
-    need_asks Holds w (slice_get l.templates l.place) UnknownBlock _ (refuses UnknownBlock refl) (λ t _.
+    need_asks Holds w (slice_get l (place_in b w.places)) UnknownBlock _ (refuses UnknownBlock refl) (λ t _.
     check_asks Holds w (not (required_alone host (block_of t b) l)) InvalidOperation _ (refuses InvalidOperation refl)
     (push_asks Holds w (plain_scope (undefined false)) (nat_lt (depth w.scopes) host.limit) _ (refuses InvalidOperation refl)
     (λ room. enters (block_of t b) room))))
@@ -114,28 +114,29 @@ block_asks host b w =
     ))
 
 -- a world in which the block behind one of a name was entered
-abbrev pub in_super : StreamId → List ℕ → Layers → World → World
-in_super stream x l w = record (within (plain_scope (undefined false)) w) { stream = stream; blocks = put x (one_on l) w.blocks }
+abbrev pub in_super : StreamId → List ℕ → World → World
+in_super stream x w =
+    record (within (plain_scope (undefined false)) w) { stream = stream; places = put x (place_in x w.places + 1) w.places }
 
 -- So does `super()`.
 pub super_asks_by : (Holds : Asked → Type 0) (host : HostValue) (w : World) →
     ((kind : ErrorKind) → is_raised kind ≡ true → Holds (refused (kind ∷ []) w)) →
-    ((stream : StreamId) (x : List ℕ) (l : Layers) → find x w.blocks ≡ Some l → nat_lt (depth w.scopes) host.limit ≡ true →
-    Holds (runs (super_call stream x w) (in_super stream x l w))) →
+    ((stream : StreamId) (x : List ℕ) → nat_lt (depth w.scopes) host.limit ≡ true →
+    Holds (runs (super_call stream w) (in_super stream x w))) →
     Holds (enter_super host w)
 super_asks_by Holds host w refuses enters =
     need_asks Holds w w.block InvalidOperation _ (refuses InvalidOperation refl) (λ x _.
-    need_asks Holds w (find x w.blocks) InvalidOperation _ (refuses InvalidOperation refl) (λ l found.
-    need_asks Holds w (slice_get l.templates (l.place + 1)) InvalidOperation _ (refuses InvalidOperation refl) (λ t _.
+    need_asks Holds w (find x w.blocks) InvalidOperation _ (refuses InvalidOperation refl) (λ l _.
+    need_asks Holds w (slice_get l (place_in x w.places + 1)) InvalidOperation _ (refuses InvalidOperation refl) (λ t _.
     push_asks Holds w (plain_scope (undefined false)) (nat_lt (depth w.scopes) host.limit) _ (refuses InvalidOperation refl)
-    (λ room. enters (block_of t x) x l found room))))
+    (λ room. enters (block_of t x) x room))))
 
 pub super_asks : (host : HostValue) (w : World) → Asks host w (enter_super host w)
 super_asks host w =
-    super_asks_by (Asks host w) host w (λ kind e. asks_refused host w kind e) (λ stream x l found room. (
+    super_asks_by (Asks host w) host w (λ kind e. asks_refused host w kind e) (λ stream x room. (
       omega arith,
       omega (arith, ltb-true (depth w.scopes) host.limit room),
-      λ world2 h. super_undone_kept (plain_scope (undefined false)) stream x l w world2 found h,
+      λ world2 h. super_undone_kept (plain_scope (undefined false)) stream (put x (place_in x w.places + 1) w.places) w world2 h,
     ))
 
 -- ---------------------------------------------------------------- functions

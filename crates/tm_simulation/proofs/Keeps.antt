@@ -6,17 +6,17 @@ use Rattle.tm_values.specs.declared.error.ErrorKind.{ErrorKind}
 use Rattle.tm_values.specs.declared.error.ErrorKind.TheVariants.{InvalidOperation}
 use Rattle.tm_syntax.specs.Loops.{first_numbers, loops_in, FoundMacro, macros_in}
 use Rattle.tm_meaning.specs.Tree.{Body, Trees}
-use Rattle.tm_meaning.specs.World.{choose, root_of, World, HostValue, Res, Good, Bad, tick, plain_scope, Layers, find}
+use Rattle.tm_meaning.specs.World.{choose, root_of, World, HostValue, Res, Good, Bad, tick, plain_scope, put}
 use Rattle.tm_meaning.specs.Calls.{Callee, whole, macro_of, NestedCall, block_call, undone, runs, super_call, enter_super}
 use Rattle.tm_meaning.specs.Meaning.{over, under, again_of, Run, Outcome, Ending, done, leave, next, fault, Nests, Under, done_by}
 use Rattle.tm_meaning.specs.Meaning.{behind, in_place_of, block_tag, audible, none_waits, at_end, new_run, nests_of, rendered, chain_in}
 use Rattle.tm_meaning.specs.Meaning.{chain_of, macro_body, macro_run, stream_run, restarting, run_of, failed}
-use Rattle.tm_meaning.specs.Inheritance.{names_left}
+use Rattle.tm_meaning.specs.Inheritance.{names_left, place_in}
 use Rattle.tm_simulation.specs.Kept.{UnlessFault, Stays, Grows, EndsThere, PutsBack}
 use Rattle.tm_meaning.specs.declared.stream.TemplateId.{TemplateId}
 use Rattle.tm_meaning.specs.declared.stream.StreamId.{StreamId}
 use Rattle.tm_simulation.specs.Chains.{Arises, IfAny}
-use Rattle.tm_simulation.proofs.Advances.{Kept, advances_then, kept_then, in_stream, undone_scopes, undone_kept, super_undone_kept, super_undone_scopes}
+use Rattle.tm_simulation.proofs.Advances.{Kept, advances_then, kept_then, in_stream, undone_scopes, undone_kept, super_undone_scopes}
 use Rattle.tm_simulation.proofs.Parents.{blocks_same}
 use Rattle.tm_simulation.proofs.Gives.{Gives, RunEnds, run_ends, run_ends_by, run_ends_from, run_ends_behind, run_ends_as, ends_advance}
 use Rattle.tm_simulation.proofs.Gives.{EndingKeeps, OutcomeKeeps, ends_as, ends_from, ends_parents, parents_left, parents_kept}
@@ -181,6 +181,7 @@ run_grows host trees n k heard out w =
       temps = l.lasts.temps;
       loaded = l.lasts.loaded;
       blocks = l.lasts.blocks;
+      same_places = l.lasts.same_places;
       same_block = l.same_block;
       same_escape = unless_fault host o.ending (in_stream o.world.stream w) o.world _ h (λ k. k.same_escape);
     }
@@ -212,7 +213,14 @@ choose_puts_back w false o q h k = k
 
 puts_back_same : (w : World) → PutsBack w w
 puts_back_same w =
-    record { same_scopes = refl; same_stream = refl; same_block = refl; same_escape = refl; same_places = blocks_same w.blocks }
+    record {
+      same_scopes = refl;
+      same_stream = refl;
+      same_block = refl;
+      same_escape = refl;
+      same_places = refl;
+      blocks = blocks_same w.blocks;
+    }
 
 entered_puts_back : (u : Under) (run : Run) (b : List ℕ) (out : List ℕ) (w : World) (stream : StreamId) →
     RunEnds u.host (in_block stream b w) (u.nests (whole stream) (audible run) out (in_block stream b w)) →
@@ -222,12 +230,14 @@ entered_puts_back u run b out w stream ends =
     let o = u.nests (whole stream) (audible run) out (in_block stream b w) in
     let began = in_stream o.world.stream (in_block stream b w) in
     let l = ends_advance u.host began o.ending o.world (run_ends_as u.host (in_block stream b w) o ends) in
+    let k = (undone_kept (plain_scope (undefined false)) stream (Some b) w o.world l).advances.lasts in
     subst (PutsBack w) (sym (behind_world o.ending c run o)) (record {
       same_scopes = undone_scopes (plain_scope (undefined false)) stream (Some b) w o.world l;
       same_stream = refl;
       same_block = refl;
       same_escape = refl;
-      same_places = (undone_kept (plain_scope (undefined false)) stream (Some b) w o.world l).advances.lasts.blocks;
+      same_places = k.same_places;
+      blocks = k.blocks;
     })
 
 pub tag_puts_back : (host : HostValue) (trees : Trees) (n : ℕ) (body : Body) (run : Run) (b : List ℕ) (out : List ℕ) (w : World) →
@@ -239,30 +249,30 @@ tag_puts_back host trees n body run b out w =
     entered_puts_back u run b out w stream (nests_end host trees n (whole stream) (audible run) out (in_block stream b w))))
     (puts_back_same w)
 
-super_entered_puts_back : (u : Under) (run : Run) (out : List ℕ) (w : World) (stream : StreamId) (x : List ℕ) (l : Layers) →
-    find x w.blocks ≡ Some l →
-    RunEnds u.host (in_super stream x l w) (u.nests (whole stream) (audible run) out (in_super stream x l w)) →
-    PutsBack w (in_place_of u run out (runs (super_call stream x w) (in_super stream x l w))).world
-super_entered_puts_back u run out w stream x l found ends =
-    let c : NestedCall = super_call stream x w in
-    let o = u.nests (whole stream) (audible run) out (in_super stream x l w) in
-    let began = in_stream o.world.stream (in_super stream x l w) in
-    let h = ends_advance u.host began o.ending o.world (run_ends_as u.host (in_super stream x l w) o ends) in
+super_entered_puts_back : (u : Under) (run : Run) (out : List ℕ) (w : World) (stream : StreamId) (x : List ℕ) →
+    RunEnds u.host (in_super stream x w) (u.nests (whole stream) (audible run) out (in_super stream x w)) →
+    PutsBack w (in_place_of u run out (runs (super_call stream w) (in_super stream x w))).world
+super_entered_puts_back u run out w stream x ends =
+    let c : NestedCall = super_call stream w in
+    let o = u.nests (whole stream) (audible run) out (in_super stream x w) in
+    let began = in_stream o.world.stream (in_super stream x w) in
+    let h = ends_advance u.host began o.ending o.world (run_ends_as u.host (in_super stream x w) o ends) in
+    let places = put x (place_in x w.places + 1) w.places in
     subst (PutsBack w) (sym (behind_world o.ending c run o)) (record {
-      same_scopes = super_undone_scopes (plain_scope (undefined false)) stream x l w o.world h;
+      same_scopes = super_undone_scopes (plain_scope (undefined false)) stream places w o.world h;
       same_stream = refl;
       same_block = refl;
       same_escape = refl;
-      same_places = (super_undone_kept (plain_scope (undefined false)) stream x l w o.world found h).advances.lasts.blocks;
+      same_places = refl;
+      blocks = h.lasts.blocks;
     })
 
 pub super_puts_back : (host : HostValue) (trees : Trees) (n : ℕ) (body : Body) (run : Run) (out : List ℕ) (w : World) →
     PutsBack w (in_place_of (under host (nests_of host trees n) body) run out (enter_super host w)).world
 super_puts_back host trees n body run out w =
     let u : Under = under host (nests_of host trees n) body in
-    super_asks_by (λ q. PutsBack w (in_place_of u run out q).world) host w (λ kind e. puts_back_same w) (λ stream x l found room.
-    super_entered_puts_back u run out w stream x l found
-    (nests_end host trees n (whole stream) (audible run) out (in_super stream x l w)))
+    super_asks_by (λ q. PutsBack w (in_place_of u run out q).world) host w (λ kind e. puts_back_same w) (λ stream x room.
+    super_entered_puts_back u run out w stream x (nests_end host trees n (whole stream) (audible run) out (in_super stream x w)))
 
 -- ---------------------------------------------------------------- of which kinds its fault is
 if_any : (Has : List ErrorKind → Type 0) (chain : List ErrorKind) → Has chain → IfAny Has chain

@@ -1,76 +1,47 @@
 -- Lists of blocks grow, and fewer names are left to be loaded.
-use Rattle.std.proofs.Common.{◌≡◌, ◌≢◌, ◌⊎◌, inl, inr, ℕ, suc, ◌+◌, ◌≤◌, List, [], ◌∷◌, ◌++◌, Option, Some, None, Bool, true, false, refl, sym}
+use Rattle.std.proofs.Common.{◌≡◌, ◌≢◌, ◌⊎◌, inl, inr, ℕ, suc, ◌+◌, ◌≤◌, List, [], ◌∷◌, ◌++◌, Some, Bool, true, false, refl, sym}
 use Rattle.std.proofs.Common.{ap, ◌∙◌, arith, append_assoc, cond}
-use Rattle.std.specs.Prelude.{◌||◌, option_map, if◌then◌else◌}
+use Rattle.std.specs.Prelude.{◌||◌, if◌then◌else◌}
 use Rattle.std.specs.BTreeMap.{is_at}
 use Rattle.std.proofs.lemmas.List.{append-nil}
 use Rattle.std.proofs.lemmas.Slice.Eq.{bytes_eq-Decides}
 use Rattle.tm_syntax.specs.Named.{Named, name_cmp, same_name, find, put}
 use Rattle.tm_syntax.specs.Names.{is_among}
 use Rattle.tm_syntax.proofs.Named.{find_put, find_put_other, same_or_not, same_text}
-use Rattle.tm_meaning.specs.World.{Card, Template, Layers}
+use Rattle.tm_meaning.specs.World.{Card, Template}
 use Rattle.tm_meaning.specs.declared.stream.TemplateId.{TemplateId}
-use Rattle.tm_meaning.specs.Inheritance.{one_on, at_place_of, put_list, placed_as, behind_all, with_blocks, count_left}
+use Rattle.tm_meaning.specs.Inheritance.{behind_all, with_blocks, count_left}
 use Rattle.tm_simulation.specs.Kept.{BlocksGrow, NamesGrow}
 
 -- ---------------------------------------------------------------- lists of blocks
-same_list : (l : Layers) → Some l ≡ Some (record l { templates = l.templates ++ [] })
-same_list l = ap (λ ts. Some (record l { templates = ts })) (sym (append-nil l.templates))
+same_list : (l : List TemplateId) → Some l ≡ Some (l ++ [])
+same_list l = ap (λ (ts : List TemplateId). Some ts) (sym (append-nil l))
 
-pub blocks_same : (bs : Named Layers) → BlocksGrow bs bs
+pub blocks_same : (bs : Named (List TemplateId)) → BlocksGrow bs bs
 blocks_same bs = λ x l found. ([], found ∙ same_list l)
 
-pub blocks_then : (a b c : Named Layers) → BlocksGrow a b → BlocksGrow b c → BlocksGrow a c
+pub blocks_then : (a b c : Named (List TemplateId)) → BlocksGrow a b → BlocksGrow b c → BlocksGrow a c
 blocks_then a b c h k = λ x l found.
     let first = h x l found in
-    let last = k x (record l { templates = l.templates ++ first.0 }) first.1 in
-    (first.0 ++ last.0, last.1 ∙ ap (λ ts. Some (record l { templates = ts })) (append_assoc l.templates first.0 last.0))
+    let last = k x (l ++ first.0) first.1 in
+    (first.0 ++ last.0, last.1 ∙ ap (λ (ts : List TemplateId). Some ts) (append_assoc l first.0 last.0))
 
 -- a template's block behind those of its name
-behind_by : (t : TemplateId) (x : List ℕ) (ls : Named Layers) (y : List ℕ) (l : Layers) → find y ls ≡ Some l → (y ≡ x) ⊎ (y ≢ x) →
-    (more : List TemplateId) ×
-    (find y (put x (behind_all t (find x ls)) ls) ≡ Some (record l { templates = l.templates ++ more }))
+behind_by : (t : TemplateId) (x : List ℕ) (ls : Named (List TemplateId)) (y : List ℕ) (l : List TemplateId) → find y ls ≡ Some l →
+    (y ≡ x) ⊎ (y ≢ x) →
+    (more : List TemplateId) × (find y (put x (behind_all t (find x ls)) ls) ≡ Some (l ++ more))
 behind_by t x ls y l found (inl same) =
     let there : find x ls ≡ Some l = ap (λ z. find z ls) (sym same) ∙ found in
     let all = put x (behind_all t (find x ls)) ls in
     (t ∷ [], ap (λ z. find z all) same ∙ find_put x (behind_all t (find x ls)) ls ∙ ap (λ o. Some (behind_all t o)) there)
 behind_by t x ls y l found (inr apart) = ([], find_put_other y x apart (behind_all t (find x ls)) ls ∙ found ∙ same_list l)
 
-pub blocks_behind : (t : TemplateId) (bs : Named Card) (ls : Named Layers) → BlocksGrow ls (with_blocks t bs ls)
+pub blocks_behind : (t : TemplateId) (bs : Named Card) (ls : Named (List TemplateId)) → BlocksGrow ls (with_blocks t bs ls)
 blocks_behind t [] ls = blocks_same ls
 blocks_behind t (b ∷ bs) ls =
     let first = put b.0 (behind_all t (find b.0 ls)) ls in
     blocks_then ls first (with_blocks t bs first) (λ y l found. behind_by t b.0 ls y l found (same_or_not y b.0))
     (blocks_behind t bs first)
-
-other_placed : (x y : List ℕ) → y ≢ x → (o : Option Layers) (ls : Named Layers) → find y (put_list x o ls) ≡ find y ls
-other_placed x y apart None ls = refl
-other_placed x y apart (Some l) ls = find_put_other y x apart l ls
-
-placed_by : (x : List ℕ) (l : Layers) (old new : Named Layers) → find x old ≡ Some l → BlocksGrow (put x (one_on l) old) new →
-    (y : List ℕ) (m : Layers) → find y old ≡ Some m → (y ≡ x) ⊎ (y ≢ x) →
-    (more : List TemplateId) × (find y (placed_as old x new) ≡ Some (record m { templates = m.templates ++ more }))
-placed_by x l old new found grow y m there (inl same) =
-    let at = grow x (one_on l) (find_put x (one_on l) old) in
-    let is : Some l ≡ Some m = sym found ∙ ap (λ z. find z old) (sym same) ∙ there in
-    let one : l ≡ m = cc in
-    let grown : Layers = record l { templates = l.templates ++ at.0 } in
-    let moved : Layers = record (one_on l) { templates = l.templates ++ at.0 } in
-    let placed : placed_as old x new ≡ put x grown new =
-    ap (λ o. put_list x (option_map (at_place_of (find x old)) o) new) at.1
-    ∙ ap (λ o. put x (at_place_of o moved) new) found in (
-      at.0,
-      ap (λ z. find z (placed_as old x new)) same ∙ ap (find x) placed ∙ find_put x grown new
-          ∙ ap (λ (k : Layers). Some (record k { templates = k.templates ++ at.0 })) one,
-    )
-placed_by x l old new found grow y m there (inr apart) =
-    let at = grow y m (find_put_other y x apart (one_on l) old ∙ there) in
-    (at.0, other_placed x y apart (option_map (at_place_of (find x old)) (find x new)) new ∙ at.1)
-
--- a list that was one on is at its place again
-pub blocks_placed : (x : List ℕ) (l : Layers) (old new : Named Layers) → find x old ≡ Some l → BlocksGrow (put x (one_on l) old) new →
-    BlocksGrow old (placed_as old x new)
-blocks_placed x l old new found grow = λ y m there. placed_by x l old new found grow y m there (same_or_not y x)
 
 -- ---------------------------------------------------------------- names that are left
 pub names_same : (names : List (List ℕ)) → NamesGrow names names

@@ -1,6 +1,6 @@
 -- What runs keep of their world.
 use Rattle.std.specs.Prelude.{◌≡◌, ◌≤◌, ◌⊎◌, List, [], ◌∷◌, ◌++◌, length, None, Some, ℕ}
-use Rattle.tm_meaning.specs.World.{World, Loop, Scope, Named, Layers, find, root_of}
+use Rattle.tm_meaning.specs.World.{World, Loop, Scope, Named, find, root_of}
 use Rattle.tm_meaning.specs.declared.stream.StreamId.{StreamId}
 use Rattle.tm_meaning.specs.declared.stream.TemplateId.{TemplateId}
 use Rattle.tm_meaning.specs.Meaning.{Ending, fault, Outcome}
@@ -32,11 +32,10 @@ bare (s ∷ ss) = record s { locals = []; own_closure = None } ∷ ss
 abbrev pub LieOver : List Scope → List Scope → Type 0
 LieOver old new = (more : List Scope) × (there : List Scope) × (new ≡ more ++ there) × (bare there ≡ bare old)
 
--- The list of each block that was there has its templates still, and perhaps more behind them, and its place is the same.
-abbrev pub BlocksGrow : Named Layers → Named Layers → Type 0
+-- The list of each block that was there has its templates still, and perhaps more behind them.
+abbrev pub BlocksGrow : Named (List TemplateId) → Named (List TemplateId) → Type 0
 BlocksGrow old new =
-    (x : List ℕ) (l : Layers) → find x old ≡ Some l →
-    (more : List TemplateId) × (find x new ≡ Some (record l { templates = l.templates ++ more }))
+    (x : List ℕ) (l : List TemplateId) → find x old ≡ Some l → (more : List TemplateId) × (find x new ≡ Some (l ++ more))
 
 -- The names that were loaded are there still, and perhaps more behind them.
 abbrev pub NamesGrow : List (List ℕ) → List (List ℕ) → Type 0
@@ -53,8 +52,8 @@ pub record Stays (old : World) (o : Outcome) : Type 0 where
   pub lie_over : LieOver old.scopes.frames o.world.scopes.frames
   pub same_scopes : UnlessFault o.ending (bare o.world.scopes.frames ≡ bare old.scopes.frames)
 
--- A state's records, the values that objects keep, the names loaded and the lists of blocks are never fewer, and the block is as it was,
--- however the run ends.
+-- A state's records, the values that objects keep, the names loaded and the lists of blocks are never fewer, and the places in these lists
+-- and the block are as they were, however the run ends.
 -- Where that is no fault so is the escape.
 pub record Grows (old : World) (o : Outcome) : Type 0 where
   pub loops : GoesOn old.loops o.world.loops
@@ -64,6 +63,7 @@ pub record Grows (old : World) (o : Outcome) : Type 0 where
   pub temps : length old.temps ≤ length o.world.temps
   pub loaded : NamesGrow old.loaded o.world.loaded
   pub blocks : BlocksGrow old.blocks o.world.blocks
+  pub same_places : o.world.places ≡ old.places
   pub same_block : o.world.block ≡ old.block
   pub same_escape : UnlessFault o.ending (o.world.escape ≡ old.escape)
 
@@ -71,10 +71,11 @@ pub record Grows (old : World) (o : Outcome) : Type 0 where
 abbrev pub EndsThere : StreamId → Outcome → Type 0
 EndsThere stream o = (o.world.stream ≡ stream) ⊎ ((t : TemplateId) × (o.world.stream ≡ root_of t))
 
--- What a call replaced is put back: the scopes, the stream, the block and the escape, and each list of blocks is at its place.
+-- What a call replaced is put back: the scopes, the stream, the block, the escape, and the places in lists of blocks, which grow at most.
 pub record PutsBack (old new : World) : Type 0 where
   pub same_scopes : new.scopes ≡ old.scopes
   pub same_stream : new.stream ≡ old.stream
   pub same_block : new.block ≡ old.block
   pub same_escape : new.escape ≡ old.escape
-  pub same_places : BlocksGrow old.blocks new.blocks
+  pub same_places : new.places ≡ old.places
+  pub blocks : BlocksGrow old.blocks new.blocks

@@ -94,7 +94,7 @@ pub fn a_run_keeps_its_state()
 {}
 
 /// A render loses nothing, also where it ends in a fault: no record, no kept value, no name loaded, and no template of a block's list;
-/// the block is as it was, and where it ends in no fault so is the escape.
+/// the places in these lists and the block are as they were, and where it ends in no fault so is the escape.
 pub fn a_render_loses_nothing()
     ensures { (host : HostValue) (trees : Trees) (w : World) → Grows w (rendered host trees w) }
 {}
@@ -106,8 +106,8 @@ pub fn a_render_ends_in_its_stream_or_a_root()
         EndsThere w.stream (rendered host trees w) }
 {}
 
-/// Whatever its run comes to, also a fault, a block's tag leaves the scopes, the stream, the block and the escape as they were before it,
-/// and each list of blocks at its place.
+/// Whatever its run comes to, also a fault, a block's tag leaves the scopes, the stream, the block, the escape and the places in lists of
+/// blocks as they were before it, and no list loses a template.
 pub fn a_block_puts_back_what_it_replaced()
     ensures { (host : HostValue) (trees : Trees) (n : ℕ) (body : Body) (run : Run) (b : List ℕ)
         (out : List ℕ) (w : World) →

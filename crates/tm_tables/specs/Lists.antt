@@ -1,35 +1,52 @@
--- The lists of blocks that a state has, and the names that were loaded.
+-- The lists of blocks that a state has, their places, and the names that were loaded.
 use Rattle.std.specs.Borrow.{Bor}
 use Rattle.std.specs.Map.{keys_of}
-use Rattle.std.specs.Prelude.{◌≡◌, ℕ, List, [], ◌∷◌, Option, Some, None, option_map, is_some}
+use Rattle.std.specs.Prelude.{◌≡◌, ℕ, List, [], ◌∷◌, Option, Some, None, is_some}
+use Rattle.std.specs.declared.alloc.Global.{Global}
+use Rattle.std.specs.declared.rc.Rc.{Rc}
 use Rattle.tm_syntax.specs.Named.{Named, find, put}
 use Rattle.tm_syntax.specs.Names.{is_among}
 use Rattle.tm_syntax.specs.declared.code.BlockCode.{BlockCode}
-use Rattle.tm_meaning.specs.World.{Layers, Template}
+use Rattle.tm_meaning.specs.World.{Template}
 use Rattle.tm_meaning.specs.declared.stream.TemplateId.{TemplateId}
-use Rattle.tm_meaning.specs.Inheritance.{behind_all, put_list}
+use Rattle.tm_meaning.specs.Inheritance.{behind_all}
 
 -- the templates that have a block of each name, and the names of the templates that were loaded
+pub record LoadedValue : Type 0 where
+  pub blocks : Named (List TemplateId)
+  pub names : List (List ℕ)
+
+abbrev pub nothing_loaded : LoadedValue
+nothing_loaded = record { blocks = []; names = [] }
+
+-- what is shared, where anything is loaded
+abbrev pub loaded_in : Option (Rc LoadedValue Global) → LoadedValue
+loaded_in None = nothing_loaded
+loaded_in (Some shared) = shared.value
+
+-- the same of a state, and the places in its lists
 pub record ListsValue : Type 0 where
-  pub blocks : Named Layers
+  pub blocks : Named (List TemplateId)
+  pub places : Named ℕ
   pub loaded : List (List ℕ)
 
 abbrev pub no_lists : ListsValue
-no_lists = record { blocks = []; loaded = [] }
+no_lists = record { blocks = []; places = []; loaded = [] }
 
--- the list of a name, where there is one, is at a place
-abbrev pub at_place : ℕ → Layers → Layers
-at_place n l = record l { place = n }
+abbrev pub loaded_part : ListsValue → LoadedValue
+loaded_part l = record { blocks = l.blocks; names = l.loaded }
 
-abbrev pub placed_at : ℕ → List ℕ → Named Layers → Named Layers
-placed_at n x ls = put_list x (option_map (at_place n) (find x ls)) ls
+-- the templates that have a block of one name, from child to root, and a place in them
+pub record Layers : Type 0 where
+  pub templates : List TemplateId
+  pub place : ℕ
 
 -- a template's block stands behind those of its name
-abbrev pub with_block : TemplateId → List ℕ → Named Layers → Named Layers
+abbrev pub with_block : TemplateId → List ℕ → Named (List TemplateId) → Named (List TemplateId)
 with_block t x ls = put x (behind_all t (find x ls)) ls
 
 -- and so do its blocks of these names
-abbrev pub with_each : TemplateId → List (List ℕ) → Named Layers → Named Layers
+abbrev pub with_each : TemplateId → List (List ℕ) → Named (List TemplateId) → Named (List TemplateId)
 with_each t [] ls = ls
 with_each t (x ∷ xs) ls = with_each t xs (with_block t x ls)
 

@@ -17,7 +17,7 @@ pub struct BlockStack {
 }
 
 impl Model for BlockStack {
-    ghost use Rattle.tm_meaning.specs.World.{Layers};
+    ghost use Rattle.tm_tables.specs.Lists.{Layers};
 
     ghost Value = { Layers };
 

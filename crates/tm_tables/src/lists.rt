@@ -1,94 +1,66 @@
-//! The lists of blocks that a state has, and the names of the templates that it loaded.
+//! The lists of blocks that a state has, their places, and the names of the templates that it loaded.
 ghost use Rattle.std.specs.Map.{keys_of};
 ghost use Rattle.std.specs.Prelude.{◌≡◌, ◌∷◌, ◌++◌, [], IfErr, IfOk, OnErr, OnOk};
-ghost use Rattle.tm_syntax.specs.Named.{find};
+ghost use Rattle.tm_meaning.specs.Inheritance.{place_in};
+ghost use Rattle.tm_syntax.specs.Named.{find, put};
 ghost use Rattle.tm_syntax.specs.Names.{is_among};
-ghost use Rattle.tm_tables.specs.Lists.{no_lists, placed_at, with_block, with_each};
+ghost use Rattle.tm_tables.specs.Lists.{loaded_part, no_lists, with_each};
 ghost use Rattle.tm_values.specs.Answer.{IsLent, OkOrOutOfMemory};
 ghost use Rattle.tm_values.specs.declared.error.ErrorKind.TheVariants.{OutOfMemory};
 
-use crate::block_stack::BlockStack;
+use crate::block_list::BlockList;
+use crate::loaded::Loaded;
 use crate::name_table::NameTable;
 use std::alloc::{AllocError, Global};
 use std::marker::Model;
+use std::mem;
+use std::rc::Rc;
 use tm_meaning::TemplateId;
 use tm_syntax::{BlockCode, Name, NameMap};
 use tm_values::{Error, ErrorKind};
 
-impl NameTable<BlockStack> {
-    /// The list of a name, where there is one, is at a place from here on.
-    fn move_to(&mut self, name: &str, place: usize)
-        ensures { self.new ≡ placed_at place name.now self.old }
-    {
-        if let Ok(at) = self.search(name) {
-            self.entries[at].1.move_to(place);
-        }
-    }
-
-    /// A template's block stands behind those of its name. Fails by OutOfMemory alone, and then all stays as it was.
-    fn append(&mut self, alloc: Global, name: Name, template: TemplateId) -> Result<(), Error>
-        ensures ok { OnOk result (self.new ≡ with_block template name self.old) }
-        ensures kind { IfErr result (λ e. e ≡ OutOfMemory ∷ []) }
-        ensures err { OnErr result (self.new ≡ self.old) }
-    {
-        match self.search(name.as_str()) {
-            Ok(at) => self.entries[at].1.append(template),
-            Err(at) => {
-                let alone = BlockStack::new(alloc, template)?;
-                self.entries.insert(at, (name, alone))?;
-                Ok(())
-            }
-        }
-    }
-
-    /// A template's blocks of these names stand behind those that are there. Fails by OutOfMemory alone, and then some
-    /// may stand there.
-    fn append_each(
-        &mut self,
-        alloc: Global,
-        template: &TemplateId,
-        blocks: &NameMap<BlockCode>,
-    ) -> Result<(), Error>
-        ensures ok { OnOk result
-            (self.new ≡ with_each template.now (keys_of blocks.now) self.old) }
-        ensures kind { IfErr result (λ e. e ≡ OutOfMemory ∷ []) }
-    {
-        for name in blocks.names(alloc)? {
-            let name = Name::new(alloc, name)?;
-            self.append(alloc, name, template.share()?)?;
-        }
-        Ok(())
-    }
-
-    /// The same lists. AllocError for want of memory.
-    fn copy(&self, alloc: Global) -> Result<NameTable<BlockStack>, AllocError>
+impl NameTable<usize> {
+    /// The same places. AllocError for want of memory.
+    fn copy(&self, alloc: Global) -> Result<NameTable<usize>, AllocError>
         ensures { IfOk result (λ copy. copy ≡ self.now) }
     {
         let mut entries = Vec::new(alloc);
         for entry in self.entries.iter() {
             let name = entry.0.share()?;
-            entries.push((name, entry.1.copy(alloc)?))?;
+            entries.push((name, entry.1))?;
         }
         Ok(NameTable { entries })
     }
 }
 
-/// The lists of blocks by name, and the names of the templates that were loaded, in order. A contract sees both.
+/// What is loaded, with an owner more. Fails by OutOfMemory alone.
+fn shared(alloc: Global, loaded: Loaded) -> Result<Rc<Loaded>, Error>
+    ensures { OkOrOutOfMemory result (λ made. made.value ≡ loaded) }
+{
+    match Rc::new(alloc, loaded) {
+        Ok(made) => Ok(made),
+        Err(_) => Err(Error::from(ErrorKind::OutOfMemory)),
+    }
+}
+
+/// The lists of blocks by name, the places in them that aren't the child's, and the names of the templates that were
+/// loaded, in order. Copies share the lists and the names, until one of them gets more. A contract sees all three.
 #[derive(Drop)]
 pub struct Lists {
-    blocks: NameTable<BlockStack>,
-    loaded: Vec<Name>,
-    known: NameTable<()>,
+    loaded: Option<Rc<Loaded>>,
+    places: NameTable<usize>,
 }
 
 impl Model for Lists {
-    ghost use Rattle.tm_tables.specs.Lists.{HasNames, ListsValue};
+    ghost use Rattle.tm_tables.specs.Lists.{ListsValue, loaded_in};
 
     ghost Value = { ListsValue };
 
-    ghost view = { λ s. record { blocks = s.blocks; loaded = s.loaded.items } };
-
-    ghost invariant = { λ s. HasNames s.known s.loaded.items };
+    ghost view = { λ s. record {
+      blocks = (loaded_in s.loaded).blocks;
+      places = s.places;
+      loaded = (loaded_in s.loaded).names;
+    } };
 }
 
 impl Lists {
@@ -97,31 +69,61 @@ impl Lists {
         ensures { result ≡ no_lists }
     {
         Lists {
-            blocks: NameTable::new(alloc),
-            loaded: Vec::new(alloc),
-            known: NameTable::new(alloc),
+            loaded: None,
+            places: NameTable::new(alloc),
         }
     }
 
     /// The list of a name, where there is one.
-    pub fn get(&self, name: &str) -> Option<&BlockStack>
+    pub fn get(&self, name: &str) -> Option<&BlockList>
         ensures { IsLent result (find name.now self.now.blocks) }
     {
-        self.blocks.get(name)
+        match &self.loaded {
+            Some(loaded) => loaded.as_ref().get(name),
+            None => None,
+        }
+    }
+
+    /// The place in the list of a name.
+    pub fn place(&self, name: &str) -> usize
+        ensures { result ≡ place_in name.now self.now.places }
+    {
+        match self.places.get(name) {
+            Some(place) => *place,
+            None => 0,
+        }
     }
 
     /// Whether a name was loaded. Makes log n comparisons for n names.
     pub fn is_loaded(&self, name: &str) -> bool
         ensures { result ≡ is_among name.now self.now.loaded }
     {
-        self.known.get(name).is_some()
+        match &self.loaded {
+            Some(loaded) => loaded.as_ref().has(name),
+            None => false,
+        }
     }
 
-    /// The list of a name, where there is one, is at a place from here on.
-    pub fn move_to(&mut self, name: &str, place: usize)
-        ensures { self.new ≡ record self.old { blocks = placed_at place name.now self.old.blocks } }
+    /// The places, with this one in the list of a name. Fails by OutOfMemory alone.
+    pub fn places_with(
+        &self,
+        alloc: Global,
+        name: Name,
+        place: usize,
+    ) -> Result<NameTable<usize>, Error>
+        ensures { OkOrOutOfMemory result (λ places. places ≡ put name place self.now.places) }
     {
-        self.blocks.move_to(name, place);
+        let mut places = self.places.copy(alloc)?;
+        places.insert(name, place)?;
+        Ok(places)
+    }
+
+    /// These are the places from here on; gives those that were.
+    pub fn replace_places(&mut self, places: NameTable<usize>) -> NameTable<usize>
+        ensures before { result ≡ self.old.places }
+        ensures now { self.new ≡ record self.old { places = places } }
+    {
+        mem::replace(&mut self.places, places)
     }
 
     /// A template's blocks of these names stand behind those that are there. Fails by OutOfMemory alone, and then
@@ -135,39 +137,62 @@ impl Lists {
         ensures ok { OnOk result
             (self.new.blocks ≡ with_each template.now (keys_of blocks.now) self.old.blocks) }
         ensures kind { IfErr result (λ e. e ≡ OutOfMemory ∷ []) }
-        ensures rest { self.new.loaded ≡ self.old.loaded }
+        ensures rest { self.new ≡ record self.old { blocks = self.new.blocks } }
     {
-        self.blocks.append_each(alloc, template, blocks)
+        let names = blocks.names(alloc)?;
+        if names.is_empty() {
+            return Ok(());
+        }
+        if let Some(loaded) = &mut self.loaded {
+            if let Some(own) = Rc::get_mut(loaded) {
+                return own.append(alloc, template, names);
+            }
+        }
+        let mut own = self.copy_loaded(alloc)?;
+        own.append(alloc, template, names)?;
+        self.loaded = Some(shared(alloc, own)?);
+        Ok(())
     }
 
     /// The name is loaded from here on. Fails by OutOfMemory alone, and then all stays as it was.
-    pub fn add_loaded(&mut self, name: Name) -> Result<(), Error>
+    pub fn add_loaded(&mut self, alloc: Global, name: Name) -> Result<(), Error>
         ensures ok { OnOk result
             (self.new ≡ record self.old { loaded = self.old.loaded ++ name ∷ [] }) }
         ensures kind { IfErr result (λ e. e ≡ OutOfMemory ∷ []) }
         ensures err { OnErr result (self.new ≡ self.old) }
     {
-        let key = name.share()?;
-        self.loaded.push(name)?;
-        if self.known.insert(key, ()).is_err() {
-            self.loaded.pop();
-            return Err(Error::from(ErrorKind::OutOfMemory));
+        if let Some(loaded) = &mut self.loaded {
+            if let Some(own) = Rc::get_mut(loaded) {
+                return own.add(name);
+            }
         }
+        let mut own = self.copy_loaded(alloc)?;
+        own.add(name)?;
+        self.loaded = Some(shared(alloc, own)?);
         Ok(())
     }
 
-    /// The same lists and names. Fails by OutOfMemory alone.
+    /// A copy of what is loaded, which nothing else owns. Fails by OutOfMemory alone.
+    fn copy_loaded(&self, alloc: Global) -> Result<Loaded, Error>
+        ensures { OkOrOutOfMemory result (λ copy. copy ≡ loaded_part self.now) }
+    {
+        match &self.loaded {
+            Some(loaded) => loaded.as_ref().copy(alloc),
+            None => Ok(Loaded::new(alloc)),
+        }
+    }
+
+    /// The same lists and names, which are shared, and a copy of the places. Fails by OutOfMemory alone.
     pub fn copy(&self, alloc: Global) -> Result<Lists, Error>
         ensures { OkOrOutOfMemory result (λ copy. copy ≡ self.now) }
     {
-        let mut lists = Lists {
-            blocks: self.blocks.copy(alloc)?,
-            loaded: Vec::new(alloc),
-            known: NameTable::new(alloc),
+        let loaded = match &self.loaded {
+            Some(loaded) => Some(loaded.clone()?),
+            None => None,
         };
-        for name in self.loaded.iter() {
-            lists.add_loaded(name.share()?)?;
-        }
-        Ok(lists)
+        Ok(Lists {
+            loaded,
+            places: self.places.copy(alloc)?,
+        })
     }
 }

@@ -3,7 +3,7 @@ use Rattle.std.proofs.lemmas.Result.{on_ok_weaker}
 use Rattle.tm_tables.specs.Places.{AreOrdered}
 use Rattle.tm_tables.proofs.Listed.{block_there, block_new}
 use Rattle.tm_tables.proofs.Places.{written-ordered, added-ordered}
-use Rattle.tm_tables.proofs.lists.NameTable+BlockStack.append.Goals as goal
+use Rattle.tm_tables.proofs.loaded.NameTable+BlockList.append.Goals as goal
 
 pub invariant_of-self : goal.invariant_of-self
 invariant_of-self c =

@@ -1,7 +1,7 @@
 use Rattle.std.proofs.Common.{◌≡◌}
 use Rattle.tm_syntax.specs.Named.{texts_of}
 use Rattle.tm_tables.specs.Lists.{with_each}
-use Rattle.tm_tables.proofs.lists.NameTable+BlockStack.append_each.Given as goal
+use Rattle.tm_tables.proofs.loaded.NameTable+BlockList.append_each.Given as goal
 
 -- what is still to be put leads to what stands there at the end
 abbrev pub invariant-loop-name : goal.invariant-loop-name
