@@ -237,16 +237,40 @@ fn is_written(
 
 /// Whether blocks of a state are written: whole, into a sink with an end, and with a fault.
 fn are_written(alloc: Global, environment: &Rows<'_>) -> Result<bool, Error> {
-    let source = "{% if false %}{% block b %}ab{{ 1 }}{% endblock %}{% block c %}d{{ y.z }}{% endblock %}{% endif %}";
+    let source =
+        "{% if false %}{% block b %}ab{{ 1 }}{% endblock %}{% block c %}d{{ y.z }}{% endblock %}{% endif %}";
     let template = environment.template_from_str(source)?;
     let mut ids = StateIds::new();
     let captured = template.render_captured_to(&mut ids, Value::undefined(), &mut NullWriter)?;
     let (_output, mut state) = captured.into_parts();
-    Ok(is_written(alloc, &mut state, "b", 9, None, "ab1")
-        && is_written(alloc, &mut state, "b", 1, Some(ErrorKind::WriteFailure), "a")
-        && is_written(alloc, &mut state, "c", 9, Some(ErrorKind::UndefinedError), "d")
-        && is_written(alloc, &mut state, "no", 9, Some(ErrorKind::UnknownBlock), "")
-        && is_written(alloc, &mut state, "b", 9, None, "ab1"))
+    Ok(
+        is_written(alloc, &mut state, "b", 9, None, "ab1")
+            && is_written(
+                alloc,
+                &mut state,
+                "b",
+                1,
+                Some(ErrorKind::WriteFailure),
+                "a",
+            )
+            && is_written(
+                alloc,
+                &mut state,
+                "c",
+                9,
+                Some(ErrorKind::UndefinedError),
+                "d",
+            )
+            && is_written(
+                alloc,
+                &mut state,
+                "no",
+                9,
+                Some(ErrorKind::UnknownBlock),
+                "",
+            )
+            && is_written(alloc, &mut state, "b", 9, None, "ab1"),
+    )
 }
 
 /// Writes blocks of a state.

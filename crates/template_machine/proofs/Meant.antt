@@ -51,7 +51,7 @@ module _ {O : Type 0} (stated : O → StatedObjects) (t : TemplateValue O) where
         as_template c,
         find-turned as_template x t.environment.templates ∙ ap (option_map as_template) found,
         keys-carded (by_name bs) ∙ sym (keys-turned block_code (by_name bs))
-        ∙ sym (ap keys_of (are ∙ by_name-turned block_code bs)),
+            ∙ sym (ap keys_of (are ∙ by_name-turned block_code bs)),
       )
 
   pub blocks_missing : (x : List ℕ) → find x t.environment.templates ≡ None → find x (host_of stated t).templates ≡ None
