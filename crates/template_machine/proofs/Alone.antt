@@ -13,7 +13,6 @@ use Rattle.tm_syntax.specs.Named.{Named, by_name, find, name_cmp, put, put_each}
 use Rattle.tm_meaning.specs.Calls.{own_blocks}
 use Rattle.tm_meaning.specs.Inheritance.{behind_all}
 use Rattle.tm_meaning.specs.Tree.{carded}
-use Rattle.tm_meaning.specs.World.{Layers}
 use Rattle.tm_meaning.specs.declared.stream.TemplateId.{TemplateId}
 use Rattle.tm_tables.specs.Lists.{with_block, with_each}
 use Rattle.tm_tables.specs.Places.{AreOrdered}
@@ -59,10 +58,10 @@ none_below [] = tt
 none_below (x ∷ xs) = (tt, none_below xs)
 
 module _ (t : TemplateId) where
-  abbrev one : Layers
-  one = record { templates = t ∷ []; place = 0 }
+  abbrev one : List TemplateId
+  one = t ∷ []
 
-  abbrev each_one : List (List ℕ) → Named Layers
+  abbrev each_one : List (List ℕ) → Named (List TemplateId)
   each_one xs = map (λ (x : List ℕ). (x, one)) xs
 
   find-above : (x : List ℕ) (ys : List (List ℕ)) → AreBelow ys x → find x (each_one ys) ≡ None

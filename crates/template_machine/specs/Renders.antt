@@ -197,7 +197,7 @@ IsEntered asked saved old new =
     × (length new.scopes.frames ≡ length old.scopes.frames + 1)
 
 -- But for want of memory and a writer that fails, what a block's run replaced is put back as it was: the very scopes, the stream, the block,
--- the escape and the place of each list of blocks.
+-- the escape and the places in lists of blocks.
 abbrev pub IsBack : {A : Type 0} → Result A (List ErrorKind) → World → World → Type 0
 IsBack (Ok x) old new = PutsBack old new
 IsBack (Err chain) old new = is_want_of_memory chain ≡ false → chain ≢ WriteFailure ∷ [] → PutsBack old new

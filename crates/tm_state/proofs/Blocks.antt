@@ -1,19 +1,25 @@
--- The parents that are loaded.
-use Rattle.std.proofs.Common.{◌≡◌, ◌∙◌, ◌+◌, ◌≤◌, ℕ, suc, List, [], ◌∷◌, ◌++◌, Some, Bool, true, false, refl, sym, ap, arith, cond, subst}
-use Rattle.std.specs.Prelude.{◌||◌, if◌then◌else◌}
+-- The parents that are loaded, and the blocks behind those that run.
+use Rattle.std.proofs.Common.{◌≡◌, ◌∙◌, ◌+◌, ◌-◌, ◌≤◌, ℕ, suc, List, [], ◌∷◌, ◌++◌, length, Some, Bool, true, false, refl, sym, ap, arith, cond, subst}
+use Rattle.std.specs.Prelude.{◌||◌, drop, if◌then◌else◌, slice_get}
 use Rattle.std.specs.Borrow.{Bor}
 use Rattle.std.specs.BTreeMap.{is_at}
 use Rattle.std.specs.Map.{keys_of}
 use Rattle.std.proofs.lemmas.Slice.Eq.{bytes_eq-Decides}
 use Rattle.tm_syntax.specs.Named.{Named, name_cmp, same_name, find}
 use Rattle.tm_syntax.specs.Names.{is_among}
-use Rattle.tm_syntax.specs.declared.instruction.Instruction.{Instruction}
+use Rattle.tm_syntax.specs.declared.code.BlockCode.{BlockCode}
 use Rattle.tm_syntax.proofs.Named.{same_text}
-use Rattle.tm_meaning.specs.World.{World, HostValue, Card, Template, Layers, Good}
-use Rattle.tm_meaning.specs.Inheritance.{with_blocks, count_left, load_named, names_left}
+use Rattle.tm_values.specs.Val.{undefined}
+use Rattle.tm_meaning.specs.Calls.{outermost}
+use Rattle.tm_meaning.specs.World.{World, HostValue, Card, Scope, Template, Good, block_of, plain_scope}
+use Rattle.tm_meaning.specs.Inheritance.{with_blocks, count_left, load_named, names_left, place_in}
+use Rattle.tm_meaning.specs.declared.stream.StreamId.{StreamId}
 use Rattle.tm_meaning.specs.declared.stream.TemplateId.{TemplateId}
 use Rattle.tm_meaning.specs.declared.stream.TemplateId.TheVariants.{Entry}
 use Rattle.tm_tables.specs.Lists.{AreBlocksOf, with_each}
+use Rattle.tm_state.specs.State.{IsNextOf, put_back, saved_super, scoped}
+use Rattle.tm_state.specs.declared.saved.Saved.TheVariants as saved
+use Rattle.tm_state.specs.declared.saved.SavedSuper.{SavedSuper}
 
 -- ---------------------------------------------------------------- names that are left
 among_more : (x : List ℕ) (names more : List (List ℕ)) → is_among x names ≡ true → is_among x (names ++ more) ≡ true
@@ -76,11 +82,11 @@ count_loaded (p ∷ ts) x t names found fresh =
     loaded_by p ts x t names (is_at (name_cmp x) p.0) refl found fresh (λ e. count_loaded ts x t names e fresh)
 
 -- ---------------------------------------------------------------- a parent
-by_names : (t : TemplateId) (bs : Named Card) (ls : Named Layers) → with_blocks t bs ls ≡ with_each t (keys_of bs) ls
+by_names : (t : TemplateId) (bs : Named Card) (ls : Named (List TemplateId)) → with_blocks t bs ls ≡ with_each t (keys_of bs) ls
 by_names t [] ls = refl
 by_names t (b ∷ bs) ls = by_names t bs _
 
-module _ (host : HostValue) (x : List ℕ) (old : World) (lent : Bor (Named (List Instruction))) (fresh : is_among x old.loaded ≡ false)
+module _ (host : HostValue) (x : List ℕ) (old : World) (lent : Bor (Named BlockCode)) (fresh : is_among x old.loaded ≡ false)
     (there : AreBlocksOf (Some lent) (find x host.templates)) where
   abbrev Behind : World
   Behind = record old { loaded = old.loaded ++ x ∷ []; blocks = with_each (Entry x) (keys_of lent.now) old.blocks }
@@ -98,18 +104,50 @@ module _ (host : HostValue) (x : List ℕ) (old : World) (lent : Bor (Named (Lis
   leaves_fewer = count_loaded host.templates x there.0 old.loaded there.1 fresh
 
   -- in the state that stands there.
-  pub loads_into : {seen : World} (y : List ℕ) (bs : Named Layers) (names : List (List ℕ)) → seen ≡ old → y ≡ x →
-      bs ≡ with_each (Entry y) (keys_of lent.now) seen.blocks → names ≡ seen.loaded ++ x ∷ [] →
-      load_named host x old ≡ Good (Entry y) (record seen { blocks = bs; loaded = names })
-  loads_into {seen = seen} y bs names same name is more =
-      let at : record seen { blocks = bs; loaded = names } ≡ Behind =
-      ap (λ b. record seen { blocks = b; loaded = names }) (is ∙ ap (λ z. with_each (Entry z) (keys_of lent.now) seen.blocks) name)
+  pub loads_into : {seen : World} (y : List ℕ) (bs : Named (List TemplateId)) (ps : Named ℕ) (names : List (List ℕ)) → seen ≡ old →
+      y ≡ x → bs ≡ with_each (Entry y) (keys_of lent.now) seen.blocks → ps ≡ seen.places → names ≡ seen.loaded ++ x ∷ [] →
+      load_named host x old ≡ Good (Entry y) (record seen { blocks = bs; places = ps; loaded = names })
+  loads_into {seen = seen} y bs ps names same name is stay more =
+      let at : record seen { blocks = bs; places = ps; loaded = names } ≡ Behind =
+      ap (λ q. record seen { blocks = bs; places = q; loaded = names }) stay
+      ∙ ap (λ b. record seen { blocks = b; loaded = names }) (is ∙ ap (λ z. with_each (Entry z) (keys_of lent.now) seen.blocks) name)
       ∙ ap (λ n. record seen { blocks = with_each (Entry x) (keys_of lent.now) seen.blocks; loaded = n }) more
       ∙ ap (λ (v : World). record v { blocks = with_each (Entry x) (keys_of lent.now) v.blocks; loaded = v.loaded ++ x ∷ [] }) same in
-      loads ∙ ap (λ v. Good (Entry x) v) (sym at) ∙ ap (λ z. Good (Entry z) (record seen { blocks = bs; loaded = names })) (sym name)
+      loads ∙ ap (λ v. Good (Entry x) v) (sym at) ∙ ap (λ z. Good (Entry z) (record seen { blocks = bs; places = ps; loaded = names })) (sym name)
 
-  pub fewer_into : {seen : World} (bs : Named Layers) (names : List (List ℕ)) → seen ≡ old → names ≡ seen.loaded ++ x ∷ [] →
+  pub fewer_into : {seen : World} (bs : Named (List TemplateId)) (names : List (List ℕ)) → seen ≡ old → names ≡ seen.loaded ++ x ∷ [] →
       names_left host (record seen { blocks = bs; loaded = names }) + 1 ≤ names_left host old
   fewer_into bs names same more =
       subst (λ ns. count_left host.templates ns + 1 ≤ names_left host old)
       (sym (more ∙ ap (λ (v : World). v.loaded ++ x ∷ []) same)) leaves_fewer
+
+-- ---------------------------------------------------------------- a block behind the one that runs
+-- the block at the next place
+pub next_there : (w : World) (x : List ℕ) (l : List TemplateId) (place next : ℕ) (t : TemplateId) (s : StreamId) → w.block ≡ Some x →
+    find x w.blocks ≡ Some l → place ≡ place_in x w.places → next ≡ place + 1 → slice_get l (place + 1) ≡ Some t → s ≡ block_of t x →
+    IsNextOf s x next w
+next_there w x l place next t s runs found at behind there is =
+    let same : s.template ≡ t = ap (λ (q : StreamId). q.template) is in (
+      runs,
+      (
+        l,
+        found,
+        behind ∙ ap (λ n. n + 1) at,
+        ap (λ n. slice_get l (n + 1)) (sym at) ∙ there ∙ ap (λ (q : TemplateId). Some q) (sym same),
+        is ∙ ap (λ q. block_of q x) (sym same),
+      ),
+    )
+
+-- of scopes with one more over them
+one_left : (s : Scope) (ss : List Scope) → outermost (length ss) (s ∷ ss) ≡ ss
+one_left s ss =
+    let many : length (s ∷ ss) - length ss ≡ 1 = omega arith in
+    ap (λ n. drop n (s ∷ ss)) many
+
+-- What a `super()` replaced is put back, where no more than its scope, its stream and its places are there.
+pub super_left : (w u v : World) (s : SavedSuper) (stream : StreamId) (places : Named ℕ) → s ≡ saved_super w → u ≡ scoped w →
+    v ≡ record u { stream = stream; places = places } → put_back (saved.Super s) v ≡ w
+super_left w u v s stream places is within at =
+    ap (λ q. put_back (saved.Super q) v) is
+    ∙ ap (put_back (saved.Super (saved_super w))) (at ∙ ap (λ (q : World). record q { stream = stream; places = places }) within)
+    ∙ ap (λ ss. record w { scopes = record w.scopes { frames = ss } }) (one_left (plain_scope (undefined false)) w.scopes.frames)

@@ -6,14 +6,15 @@ use Rattle.tm_syntax.specs.Named.{find}
 use Rattle.tm_values.specs.Val.{MacroData, Val, undefined}
 use Rattle.tm_values.specs.declared.escape.AutoEscape.{AutoEscape}
 use Rattle.tm_syntax.specs.declared.code.BlockCode.{BlockCode}
-use Rattle.tm_meaning.specs.World.{Named, World, Loop, loop_scope, new_loop, Layers, root_of, block_of, plain_scope, with_frames}
+use Rattle.tm_meaning.specs.World.{Named, World, Loop, loop_scope, new_loop, root_of, block_of, plain_scope, with_frames}
 use Rattle.tm_meaning.specs.Calls.{Asked, runs, cut_to, block_call, macro_call, Undo, of_block, of_super, of_macro, Callee, whole, macro_of}
+use Rattle.tm_meaning.specs.Inheritance.{place_in}
 use Rattle.tm_meaning.specs.Meaning.{first_fuel}
 use Rattle.tm_meaning.specs.declared.stream.TemplateId.{TemplateId}
 use Rattle.tm_meaning.specs.declared.stream.StreamId.{StreamId}
 use Rattle.tm_syntax.specs.declared.instruction.LoopFlags.{LoopFlags}
 use Rattle.tm_tables.specs.Fuel.{Fuel}
-use Rattle.tm_tables.specs.Lists.{ListsValue, placed_at, with_each}
+use Rattle.tm_tables.specs.Lists.{ListsValue, with_each}
 use Rattle.tm_tables.specs.Scopes.{exported_of}
 use Rattle.tm_state.specs.declared.saved.Saved.{Saved}
 use Rattle.tm_state.specs.declared.saved.Saved.TheVariants as saved
@@ -28,9 +29,9 @@ abbrev pub fuel_set_of : Bool → Fuel → Option ℕ
 fuel_set_of true fuel = Some fuel.set
 fuel_set_of false fuel = None
 
--- a world's lists of blocks and its loaded names
+-- a world's lists of blocks, their places and its loaded names
 abbrev pub lists_of : World → ListsValue
-lists_of w = record { blocks = w.blocks; loaded = w.loaded }
+lists_of w = record { blocks = w.blocks; places = w.places; loaded = w.loaded }
 
 -- What a render of a template starts from, which has these blocks.
 abbrev pub started : ℕ → TemplateId → Named BlockCode → AutoEscape → Option ℕ → Val → World
@@ -43,6 +44,7 @@ started id t blocks escape fuel context = record {
   streams = [];
   temps = [];
   blocks = with_each t (keys_of blocks) [];
+  places = [];
   loaded = [];
   block = None;
   escape = escape;
@@ -59,21 +61,20 @@ saved_of w = record { stream = w.stream; block = w.block; escape = w.escape; sco
 abbrev pub saved_scopes : World → SavedMacro
 saved_scopes w = record { context = w.scopes; stream = w.stream; block = w.block; escape = w.escape; lists = lists_of w }
 
--- What is put back behind a `super()`: as behind a block, and the place of the list of its name.
-abbrev pub IsSavedSuper : SavedSuper → World → Type 0
-IsSavedSuper s w =
-    (s.replaced ≡ saved_of w) × (w.block ≡ Some s.name) × ((l : Layers) × (find s.name w.blocks ≡ Some l) × (s.place ≡ l.place))
+-- what is put back behind a `super()`: as behind a block, and the places in lists of blocks
+abbrev pub saved_super : World → SavedSuper
+saved_super w = record { replaced = saved_of w; places = w.places }
 
 -- What is put back is of this world,
 abbrev pub IsSaved : Saved → World → Type 0
 IsSaved (saved.Block s) w = s ≡ saved_of w
-IsSaved (saved.Super s) w = IsSavedSuper s w
+IsSaved (saved.Super s) w = s ≡ saved_super w
 IsSaved (saved.Macro s) w = s ≡ saved_scopes w
 
 -- and how it is undone.
 abbrev pub undo_of : Saved → World → Undo
 undo_of (saved.Block s) w = of_block w
-undo_of (saved.Super s) w = of_super s.name w
+undo_of (saved.Super s) w = of_super w
 undo_of (saved.Macro s) w = of_macro w
 
 -- the world behind a block, however that ended; behind a `super()`; and behind a macro
@@ -81,7 +82,7 @@ abbrev pub behind_block : SavedBlock → World → World
 behind_block s w = record (cut_to s.scopes s.outer w) { stream = s.stream; block = s.block; escape = s.escape }
 
 abbrev pub behind_super : SavedSuper → World → World
-behind_super s w = record (behind_block s.replaced w) { blocks = placed_at s.place s.name w.blocks }
+behind_super s w = record (behind_block s.replaced w) { places = s.places }
 
 abbrev pub behind_macro : SavedMacro → World → World
 behind_macro s w = record w {
@@ -90,6 +91,7 @@ behind_macro s w = record w {
   block = s.block;
   escape = s.escape;
   blocks = s.lists.blocks;
+  places = s.lists.places;
   loaded = s.lists.loaded;
 }
 
@@ -115,23 +117,23 @@ runs_macro s m given b w = runs (macro_call s m given b) w
 -- The stream is the block of this name at its list's place, and whether no other template has it.
 abbrev pub IsBlockOf : StreamId → Bool → List ℕ → World → Type 0
 IsBlockOf s alone x w =
-    (l : Layers) × (find x w.blocks ≡ Some l) × (slice_get l.templates l.place ≡ Some s.template)
-    × (s ≡ block_of s.template x) × (alone ≡ nat_eq (length l.templates) 1)
+    (l : List TemplateId) × (find x w.blocks ≡ Some l) × (slice_get l (place_in x w.places) ≡ Some s.template)
+    × (s ≡ block_of s.template x) × (alone ≡ nat_eq (length l) 1)
 
 -- the template whose block of this name is meant
 abbrev pub template_of_block : List ℕ → World → Option TemplateId
-template_of_block x w = option_and_then (λ (l : Layers). slice_get l.templates l.place) (find x w.blocks)
+template_of_block x w = option_and_then (λ (l : List TemplateId). slice_get l (place_in x w.places)) (find x w.blocks)
 
 -- The stream is the block behind the one of this name, which runs, and n the place behind that of the name's list.
 abbrev pub IsNextOf : StreamId → List ℕ → ℕ → World → Type 0
 IsNextOf s x n w =
-    (w.block ≡ Some x) × ((l : Layers) × (find x w.blocks ≡ Some l) × (n ≡ l.place + 1)
-    × (slice_get l.templates (l.place + 1) ≡ Some s.template) × (s ≡ block_of s.template x))
+    (w.block ≡ Some x) × ((l : List TemplateId) × (find x w.blocks ≡ Some l) × (n ≡ place_in x w.places + 1)
+    × (slice_get l (place_in x w.places + 1) ≡ Some s.template) × (s ≡ block_of s.template x))
 
 -- the template behind the one whose block runs
 abbrev pub template_behind : World → Option TemplateId
 template_behind w =
-    option_and_then (λ x. option_and_then (λ (l : Layers). slice_get l.templates (l.place + 1)) (find x w.blocks)) w.block
+    option_and_then (λ x. option_and_then (λ (l : List TemplateId). slice_get l (place_in x w.places + 1)) (find x w.blocks)) w.block
 
 -- one scope more, over no context
 abbrev pub scoped : World → World

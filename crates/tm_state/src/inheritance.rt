@@ -9,7 +9,7 @@ ghost use Rattle.tm_state.specs.State.{IsNextOf, saved_of, template_behind};
 
 use crate::calls::CallResult;
 use crate::nested::{NestedRun, RunOf};
-use crate::saved::{Saved, SavedBlock, SavedSuper};
+use crate::saved::{Saved, SavedBlock};
 use crate::state::StateData;
 use std::alloc::Global;
 use tm_meaning::{RunText, StreamId, TemplateId, Wrapping};
@@ -57,11 +57,10 @@ impl StateData {
     {
         let (stream, name, next) = self.next_block()?;
         let running = stream.share()?;
-        let saved = SavedSuper {
-            replaced: self.saved_block()?,
-            name: name.share()?,
-            place: next - 1,
-        };
+        let places = self.lists.places_with(alloc, name, next)?;
+        let replaced = self.saved_block()?;
+        self.push_scope(alloc, host.recursion_limit())?;
+        let saved = self.run_super(running, replaced, places);
         let run = NestedRun {
             run: RunOf::Stream(stream),
             heard,
@@ -70,11 +69,7 @@ impl StateData {
             wrap: Some(Wrapping::EvalBlock),
             saved: Saved::Super(saved),
         };
-        let run = run.boxed(alloc)?;
-        self.push_scope(alloc, host.recursion_limit())?;
-        self.stream = running;
-        self.lists.move_to(name.as_str(), next);
-        Ok(run)
+        self.boxed(alloc, run)
     }
 
     /// The stream of the block behind the one that runs, the name of both, and the place behind that of its list.
@@ -90,11 +85,12 @@ impl StateData {
         let Some(list) = self.lists.get(name.as_str()) else {
             return Err(Error::from(ErrorKind::InvalidOperation));
         };
-        let Some((place, template)) = list.next() else {
+        let place = self.lists.place(name.as_str());
+        let Some((next, template)) = list.behind(place) else {
             return Err(Error::from(ErrorKind::InvalidOperation));
         };
         let stream = StreamId::block(template.share()?, name.share()?);
-        Ok((stream, name.share()?, place))
+        Ok((stream, name.share()?, next))
     }
 
     /// What is put back behind a block. Fails by OutOfMemory alone, where the owners of a name can't be counted.
@@ -206,7 +202,7 @@ impl StateData {
         };
         let template = TemplateId::Entry(name.share()?);
         self.lists.append(alloc, &template, blocks)?;
-        self.lists.add_loaded(name)?;
+        self.lists.add_loaded(alloc, name)?;
         Ok(template)
     }
 }

@@ -16,7 +16,7 @@ use std::alloc::Global;
 use std::mem;
 use tm_meaning::{RunText, StreamId};
 use tm_syntax::Name;
-use tm_tables::{Context, Host, Lists};
+use tm_tables::{Context, Host, Lists, NameTable};
 use tm_values::{Error, ErrorKind, Value};
 
 impl StateData {
@@ -117,7 +117,7 @@ impl StateData {
         let Some(list) = self.lists.get(name.as_str()) else {
             return Err(Error::from(ErrorKind::UnknownBlock));
         };
-        let Some(template) = list.template() else {
+        let Some(template) = list.at(self.lists.place(name.as_str())) else {
             return Err(Error::from(ErrorKind::UnknownBlock));
         };
         let stream = StreamId::block(template.share()?, name.share()?);
@@ -138,7 +138,24 @@ impl StateData {
         }
     }
 
-    /// Lets a macro run in scopes of its own, and gives what that replaces, with a copy of the lists.
+    /// Lets the block behind the one that runs go on, at these places in lists of blocks, and gives what that replaces.
+    pub(crate) fn run_super(
+        &mut self,
+        stream: StreamId,
+        replaced: SavedBlock,
+        places: NameTable<usize>,
+    ) -> SavedSuper
+        ensures saved { result ≡ record { replaced = replaced; places = self.old.places } }
+        ensures runs { self.new ≡ record self.old { stream = stream; places = places } }
+    {
+        self.stream = stream;
+        SavedSuper {
+            replaced,
+            places: self.lists.replace_places(places),
+        }
+    }
+
+    /// Lets a macro run in scopes of its own, and gives what that replaces, with a second owner of the lists.
     pub(crate) fn run_macro(
         &mut self,
         stream: StreamId,
@@ -211,13 +228,9 @@ impl StateData {
     fn leave_super(&mut self, saved: SavedSuper)
         ensures { self.new ≡ behind_super saved self.old }
     {
-        let SavedSuper {
-            replaced,
-            name,
-            place,
-        } = saved;
+        let SavedSuper { replaced, places } = saved;
         self.leave_block(replaced);
-        self.lists.move_to(name.as_str(), place);
+        self.lists.replace_places(places);
     }
 
     /// Leaves a macro's scopes, and puts back what it replaced.

@@ -1,7 +1,7 @@
 //! What a run replaces in the state.
 use tm_meaning::StreamId;
 use tm_syntax::Name;
-use tm_tables::{Context, Lists};
+use tm_tables::{Context, Lists, NameTable};
 use tm_values::AutoEscape;
 
 /// What a run replaces in the state, and what is put back behind it.
@@ -35,10 +35,8 @@ pub struct SavedBlock {
 pub struct SavedSuper {
     /// What a block's run replaces.
     pub replaced: SavedBlock,
-    /// The name of the block.
-    pub name: Name,
-    /// The place of its list.
-    pub place: usize,
+    /// The places in lists of blocks.
+    pub places: NameTable<usize>,
 }
 
 /// What a macro's run replaces, which has scopes of its own.
@@ -52,6 +50,6 @@ pub struct SavedMacro {
     pub block: Option<Name>,
     /// The escape.
     pub escape: AutoEscape,
-    /// The lists of blocks and the loaded names.
+    /// The lists of blocks, their places and the loaded names.
     pub lists: Lists,
 }

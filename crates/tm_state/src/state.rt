@@ -74,6 +74,7 @@ impl Model for StateData {
       streams = s.streams;
       temps = s.temps;
       blocks = s.lists.blocks;
+      places = s.lists.places;
       loaded = s.lists.loaded;
       block = s.block;
       escape = s.escape;
