@@ -231,13 +231,6 @@ impl<'source> CompiledTemplate<'source> {
         &self.streams.root
     }
 
-    /// The code of its blocks, by name.
-    pub fn blocks(&self) -> &NameMap<BlockCode>
-        ensures { result.now ≡ block_codes self.now.tree }
-    {
-        &self.streams.blocks
-    }
-
     /// The names of its blocks, for states to share.
     pub fn block_names(&self) -> &Rc<BlockNames>
         ensures { result.now.value ≡ keys_of (block_codes self.now.tree) }

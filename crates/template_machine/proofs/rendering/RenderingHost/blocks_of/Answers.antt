@@ -3,8 +3,8 @@ use Rattle.template_machine.proofs.rendering.RenderingHost.blocks_of.Goals as go
 
 pub returns-in-Some : goal.returns-in-Some
 returns-in-Some g c =
-    blocks_found g.O.Parties.stated c.args.self.now c.args.name.now c.in-Some.template.now c.blocks.result.now c.in-Some.ensures
-    c.blocks.ensures
+    blocks_found g.O.Parties.stated c.args.self.now c.args.name.now c.in-Some.template.now c.block_names.result.now.value c.in-Some.ensures
+    c.block_names.ensures
 
 pub returns-in-None : goal.returns-in-None
 returns-in-None g c = blocks_missing g.O.Parties.stated c.args.self.now c.args.name.now c.in-None.ensures
