@@ -4,8 +4,7 @@ use Rattle.std.specs.Map.{keys_of}
 use Rattle.std.specs.Option.{option_map}
 use Rattle.tm_syntax.specs.BlockCodes.{block_code}
 use Rattle.tm_syntax.specs.Blocks.{blocks_in}
-use Rattle.tm_syntax.specs.Named.{Named, by_name, find}
-use Rattle.tm_syntax.specs.declared.code.BlockCode.{BlockCode}
+use Rattle.tm_syntax.specs.Named.{by_name, find}
 use Rattle.tm_meaning.specs.declared.stream.StreamId.{StreamId}
 use Rattle.tm_meaning.specs.declared.stream.TemplateId.{TemplateId}
 use Rattle.tm_meaning.specs.declared.stream.TemplateId.TheVariants.{Own, Entry}
@@ -42,16 +41,16 @@ module _ {O : Type 0} (stated : O → StatedObjects) (t : TemplateValue O) where
       is_required (card_in (template_of (tree_of (meant t s.template))) s.block) ≡ is_required (card_at (host_of stated t) s)
   required_meant s = sym (ap (λ (x : Template). is_required (card_in x s.block)) (template_meant s.template))
 
-  -- the blocks of the template of a name
-  pub blocks_found : (x : List ℕ) (c : Compiled) (blocks : Named BlockCode) → find x t.environment.templates ≡ Some c →
-      blocks ≡ block_codes c.tree →
-      (found : Template) × (find x (host_of stated t).templates ≡ Some found) × (keys_of found.blocks ≡ keys_of blocks)
-  blocks_found x c blocks found are =
+  -- the names of the blocks of the template of a name
+  pub blocks_found : (x : List ℕ) (c : Compiled) (names : List (List ℕ)) → find x t.environment.templates ≡ Some c →
+      names ≡ keys_of (block_codes c.tree) →
+      (found : Template) × (find x (host_of stated t).templates ≡ Some found) × (keys_of found.blocks ≡ names)
+  blocks_found x c names found are =
       let bs = blocks_in (body c.tree).row in (
         as_template c,
         find-turned as_template x t.environment.templates ∙ ap (option_map as_template) found,
         keys-carded (by_name bs) ∙ sym (keys-turned block_code (by_name bs))
-            ∙ sym (ap keys_of (are ∙ by_name-turned block_code bs)),
+            ∙ sym (are ∙ ap keys_of (by_name-turned block_code bs)),
       )
 
   pub blocks_missing : (x : List ℕ) → find x t.environment.templates ≡ None → find x (host_of stated t).templates ≡ None

@@ -7,8 +7,7 @@ use Rattle.tm_values.specs.declared.escape.AutoEscape.{AutoEscape}
 use Rattle.std.specs.Map.{keys_of}
 use Rattle.tm_syntax.specs.BlockCodes.{block_code}
 use Rattle.tm_syntax.specs.Blocks.{blocks_in}
-use Rattle.tm_syntax.specs.declared.code.BlockCode.{BlockCode}
-use Rattle.tm_syntax.specs.Named.{Named, by_name}
+use Rattle.tm_syntax.specs.Named.{by_name}
 use Rattle.tm_meaning.specs.World.{World}
 use Rattle.tm_tables.specs.Stated.{StatedObjects}
 use Rattle.tm_meaning.specs.Calls.{own_blocks}
@@ -36,7 +35,7 @@ held_meant e (Lent x t) is = rw is refl
 held_meant e (Owned t) is = refl
 
 pub first_is : {O : Type 0} (stated : O → StatedObjects) (t : TemplateValue O) (id : ℕ) (context : Val) → meant t t.id ≡ t.template →
-    started id t.id (block_codes t.template.tree) t.template.escape t.environment.fuel context ≡ first stated t id context
+    started id t.id (keys_of (block_codes t.template.tree)) t.template.escape t.environment.fuel context ≡ first stated t id context
 first_is stated t id context is =
     let bs = blocks_in (body t.template.tree).row in
     let same : with_each t.id (keys_of (block_codes t.template.tree)) [] ≡ own_blocks t.id (map carded (by_name bs)) =
@@ -49,18 +48,18 @@ first_is stated t id context is =
 
 -- the same of what was made
 pub first_at : {O : Type 0} (stated : O → StatedObjects) (t : TemplateValue O) (root : TemplateId) (own : Compiled)
-    (blocks : Named BlockCode) (escape : AutoEscape)
+    (names : List (List ℕ)) (escape : AutoEscape)
     (fuel : Option ℕ) (id number : ℕ) (context : Val)
-    (made : Result World (List ErrorKind)) → meant t t.id ≡ t.template → root ≡ t.id → own ≡ t.template → blocks ≡ block_codes own.tree →
+    (made : Result World (List ErrorKind)) → meant t t.id ≡ t.template → root ≡ t.id → own ≡ t.template → names ≡ keys_of (block_codes own.tree) →
     escape ≡ own.escape → fuel ≡ t.environment.fuel → id ≡ number →
-    OkOrOutOfMemory made (λ s. s ≡ started id root blocks escape fuel context) → IfOk made (λ s. s ≡ first stated t number context)
-first_at stated t root own blocks escape fuel id number context (Err e) is root_is own_is blocks_are escape_is fuel_is id_is made_is = tt
-first_at stated t root own blocks escape fuel id number context (Ok s) is root_is own_is blocks_are escape_is fuel_is id_is made_is =
+    OkOrOutOfMemory made (λ s. s ≡ started id root names escape fuel context) → IfOk made (λ s. s ≡ first stated t number context)
+first_at stated t root own names escape fuel id number context (Err e) is root_is own_is names_are escape_is fuel_is id_is made_is = tt
+first_at stated t root own names escape fuel id number context (Ok s) is root_is own_is names_are escape_is fuel_is id_is made_is =
     made_is
-    ∙ ap (λ n. started n root blocks escape fuel context) id_is
-    ∙ ap (λ r. started number r blocks escape fuel context) root_is
-    ∙ ap (λ f. started number t.id blocks escape f context) fuel_is
-    ∙ ap (λ e. started number t.id blocks e t.environment.fuel context) (escape_is ∙ ap (λ (o : Compiled). o.escape) own_is)
-    ∙ ap (λ bs. started number t.id bs t.template.escape t.environment.fuel context) (blocks_are
-    ∙ ap (λ (o : Compiled). block_codes o.tree) own_is)
+    ∙ ap (λ n. started n root names escape fuel context) id_is
+    ∙ ap (λ r. started number r names escape fuel context) root_is
+    ∙ ap (λ f. started number t.id names escape f context) fuel_is
+    ∙ ap (λ e. started number t.id names e t.environment.fuel context) (escape_is ∙ ap (λ (o : Compiled). o.escape) own_is)
+    ∙ ap (λ ks. started number t.id ks t.template.escape t.environment.fuel context) (names_are
+    ∙ ap (λ (o : Compiled). keys_of (block_codes o.tree)) own_is)
     ∙ first_is stated t number context is

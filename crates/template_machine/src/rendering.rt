@@ -8,11 +8,12 @@ ghost use Rattle.template_machine.specs.TemplateRef.{entry_id};
 use crate::environment::EnvironmentOf;
 use std::alloc::Global;
 use std::marker::Model;
+use std::rc::Rc;
 use tm_meaning::{StreamId, TemplateId};
 use tm_parts::{Captures, Halt, Sink};
 use tm_state::StateData;
-use tm_syntax::{BlockCode, Code, Name, NameMap};
-use tm_tables::{CallableAnswer, Called, Host, Parties, View};
+use tm_syntax::{Code, Name, NameMap};
+use tm_tables::{BlockNames, CallableAnswer, Called, Host, Parties, View};
 use tm_templates::CompiledTemplate;
 use tm_values::{Error, ErrorKind, UndefinedBehavior, Value};
 use tm_vm::Machine;
@@ -143,9 +144,9 @@ impl<O: Parties> Host for Rendering<'_, O> {
         Ok(Name::new(alloc, name)?)
     }
 
-    fn blocks_of(&self, name: &str) -> Option<&NameMap<BlockCode>> {
+    fn blocks_of(&self, name: &str) -> Option<&Rc<BlockNames>> {
         match self.environment.find_template(name) {
-            Some(template) => Some(template.blocks()),
+            Some(template) => Some(template.block_names()),
             None => None,
         }
     }

@@ -213,7 +213,7 @@ impl<'env, 'source, O: Parties> TemplateOf<'env, 'source, O> {
             environment.allocator(),
             id,
             template,
-            compiled.blocks(),
+            compiled.block_names(),
             compiled.escape(),
             environment.fuel(),
             context,

@@ -2,12 +2,13 @@
 use Rattle.std.proofs.Common.{◌≡◌, ◌∙◌, ◌+◌, ◌-◌, ◌≤◌, ℕ, suc, List, [], ◌∷◌, ◌++◌, length, Some, Bool, true, false, refl, sym, ap, arith, cond, subst}
 use Rattle.std.specs.Prelude.{◌||◌, drop, if◌then◌else◌, slice_get}
 use Rattle.std.specs.Borrow.{Bor}
+use Rattle.std.specs.declared.alloc.Global.{Global}
+use Rattle.std.specs.declared.rc.Rc.{Rc}
 use Rattle.std.specs.BTreeMap.{is_at}
 use Rattle.std.specs.Map.{keys_of}
 use Rattle.std.proofs.lemmas.Slice.Eq.{bytes_eq-Decides}
 use Rattle.tm_syntax.specs.Named.{Named, name_cmp, same_name, find}
 use Rattle.tm_syntax.specs.Names.{is_among}
-use Rattle.tm_syntax.specs.declared.code.BlockCode.{BlockCode}
 use Rattle.tm_syntax.proofs.Named.{same_text}
 use Rattle.tm_values.specs.Val.{undefined}
 use Rattle.tm_meaning.specs.Calls.{outermost}
@@ -86,10 +87,10 @@ by_names : (t : TemplateId) (bs : Named Card) (ls : Named (List TemplateId)) →
 by_names t [] ls = refl
 by_names t (b ∷ bs) ls = by_names t bs _
 
-module _ (host : HostValue) (x : List ℕ) (old : World) (lent : Bor (Named BlockCode)) (fresh : is_among x old.loaded ≡ false)
+module _ (host : HostValue) (x : List ℕ) (old : World) (lent : Bor (Rc (List (List ℕ)) Global)) (fresh : is_among x old.loaded ≡ false)
     (there : AreBlocksOf (Some lent) (find x host.templates)) where
   abbrev Behind : World
-  Behind = record old { loaded = old.loaded ++ x ∷ []; blocks = with_each (Entry x) (keys_of lent.now) old.blocks }
+  Behind = record old { loaded = old.loaded ++ x ∷ []; blocks = with_each (Entry x) (lent.now.value) old.blocks }
 
   -- it is loaded,
   pub loads : load_named host x old ≡ Good (Entry x) Behind
@@ -105,14 +106,14 @@ module _ (host : HostValue) (x : List ℕ) (old : World) (lent : Bor (Named Bloc
 
   -- in the state that stands there.
   pub loads_into : {seen : World} (y : List ℕ) (bs : Named (List TemplateId)) (ps : Named ℕ) (names : List (List ℕ)) → seen ≡ old →
-      y ≡ x → bs ≡ with_each (Entry y) (keys_of lent.now) seen.blocks → ps ≡ seen.places → names ≡ seen.loaded ++ x ∷ [] →
+      y ≡ x → bs ≡ with_each (Entry y) (lent.now.value) seen.blocks → ps ≡ seen.places → names ≡ seen.loaded ++ x ∷ [] →
       load_named host x old ≡ Good (Entry y) (record seen { blocks = bs; places = ps; loaded = names })
   loads_into {seen = seen} y bs ps names same name is stay more =
       let at : record seen { blocks = bs; places = ps; loaded = names } ≡ Behind =
       ap (λ q. record seen { blocks = bs; places = q; loaded = names }) stay
-      ∙ ap (λ b. record seen { blocks = b; loaded = names }) (is ∙ ap (λ z. with_each (Entry z) (keys_of lent.now) seen.blocks) name)
-      ∙ ap (λ n. record seen { blocks = with_each (Entry x) (keys_of lent.now) seen.blocks; loaded = n }) more
-      ∙ ap (λ (v : World). record v { blocks = with_each (Entry x) (keys_of lent.now) v.blocks; loaded = v.loaded ++ x ∷ [] }) same in
+      ∙ ap (λ b. record seen { blocks = b; loaded = names }) (is ∙ ap (λ z. with_each (Entry z) (lent.now.value) seen.blocks) name)
+      ∙ ap (λ n. record seen { blocks = with_each (Entry x) (lent.now.value) seen.blocks; loaded = n }) more
+      ∙ ap (λ (v : World). record v { blocks = with_each (Entry x) (lent.now.value) v.blocks; loaded = v.loaded ++ x ∷ [] }) same in
       loads ∙ ap (λ v. Good (Entry x) v) (sym at) ∙ ap (λ z. Good (Entry z) (record seen { blocks = bs; places = ps; loaded = names })) (sym name)
 
   pub fewer_into : {seen : World} (bs : Named (List TemplateId)) (names : List (List ℕ)) → seen ≡ old → names ≡ seen.loaded ++ x ∷ [] →

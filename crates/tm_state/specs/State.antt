@@ -1,11 +1,9 @@
 -- What a state's fields stand for, and what is put back behind a run.
 use Rattle.std.specs.Prelude.{◌≡◌, ℕ, ◌+◌, List, [], ◌∷◌, ◌++◌, length, Option, Some, None, Bool, true, false, nat_eq, slice_get}
 use Rattle.std.specs.Prelude.{option_and_then}
-use Rattle.std.specs.Map.{keys_of}
 use Rattle.tm_syntax.specs.Named.{find}
 use Rattle.tm_values.specs.Val.{MacroData, Val, undefined}
 use Rattle.tm_values.specs.declared.escape.AutoEscape.{AutoEscape}
-use Rattle.tm_syntax.specs.declared.code.BlockCode.{BlockCode}
 use Rattle.tm_meaning.specs.World.{Named, World, Loop, loop_scope, new_loop, root_of, block_of, plain_scope, with_frames}
 use Rattle.tm_meaning.specs.Calls.{Asked, runs, cut_to, block_call, macro_call, Undo, of_block, of_super, of_macro, Callee, whole, macro_of}
 use Rattle.tm_meaning.specs.Inheritance.{place_in}
@@ -33,9 +31,9 @@ fuel_set_of false fuel = None
 abbrev pub lists_of : World → ListsValue
 lists_of w = record { blocks = w.blocks; places = w.places; loaded = w.loaded }
 
--- What a render of a template starts from, which has these blocks.
-abbrev pub started : ℕ → TemplateId → Named BlockCode → AutoEscape → Option ℕ → Val → World
-started id t blocks escape fuel context = record {
+-- What a render of a template starts from, which has blocks of these names.
+abbrev pub started : ℕ → TemplateId → List (List ℕ) → AutoEscape → Option ℕ → Val → World
+started id t names escape fuel context = record {
   id = id;
   scopes = record { frames = plain_scope context ∷ []; outer = 0 };
   namespaces = [];
@@ -43,7 +41,7 @@ started id t blocks escape fuel context = record {
   closures = [];
   streams = [];
   temps = [];
-  blocks = with_each t (keys_of blocks) [];
+  blocks = with_each t names [];
   places = [];
   loaded = [];
   block = None;

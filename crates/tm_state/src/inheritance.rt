@@ -82,11 +82,8 @@ impl StateData {
         let Some(name) = &self.block else {
             return Err(Error::from(ErrorKind::InvalidOperation));
         };
-        let Some(list) = self.lists.get(name.as_str()) else {
-            return Err(Error::from(ErrorKind::InvalidOperation));
-        };
         let place = self.lists.place(name.as_str());
-        let Some((next, template)) = list.behind(place) else {
+        let Some((next, template)) = self.lists.behind(name, place) else {
             return Err(Error::from(ErrorKind::InvalidOperation));
         };
         let stream = StreamId::block(template.share()?, name.share()?);

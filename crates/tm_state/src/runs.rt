@@ -114,14 +114,12 @@ impl StateData {
         ensures err { IfErr result (λ e. is_want_of_memory e ≡ false →
             (e ≡ ErrorKind.UnknownBlock ∷ []) × (template_of_block name.now self.now ≡ None)) }
     {
-        let Some(list) = self.lists.get(name.as_str()) else {
-            return Err(Error::from(ErrorKind::UnknownBlock));
-        };
-        let Some(template) = list.at(self.lists.place(name.as_str())) else {
+        let place = self.lists.place(name.as_str());
+        let Some((template, alone)) = self.lists.at(name, place) else {
             return Err(Error::from(ErrorKind::UnknownBlock));
         };
         let stream = StreamId::block(template.share()?, name.share()?);
-        Ok((stream, list.len() == 1))
+        Ok((stream, alone))
     }
 
     /// Lets a block run, and gives what that replaces, with how many scopes there were before its own.

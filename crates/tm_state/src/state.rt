@@ -26,10 +26,10 @@ use std::rc::Rc;
 use tm_meaning::{GlobalFunction, LoopMark, StreamId, TemplateId};
 use tm_operations::{check_settable, dict, namespace, range};
 use tm_printing::check_emission;
-use tm_syntax::{BlockCode, LoopFlags, Name, NameMap};
+use tm_syntax::{LoopFlags, Name, NameMap};
 use tm_tables::{
-    Closures, Context, Frame, FuelTracker, Host, Lists, LoopState, View, following_at, position_at,
-    previous_at,
+    BlockNames, Closures, Context, Frame, FuelTracker, Host, Lists, LoopState, View, following_at,
+    position_at, previous_at,
 };
 use tm_values::{
     AutoEscape, Error, ErrorKind, LoopPosition, Node, Records, UndefinedUse, Value, ValueMap,
@@ -86,22 +86,22 @@ impl Model for StateData {
 
 impl StateData {
     /// The state that a render of a template starts from: one scope over the context value, the template's
-    /// blocks, and the fuel, or the greatest u64 where none is set. Fails by OutOfMemory alone.
+    /// blocks, of these names, and the fuel, or the greatest u64 where none is set. Fails by OutOfMemory alone.
     pub fn new(
         alloc: Global,
         id: u64,
         template: TemplateId,
-        blocks: &NameMap<BlockCode>,
+        names: &Rc<BlockNames>,
         escape: AutoEscape,
         fuel: Option<u64>,
         context: Value,
     ) -> Result<StateData, Error>
         ensures { OkOrOutOfMemory result
-            (λ s. s ≡ started id template blocks.now escape fuel context) }
+            (λ s. s ≡ started id template names.now.value escape fuel context) }
     {
         let context = Context::new_with_frame(alloc, Frame::new(alloc, context))?;
         let mut lists = Lists::new(alloc);
-        lists.append(alloc, &template, blocks)?;
+        lists.append(alloc, &template, names)?;
         Ok(StateData {
             id,
             context,

@@ -1,17 +1,11 @@
--- Lists of blocks, and the names that were loaded.
-use Rattle.std.proofs.Common.{◌≡◌, ◌∙◌, ◌≢◌, ◌⊎◌, inl, inr, ◌++◌, ◌||◌, ℕ, List, [], ◌∷◌, Some, None, Bool, true, false, is_some, refl, sym, ap, set}
-use Rattle.std.proofs.Common.{get_or, subst}
+-- The names that were loaded.
+use Rattle.std.proofs.Common.{◌≡◌, ◌∙◌, ◌≢◌, ◌⊎◌, inl, inr, ◌++◌, ◌||◌, ℕ, List, [], ◌∷◌, Bool, true, false, is_some, refl, sym, ap}
 use Rattle.std.proofs.lemmas.Slice.Eq.{bytes_eq-Decides}
 use Rattle.tm_syntax.specs.Named.{Named, same_name, find, put}
 use Rattle.tm_syntax.specs.Names.{is_among}
 use Rattle.tm_syntax.proofs.Named.{find_put, find_put_other, same_or_not}
 use Rattle.std.specs.Prelude.{Result, Ok, Err, OnOk, is_err}
-use Rattle.std.proofs.Common.{insert}
-use Rattle.tm_meaning.specs.declared.stream.TemplateId.{TemplateId}
-use Rattle.tm_meaning.specs.Inheritance.{behind_all}
-use Rattle.tm_tables.specs.Lists.{HasNames, with_block}
-use Rattle.tm_tables.specs.Places.{AreOrdered, IsThere, IsGapFor}
-use Rattle.tm_tables.proofs.Places.{find-gap, find-read, written, added}
+use Rattle.tm_tables.specs.Lists.{HasNames}
 
 -- a name behind others
 among_more : (x y : List ℕ) (names : List (List ℕ)) → is_among x (names ++ y ∷ []) ≡ (same_name x y || is_among x names)
@@ -42,20 +36,6 @@ known_by table names x y has (inr apart) =
 pub one_known : (table : Named (Unit {0})) (names : List (List ℕ)) (x : List ℕ) → HasNames table names →
     HasNames (put x tt table) (names ++ x ∷ [])
 one_known table names x has = λ y. known_by table names x y has (same_or_not y x) ∙ sym (among_more y x names)
-
--- a template's block behind those of a name that stands there, and of one that doesn't
-pub block_there : (x y : List ℕ) (t : TemplateId) (ps seen : Named (List TemplateId)) (i : ℕ) (p : List ℕ × List TemplateId) (l : List TemplateId) → ps ≡ seen → y ≡ x →
-    AreOrdered ps → IsThere y seen i → p ≡ get_or ps i p → l ≡ behind_all t (Some p.1) → set ps i (p.0, l) ≡ with_block t x seen
-block_there x y t ps seen i p l same name ordered there at is =
-    let found : find y seen ≡ Some p.1 = ap (find y) (sym same) ∙ find-read y ps i p ordered (subst (λ q. IsThere y q i) (sym same) there) at in
-    written x y l ps seen i p same name ordered there at ∙ ap (λ m. put x m seen) is
-    ∙ sym (ap (λ o. put x (behind_all t o) seen) (ap (λ z. find z seen) (sym name) ∙ found))
-
-pub block_new : (x y : List ℕ) (t : TemplateId) (ps seen : Named (List TemplateId)) (i : ℕ) (l : List TemplateId) → ps ≡ seen → y ≡ x → IsGapFor y seen i →
-    l ≡ behind_all t None → insert ps i (x, l) ≡ with_block t x seen
-block_new x y t ps seen i l same name gap is =
-    added x y l ps seen i same name gap ∙ ap (λ m. put x m seen) is
-    ∙ sym (ap (λ o. put x (behind_all t o) seen) (ap (λ z. find z seen) (sym name) ∙ find-gap y seen i gap))
 
 pub went_well : {T E P : Type 0} (r : Result T E) → is_err r ≡ false → OnOk r P → P
 went_well (Ok x) e p = p

@@ -342,7 +342,7 @@ module _ {A : Type 0} where
   sorted-keys (p ∷ ps) = ap (λ b. b && is_sorted name_cmp (units (keys_of ps))) (below-keys p.0 ps)
       ∙ ap (λ b. below_all name_cmp p.0 ps && b) (sorted-keys ps)
 
-  among-keys : (z : List ℕ) (ps : Named A) → is_among z (keys_of (in_order ps)) ≡ is_among z (keys_of ps)
+  pub among-keys : (z : List ℕ) (ps : Named A) → is_among z (keys_of (in_order ps)) ≡ is_among z (keys_of ps)
   among-keys z ps = sym (is_some-lookup (is_at (name_cmp z)) (in_order ps)) ∙ ap is_some (find-in_order z ps)
       ∙ is_some-lookup (is_at (name_cmp z)) ps
 

@@ -1,7 +1,9 @@
+pub mod BlockNames
 pub mod Closures
 pub mod Found
 pub mod Known
 pub mod Language
+pub mod Layers
 pub mod Lists
 pub mod Locals
 pub mod Places

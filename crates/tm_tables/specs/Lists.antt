@@ -1,15 +1,16 @@
 -- The lists of blocks that a state has, their places, and the names that were loaded.
 use Rattle.std.specs.Borrow.{Bor}
 use Rattle.std.specs.Map.{keys_of}
-use Rattle.std.specs.Prelude.{◌≡◌, ℕ, List, [], ◌∷◌, Option, Some, None, is_some}
+use Rattle.std.specs.Prelude.{◌≡◌, ℕ, List, [], ◌∷◌, length, Bool, nat_eq, Option, Some, None, is_some}
+use Rattle.std.specs.Prelude.{option_and_then, slice_get}
 use Rattle.std.specs.declared.alloc.Global.{Global}
 use Rattle.std.specs.declared.rc.Rc.{Rc}
 use Rattle.tm_syntax.specs.Named.{Named, find, put}
 use Rattle.tm_syntax.specs.Names.{is_among}
-use Rattle.tm_syntax.specs.declared.code.BlockCode.{BlockCode}
 use Rattle.tm_meaning.specs.World.{Template}
 use Rattle.tm_meaning.specs.declared.stream.TemplateId.{TemplateId}
 use Rattle.tm_meaning.specs.Inheritance.{behind_all}
+use Rattle.tm_tables.specs.Layers.{LayerValue}
 
 -- the templates that have a block of each name, and the names of the templates that were loaded
 pub record LoadedValue : Type 0 where
@@ -50,9 +51,23 @@ abbrev pub with_each : TemplateId → List (List ℕ) → Named (List TemplateId
 with_each t [] ls = ls
 with_each t (x ∷ xs) ls = with_each t xs (with_block t x ls)
 
--- These are the blocks of the template that was found, by their names; or none was.
-abbrev pub AreBlocksOf : Option (Bor (Named BlockCode)) → Option Template → Type 0
-AreBlocksOf (Some blocks) found = (t : Template) × (found ≡ Some t) × (keys_of t.blocks ≡ keys_of blocks.now)
+-- and so do those of the templates of a chain, one behind the other
+abbrev pub with_layers : List LayerValue → Named (List TemplateId) → Named (List TemplateId)
+with_layers [] ls = ls
+with_layers (l ∷ more) ls = with_layers more (with_each l.template l.names ls)
+
+-- the template at a place of the list of a name
+abbrev pub listed_at : List ℕ → ℕ → Named (List TemplateId) → Option TemplateId
+listed_at x n blocks = option_and_then (λ (l : List TemplateId). slice_get l n) (find x blocks)
+
+-- The list of a name has this template at a place, and it stands there alone or not.
+abbrev pub IsListed : TemplateId → Bool → List ℕ → ℕ → Named (List TemplateId) → Type 0
+IsListed t alone x n blocks =
+    (l : List TemplateId) × (find x blocks ≡ Some l) × (slice_get l n ≡ Some t) × (alone ≡ nat_eq (length l) 1)
+
+-- These are the names of the blocks of the template that was found; or none was.
+abbrev pub AreBlocksOf : Option (Bor (Rc (List (List ℕ)) Global)) → Option Template → Type 0
+AreBlocksOf (Some names) found = (t : Template) × (found ≡ Some t) × (keys_of t.blocks ≡ names.now.value)
 AreBlocksOf None found = found ≡ None
 
 -- A table has the names that are among these.

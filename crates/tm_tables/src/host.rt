@@ -9,11 +9,13 @@ ghost use Rattle.tm_values.specs.Answer.{IsAnswer};
 ghost use Rattle.tm_tables.specs.Lists.{AreBlocksOf};
 ghost use Rattle.tm_tables.specs.Stated.{IsCalled, IsFormatterAnswer, IsNamedAnswer};
 
+use crate::block_names::BlockNames;
 use crate::callable::{CallableAnswer, Called};
 use crate::view::View;
 use std::alloc::Global;
+use std::rc::Rc;
 use tm_meaning::{StreamId, TemplateId};
-use tm_syntax::{BlockCode, Code, Name, NameMap};
+use tm_syntax::{Code, Name, NameMap};
 use tm_values::{Error, UndefinedBehavior, Value};
 
 /// What a render runs under: the environment, the rendered template and all objects of the caller, as one.
@@ -48,8 +50,8 @@ pub trait Host {
     fn joined_name(&self, alloc: Global, name: &str, running: &str) -> Result<Name, Error>
         ensures { IsAnswer result ((meaning self.now).join name.now running.now) };
 
-    /// The blocks of the template of a name, where there is one.
-    fn blocks_of(&self, name: &str) -> Option<&NameMap<BlockCode>>
+    /// The names of the blocks of the template of a name, where there is one.
+    fn blocks_of(&self, name: &str) -> Option<&Rc<BlockNames>>
         ensures { AreBlocksOf result (find name.now (meaning self.now).templates) };
 
     /// The instructions of a stream.

@@ -1,7 +1,7 @@
 //! Scopes, loops, fuel, what objects of the caller see and answer, and what the machine asks of the environment.
 #![tactic(auto)]
 
-mod block_list;
+mod block_names;
 mod block_stack;
 mod callable;
 mod closures;
@@ -13,6 +13,7 @@ mod frame;
 mod fuel;
 mod host;
 mod language;
+mod layer;
 mod lists;
 mod loaded;
 mod locals;
@@ -22,7 +23,7 @@ mod objects;
 mod plain;
 mod view;
 
-pub use block_list::BlockList;
+pub use block_names::BlockNames;
 pub use block_stack::BlockStack;
 pub use callable::{Callable, CallableAnswer, Called};
 pub use closures::Closures;

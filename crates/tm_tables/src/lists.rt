@@ -1,14 +1,14 @@
 //! The lists of blocks that a state has, their places, and the names of the templates that it loaded.
-ghost use Rattle.std.specs.Map.{keys_of};
-ghost use Rattle.std.specs.Prelude.{◌≡◌, ◌∷◌, ◌++◌, [], IfErr, IfOk, OnErr, OnOk};
+ghost use Rattle.std.specs.Prelude.{◌≡◌, ◌+◌, ◌∷◌, ◌++◌, [], slice_get, List, Some, MatchOption, IfErr, IfOk, OnErr, OnOk};
 ghost use Rattle.tm_meaning.specs.Inheritance.{place_in};
+ghost use Rattle.tm_meaning.specs.declared.stream.TemplateId.{TemplateId as Template};
 ghost use Rattle.tm_syntax.specs.Named.{find, put};
 ghost use Rattle.tm_syntax.specs.Names.{is_among};
-ghost use Rattle.tm_tables.specs.Lists.{loaded_part, no_lists, with_each};
-ghost use Rattle.tm_values.specs.Answer.{IsLent, OkOrOutOfMemory};
+ghost use Rattle.tm_tables.specs.Lists.{IsListed, listed_at, loaded_part, no_lists, with_each};
+ghost use Rattle.tm_values.specs.Answer.{OkOrOutOfMemory};
 ghost use Rattle.tm_values.specs.declared.error.ErrorKind.TheVariants.{OutOfMemory};
 
-use crate::block_list::BlockList;
+use crate::block_names::BlockNames;
 use crate::loaded::Loaded;
 use crate::name_table::NameTable;
 use std::alloc::{AllocError, Global};
@@ -16,7 +16,7 @@ use std::marker::Model;
 use std::mem;
 use std::rc::Rc;
 use tm_meaning::TemplateId;
-use tm_syntax::{BlockCode, Name, NameMap};
+use tm_syntax::Name;
 use tm_values::{Error, ErrorKind};
 
 impl NameTable<usize> {
@@ -74,12 +74,25 @@ impl Lists {
         }
     }
 
-    /// The list of a name, where there is one.
-    pub fn get(&self, name: &str) -> Option<&BlockList>
-        ensures { IsLent result (find name.now self.now.blocks) }
+    /// The template at a place of the list of a name, where there is one, and whether it is alone there.
+    pub fn at(&self, name: &Name, place: usize) -> Option<(&TemplateId, bool)>
+        ensures { MatchOption result (listed_at name.now place self.now.blocks ≡ None)
+            (λ r. IsListed r.0.now r.1 name.now place self.now.blocks) }
     {
         match &self.loaded {
-            Some(loaded) => loaded.as_ref().get(name),
+            Some(loaded) => loaded.as_ref().at(name, place),
+            None => None,
+        }
+    }
+
+    /// The place behind this one in the list of a name, toward the root, and the template there, where there is one.
+    pub fn behind(&self, name: &Name, place: usize) -> Option<(usize, &TemplateId)>
+        ensures { MatchOption result (listed_at name.now (place + 1) self.now.blocks ≡ None)
+            (λ r. (r.0 ≡ place + 1) × ((l : List Template) × (find name.now self.now.blocks ≡ Some l)
+            × (slice_get l (place + 1) ≡ Some r.1.now))) }
+    {
+        match &self.loaded {
+            Some(loaded) => loaded.as_ref().behind(name, place),
             None => None,
         }
     }
@@ -126,30 +139,30 @@ impl Lists {
         mem::replace(&mut self.places, places)
     }
 
-    /// A template's blocks of these names stand behind those that are there. Fails by OutOfMemory alone, and then
-    /// some may stand there.
+    /// A template's blocks of these names stand behind those that are there. Fails by OutOfMemory alone, and then all
+    /// stays as it was.
     pub fn append(
         &mut self,
         alloc: Global,
         template: &TemplateId,
-        blocks: &NameMap<BlockCode>,
+        names: &Rc<BlockNames>,
     ) -> Result<(), Error>
-        ensures ok { OnOk result
-            (self.new.blocks ≡ with_each template.now (keys_of blocks.now) self.old.blocks) }
+        ensures ok { OnOk result (self.new ≡ record self.old {
+          blocks = with_each template.now names.now.value self.old.blocks;
+        }) }
         ensures kind { IfErr result (λ e. e ≡ OutOfMemory ∷ []) }
-        ensures rest { self.new ≡ record self.old { blocks = self.new.blocks } }
+        ensures err { OnErr result (self.new ≡ self.old) }
     {
-        let names = blocks.names(alloc)?;
-        if names.is_empty() {
+        if names.as_ref().is_empty() {
             return Ok(());
         }
         if let Some(loaded) = &mut self.loaded {
             if let Some(own) = Rc::get_mut(loaded) {
-                return own.append(alloc, template, names);
+                return own.append(template, names);
             }
         }
         let mut own = self.copy_loaded(alloc)?;
-        own.append(alloc, template, names)?;
+        own.append(template, names)?;
         self.loaded = Some(shared(alloc, own)?);
         Ok(())
     }

@@ -1,84 +1,86 @@
 //! What states share of the templates that they loaded.
-ghost use Rattle.std.specs.Prelude.{◌≡◌, ◌∷◌, ◌++◌, [], IfErr, IfOk, OnErr, OnOk};
-ghost use Rattle.tm_syntax.specs.Named.{find, texts_of};
+ghost use Rattle.std.specs.Prelude.{◌≡◌, ◌+◌, ◌∷◌, ◌++◌, [], drop, slice_get, List, Some, MatchOption, IfErr, IfOk, OnErr, OnOk};
+ghost use Rattle.std.specs.List.{list_any};
+ghost use Rattle.tm_syntax.specs.Named.{find};
 ghost use Rattle.tm_syntax.specs.Names.{is_among};
-ghost use Rattle.tm_tables.specs.Lists.{nothing_loaded, with_block, with_each};
-ghost use Rattle.tm_values.specs.Answer.{IsLent, OkOrOutOfMemory};
+ghost use Rattle.tm_meaning.specs.declared.stream.TemplateId.{TemplateId as Template};
+ghost use Rattle.tm_tables.specs.Layers.{IsLayerOf, has_block};
+ghost use Rattle.tm_tables.specs.Lists.{IsListed, listed_at, nothing_loaded, with_each};
+ghost use Rattle.tm_values.specs.Answer.{OkOrOutOfMemory};
 ghost use Rattle.tm_values.specs.declared.error.ErrorKind.TheVariants.{OutOfMemory};
 
-use crate::block_list::BlockList;
+use crate::block_names::BlockNames;
+use crate::layer::Layer;
 use crate::name_table::NameTable;
 use std::alloc::{AllocError, Global};
 use std::marker::Model;
+use std::rc::Rc;
 use tm_meaning::TemplateId;
 use tm_syntax::Name;
 use tm_values::{Error, ErrorKind};
 
-impl NameTable<BlockList> {
-    /// A template's block stands behind those of its name. Fails by OutOfMemory alone, and then all stays as it was.
-    fn append(&mut self, alloc: Global, name: Name, template: TemplateId) -> Result<(), Error>
-        ensures ok { OnOk result (self.new ≡ with_block template name self.old) }
-        ensures kind { IfErr result (λ e. e ≡ OutOfMemory ∷ []) }
-        ensures err { OnErr result (self.new ≡ self.old) }
-    {
-        match self.search(name.as_str()) {
-            Ok(at) => self.entries[at].1.append(template),
-            Err(at) => {
-                let alone = BlockList::new(alloc, template)?;
-                self.entries.insert(at, (name, alone))?;
-                Ok(())
+/// The layer whose template stands at a place of the list of a name.
+fn layer_of(layers: &[Layer], name: &Name, place: usize) -> Option<usize>
+    ensures { IsLayerOf result name.now place layers.now }
+{
+    let mut left = place;
+    let mut at = 0;
+    while at < layers.len() {
+        if layers[at].has(name) {
+            if left == 0 {
+                return Some(at);
             }
+            left -= 1;
         }
+        at += 1;
     }
-
-    /// A template's blocks of these names stand behind those that are there. Fails by OutOfMemory alone, and then some
-    /// may stand there.
-    fn append_each(
-        &mut self,
-        alloc: Global,
-        template: &TemplateId,
-        names: Vec<&str>,
-    ) -> Result<(), Error>
-        ensures ok { OnOk result
-            (self.new ≡ with_each template.now (texts_of names.entry.items) self.old) }
-        ensures kind { IfErr result (λ e. e ≡ OutOfMemory ∷ []) }
-    {
-        for name in names {
-            let name = Name::new(alloc, name)?;
-            self.append(alloc, name, template.share()?)?;
-        }
-        Ok(())
-    }
-
-    /// The same lists. AllocError for want of memory.
-    fn copy(&self, alloc: Global) -> Result<NameTable<BlockList>, AllocError>
-        ensures { IfOk result (λ copy. copy ≡ self.now) }
-    {
-        let mut entries = Vec::new(alloc);
-        for entry in self.entries.iter() {
-            let name = entry.0.share()?;
-            entries.push((name, entry.1.copy(alloc)?))?;
-        }
-        Ok(NameTable { entries })
-    }
+    None
 }
 
-/// The lists of blocks by name, and the names of the templates that were loaded, in order. A contract sees both.
+/// Whether a layer has a block of a name, of those from one on. The root's is asked first, as layouts have most blocks.
+fn has_from(layers: &[Layer], from: usize, name: &Name) -> bool
+    ensures { result ≡ list_any (has_block name.now) (drop from layers.now) }
+{
+    let mut end = layers.len();
+    while end > from {
+        end -= 1;
+        if layers[end].has(name) {
+            return true;
+        }
+    }
+    false
+}
+
+/// The same layers. AllocError for want of memory.
+fn copy_layers(alloc: Global, layers: &[Layer]) -> Result<Vec<Layer>, AllocError>
+    ensures { IfOk result (λ copy. copy.items ≡ layers.now) }
+{
+    let mut copy = Vec::new(alloc);
+    for layer in layers {
+        copy.push(layer.share()?)?;
+    }
+    Ok(copy)
+}
+
+/// The templates with the names of their blocks, from child to root, and the names of the templates that were loaded,
+/// in order. A contract sees the lists of the templates by the names of their blocks, and the latter.
 #[derive(Drop)]
 pub(crate) struct Loaded {
-    blocks: NameTable<BlockList>,
+    layers: Vec<Layer>,
     names: Vec<Name>,
     known: NameTable<()>,
 }
 
 impl Model for Loaded {
-    ghost use Rattle.tm_tables.specs.Lists.{HasNames, LoadedValue};
+    ghost use Rattle.std.specs.Prelude.{[]};
+    ghost use Rattle.tm_tables.specs.Layers.{AreAscending};
+    ghost use Rattle.tm_tables.specs.Lists.{HasNames, LoadedValue, with_layers};
 
     ghost Value = { LoadedValue };
 
-    ghost view = { λ s. record { blocks = s.blocks; names = s.names.items } };
+    ghost view = { λ s. record { blocks = with_layers s.layers.items []; names = s.names.items } };
 
-    ghost invariant = { λ s. HasNames s.known s.names.items };
+    ghost invariant = { λ s. (AreAscending s.layers.items) × (HasNames s.known s.names.items) };
 }
 
 impl Loaded {
@@ -87,17 +89,40 @@ impl Loaded {
         ensures { result ≡ nothing_loaded }
     {
         Loaded {
-            blocks: NameTable::new(alloc),
+            layers: Vec::new(alloc),
             names: Vec::new(alloc),
             known: NameTable::new(alloc),
         }
     }
 
-    /// The list of a name, where there is one.
-    pub(crate) fn get(&self, name: &str) -> Option<&BlockList>
-        ensures { IsLent result (find name.now self.now.blocks) }
+    /// The template at a place of the list of a name, where there is one, and whether it is alone there.
+    pub(crate) fn at(&self, name: &Name, place: usize) -> Option<(&TemplateId, bool)>
+        ensures { MatchOption result (listed_at name.now place self.now.blocks ≡ None)
+            (λ r. IsListed r.0.now r.1 name.now place self.now.blocks) }
     {
-        self.blocks.get(name)
+        match layer_of(&self.layers, name, place) {
+            Some(at) => {
+                let alone = place == 0 && !has_from(&self.layers, at + 1, name);
+                Some((self.layers[at].template(), alone))
+            }
+            None => None,
+        }
+    }
+
+    /// The place behind this one in the list of a name, toward the root, and the template there, where there is one.
+    pub(crate) fn behind(&self, name: &Name, place: usize) -> Option<(usize, &TemplateId)>
+        ensures { MatchOption result (listed_at name.now (place + 1) self.now.blocks ≡ None)
+            (λ r. (r.0 ≡ place + 1) × ((l : List Template) × (find name.now self.now.blocks ≡ Some l)
+            × (slice_get l (place + 1) ≡ Some r.1.now))) }
+    {
+        if place >= self.layers.len() {
+            return None;
+        }
+        let next = place + 1;
+        match layer_of(&self.layers, name, next) {
+            Some(at) => Some((next, self.layers[at].template())),
+            None => None,
+        }
     }
 
     /// Whether a name was loaded. Makes log n comparisons for n names.
@@ -107,20 +132,26 @@ impl Loaded {
         self.known.get(name).is_some()
     }
 
-    /// A template's blocks of these names stand behind those that are there. Fails by OutOfMemory alone, and then
-    /// some may stand there.
+    /// A template's blocks of these names stand behind those that are there. Fails by OutOfMemory alone, and then all
+    /// stays as it was.
     pub(crate) fn append(
         &mut self,
-        alloc: Global,
         template: &TemplateId,
-        names: Vec<&str>,
+        names: &Rc<BlockNames>,
     ) -> Result<(), Error>
-        ensures ok { OnOk result
-            (self.new.blocks ≡ with_each template.now (texts_of names.entry.items) self.old.blocks) }
+        ensures ok { OnOk result (self.new ≡ record self.old {
+          blocks = with_each template.now names.now.value self.old.blocks;
+        }) }
         ensures kind { IfErr result (λ e. e ≡ OutOfMemory ∷ []) }
-        ensures rest { self.new.names ≡ self.old.names }
+        ensures err { OnErr result (self.new ≡ self.old) }
     {
-        self.blocks.append_each(alloc, template, names)
+        names.as_ref().ascend();
+        let layer = Layer {
+            template: template.share()?,
+            names: names.clone()?,
+        };
+        self.layers.push(layer)?;
+        Ok(())
     }
 
     /// The name is loaded from here on. Fails by OutOfMemory alone, and then all stays as it was.
@@ -144,7 +175,7 @@ impl Loaded {
         ensures { OkOrOutOfMemory result (λ copy. copy ≡ self.now) }
     {
         let mut loaded = Loaded {
-            blocks: self.blocks.copy(alloc)?,
+            layers: copy_layers(alloc, &self.layers)?,
             names: Vec::new(alloc),
             known: NameTable::new(alloc),
         };

@@ -1,3 +1,4 @@
 pub mod Named
 pub mod Streams
 pub mod Endings
+pub mod Ascending

@@ -1,4 +1,5 @@
 -- Templates as plain data.
+use Rattle.std.specs.Map.{keys_of}
 use Rattle.std.specs.Prelude.{◌≡◌, ℕ, List, []}
 use Rattle.tm_values.specs.declared.error.ErrorKind.{ErrorKind}
 use Rattle.tm_values.specs.declared.escape.AutoEscape.{AutoEscape}
@@ -33,11 +34,12 @@ block_codes tree = by_name (compiled_blocks (blocks_in (body tree).row))
 abbrev pub tree_of : Compiled → TemplateTree
 tree_of t = record { name = t.name; escape = t.escape; root = body t.tree }
 
--- These are the streams of the tree, and that of no block.
-pub record AreStreams (tree : Tree) (root : List Instruction) (blocks : Named BlockCode)
+-- These are the streams of the tree, the names of its blocks, and the stream of no block.
+pub record AreStreams (tree : Tree) (root : List Instruction) (blocks : Named BlockCode) (names : List (List ℕ))
     (nothing : List Instruction) : Type 0 where
   pub root_is : root ≡ code_of (body tree)
   pub blocks_are : blocks ≡ block_codes tree
+  pub names_are : names ≡ keys_of (block_codes tree)
   pub nothing_is : nothing ≡ []
 
 -- the template that a source is under a name and with an escape: its tree is the one that the source spells

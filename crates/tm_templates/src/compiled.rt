@@ -1,13 +1,15 @@
 //! Compiled templates.
 ghost use Rattle.std.specs.BTreeSet.{keys};
+ghost use Rattle.std.specs.List.Sorted.{IsStrictlySortedBy};
+ghost use Rattle.std.specs.Map.{keys_of};
 ghost use Rattle.std.specs.Prelude.{◌≡◌, [], ◌∷◌, IfOk, IfErr, map as each, string_bytes};
 ghost use Rattle.std.specs.Rc.{rc_str_bytes};
 ghost use Rattle.tm_syntax.specs.Names.{undeclared};
 ghost use Rattle.tm_syntax.specs.Blocks.{code_of};
 ghost use Rattle.tm_syntax.specs.declared.tree.Stmt.TheBlock.{hidden-the_row-Stmt-0 as statements};
-ghost use Rattle.tm_syntax.specs.Named.{find};
+ghost use Rattle.tm_syntax.specs.Named.{find, name_cmp};
 ghost use Rattle.tm_delimiters.specs.Syntax.{default_syntax};
-ghost use Rattle.tm_values.specs.Answer.{IsLent};
+ghost use Rattle.tm_values.specs.Answer.{IsLent, OkOrOutOfMemory};
 ghost use Rattle.tm_values.specs.declared.error.ErrorKind.TheVariants.{OutOfMemory};
 ghost use Rattle.tm_meaning.specs.Calls.{is_required};
 ghost use Rattle.tm_meaning.specs.Tree.{part_of, template_of};
@@ -20,10 +22,10 @@ use crate::defaults::EscapeSetting;
 use std::alloc::Global;
 use std::collections::BTreeSet;
 use std::marker::Model;
-use std::rc::RcStr;
+use std::rc::{Rc, RcStr};
 use tm_compiler::{BlockCode, Code, Name, NameMap, Streams, SyntaxConfig, Tree, generate, parse};
 use tm_names::undeclared;
-use tm_tables::EscapeRule;
+use tm_tables::{BlockNames, EscapeRule};
 use tm_values::{AutoEscape, Error};
 
 /// How templates are compiled.
@@ -88,6 +90,14 @@ impl<'source> Source<'source> {
     }
 }
 
+/// The names of these blocks, which ascend, for states to share. OutOfMemory.
+fn shared_names(alloc: Global, blocks: &NameMap<BlockCode>) -> Result<Rc<BlockNames>, Error>
+    requires { IsStrictlySortedBy name_cmp (keys_of blocks.now) }
+    ensures { OkOrOutOfMemory result (λ shared. shared.value ≡ keys_of blocks.now) }
+{
+    Ok(Rc::new(alloc, BlockNames::of(alloc, blocks)?)?)
+}
+
 /// A template that is compiled: its name, its source, how it is escaped, the tree that the source spells, and the tree's streams.
 pub struct CompiledTemplate<'source> {
     name: Name,
@@ -95,6 +105,7 @@ pub struct CompiledTemplate<'source> {
     escape: AutoEscape,
     tree: Tree,
     streams: Streams,
+    block_names: Rc<BlockNames>,
     nothing: Code,
 }
 
@@ -107,6 +118,7 @@ impl Drop for CompiledTemplate<'_> {
             escape: _escape,
             tree: _tree,
             streams: _streams,
+            block_names: _block_names,
             nothing: _nothing,
         } = self;
     }
@@ -126,7 +138,7 @@ impl<'source> Model for CompiledTemplate<'source> {
 
     ghost view = { λ a. record { name = a.name; source = source_bytes a.source; escape = a.escape; tree = a.tree } };
 
-    ghost invariant = { λ a. AreStreams a.tree a.streams.root a.streams.blocks a.nothing };
+    ghost invariant = { λ a. AreStreams a.tree a.streams.root a.streams.blocks a.block_names.value a.nothing };
 }
 
 impl<'source> CompiledTemplate<'source> {
@@ -164,6 +176,7 @@ impl<'source> CompiledTemplate<'source> {
         let text = source.shared(alloc)?;
         let tree = parse(alloc, &text, syntax)?;
         let streams = generate(alloc, &tree)?;
+        let block_names = shared_names(alloc, &streams.blocks)?;
         let name = Name::new(alloc, name)?;
         Ok(CompiledTemplate {
             name,
@@ -171,6 +184,7 @@ impl<'source> CompiledTemplate<'source> {
             escape,
             tree,
             streams,
+            block_names,
             nothing: Code::empty(alloc),
         })
     }
@@ -222,6 +236,13 @@ impl<'source> CompiledTemplate<'source> {
         ensures { result.now ≡ block_codes self.now.tree }
     {
         &self.streams.blocks
+    }
+
+    /// The names of its blocks, for states to share.
+    pub fn block_names(&self) -> &Rc<BlockNames>
+        ensures { result.now.value ≡ keys_of (block_codes self.now.tree) }
+    {
+        &self.block_names
     }
 
     /// The code of its block of a name, where there is one.

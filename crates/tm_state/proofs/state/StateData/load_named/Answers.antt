@@ -17,10 +17,11 @@ returns-clause-ok g c =
     ∙ sym c.is_loaded.ensures ∙ c.if-is_loaded.false in
     let there = subst (λ y. AreBlocksOf (Some c.in-Some.blocks) (find y host.templates)) c.as_str-2.ensures c.in-Some.ensures in
     let added = c.in_ok-add_loaded.ensures.ok in
+    let behind = c.in_ok-append.ensures.ok in
     loads_into host x w c.in-Some.blocks fresh there c.in_ok-share.field-0 c.add_loaded.new.self.blocks c.add_loaded.new.self.places
-    c.add_loaded.new.self.loaded c.self.view_is c.in_ok-share.ensures (ap (λ (l : ListsValue). l.blocks) added ∙ c.in_ok-append.ensures.ok)
-    (ap (λ (l : ListsValue). l.places) added ∙ ap (λ (l : ListsValue). l.places) c.in_ok-append.ensures.rest)
-    (ap (λ (l : ListsValue). l.loaded) added ∙ ap (λ (l : ListsValue). l.loaded ++ x ∷ []) c.in_ok-append.ensures.rest)
+    c.add_loaded.new.self.loaded c.self.view_is c.in_ok-share.ensures (ap (λ (l : ListsValue). l.blocks) added ∙ ap (λ (l : ListsValue). l.blocks) behind)
+    (ap (λ (l : ListsValue). l.places) added ∙ ap (λ (l : ListsValue). l.places) behind)
+    (ap (λ (l : ListsValue). l.loaded) added ∙ ap (λ (l : ListsValue). l.loaded ++ x ∷ []) behind)
 
 pub returns-clause-fewer : goal.returns-clause-fewer
 returns-clause-fewer g c =
@@ -34,4 +35,4 @@ returns-clause-fewer g c =
     let there = subst (λ y. AreBlocksOf (Some c.in-Some.blocks) (find y host.templates)) c.as_str-2.ensures c.in-Some.ensures in
     let added = c.in_ok-add_loaded.ensures.ok in
     fewer_into host x w c.in-Some.blocks fresh there c.add_loaded.new.self.blocks c.add_loaded.new.self.loaded c.self.view_is
-    (ap (λ (l : ListsValue). l.loaded) added ∙ ap (λ (l : ListsValue). l.loaded ++ x ∷ []) c.in_ok-append.ensures.rest)
+    (ap (λ (l : ListsValue). l.loaded) added ∙ ap (λ (l : ListsValue). l.loaded ++ x ∷ []) c.in_ok-append.ensures.ok)

@@ -1,8 +1,14 @@
-use Rattle.std.proofs.Common.{rules}
+use Rattle.std.proofs.Common.{◌∙◌, ap, rules, sym}
+use Rattle.tm_syntax.specs.Named.{find}
+use Rattle.tm_meaning.specs.World.{World}
 use Rattle.tm_state.proofs.Blocks.{next_there}
 use Rattle.tm_state.proofs.state.StateData.next_block.Goals as goal
 
 pub returns-clause-ok : goal.returns-clause-ok
 returns-clause-ok c =
-    next_there c.args.self.now c.in_ok-share-3.field-0 c.in-Some-get.list.now c.place-place.result c.in-Some-behind.next
-    c.in-Some-behind.template.now c.block-stream.result (search rules) (search rules) (search rules) (search rules) (search rules) (search rules)
+    let w = c.args.self.now in
+    let behind = c.in-Some-behind.ensures in
+    next_there w c.in_ok-share-3.field-0 behind.1.0 c.place-place.result c.in-Some-behind.next c.in-Some-behind.template.now
+    c.block-stream.result (search rules)
+    (ap (λ y. find y w.blocks) c.in_ok-share-3.ensures ∙ ap (λ (v : World). find c.in-Some.name v.blocks) (sym c.self.view_is) ∙ behind.1.1)
+    (search rules) behind.0 behind.1.2 (search rules)

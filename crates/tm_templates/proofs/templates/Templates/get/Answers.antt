@@ -1,4 +1,4 @@
-use Rattle.std.proofs.Common.{◌≡◌, List, None, Some, subst, sym}
+use Rattle.std.proofs.Common.{◌≡◌, Some, subst, sym}
 use Rattle.tm_syntax.specs.Named.{Named, find}
 use Rattle.tm_tables.proofs.Places.{find-read, find-gap}
 use Rattle.tm_tables.specs.Places.{IsThere}

@@ -1,7 +1,6 @@
-use Rattle.std.proofs.Common.{ℕ, List, rules, length, subst, sym, ◌∙◌}
+use Rattle.std.proofs.Common.{ℕ, List, rules}
 use Rattle.std.proofs.lemmas.Fn.{always_returns_same}
-use Rattle.std.specs.List.Sorted.{IsSearchInRange, IsBinarySearchResult}
-use Rattle.tm_syntax.specs.Named.{Named, name_cmp}
+use Rattle.tm_syntax.specs.Named.{name_cmp}
 use Rattle.tm_tables.proofs.Places.{searched_in}
 use Rattle.tm_templates.specs.Templates.{Compiled}
 use Rattle.tm_templates.proofs.templates.Templates.place.Goals as goal
