@@ -19,6 +19,7 @@ use Rattle.tm_state.specs.declared.saved.Saved.{Saved}
 use Rattle.tm_state.specs.declared.saved.Saved.TheVariants as saved
 use Rattle.tm_state.specs.declared.saved.SavedBlock.{SavedBlock}
 use Rattle.tm_state.specs.declared.saved.SavedMacro.{SavedMacro}
+use Rattle.tm_state.specs.declared.saved.SavedSuper.{SavedSuper}
 use Rattle.tm_state.specs.declared.nested.NestedRun.{NestedRun}
 use Rattle.tm_state.specs.Answers.{Becomes, KeepsFixedAndNames, Leaves, NamedBecomes, NeedsAny, OneDeeper, StaysInPlace, call_of}
 use Rattle.tm_state.specs.State.{IsSaved, callee_of, put_back}
@@ -92,10 +93,10 @@ put_back_fewer limit (saved.Block s) before w deep =
     let long = outermost_long s.scopes w.scopes.frames (omega (arith, scopes, frames)) in
     (omega (arith, long, scopes), ap (λ (s : SavedBlock). s.outer) deep.0)
 put_back_fewer limit (saved.Super s) before w deep =
-    let scopes : s.replaced.scopes ≡ length before.scopes.frames = ap (λ (s : SavedBlock). s.scopes) deep.0.0 in
+    let scopes : s.replaced.scopes ≡ length before.scopes.frames = ap (λ (s : SavedSuper). s.replaced.scopes) deep.0 in
     let frames = deep.1.0 in
     let long = outermost_long s.replaced.scopes w.scopes.frames (omega (arith, scopes, frames)) in
-    (omega (arith, long, scopes), ap (λ (s : SavedBlock). s.outer) deep.0.0)
+    (omega (arith, long, scopes), ap (λ (s : SavedSuper). s.replaced.outer) deep.0)
 put_back_fewer limit (saved.Macro s) before w deep =
     let same : s.context ≡ before.scopes = ap (λ (s : SavedMacro). s.context) deep.0 in
     let frames = ap (λ (s : Scopes). length s.frames) same in

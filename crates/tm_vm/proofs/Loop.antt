@@ -33,13 +33,9 @@ use Rattle.tm_state.specs.declared.saved.Saved.TheVariants as saved
 use Rattle.tm_state.specs.declared.saved.SavedBlock.{SavedBlock}
 use Rattle.tm_state.specs.declared.saved.SavedMacro.{SavedMacro}
 use Rattle.tm_vm.specs.Nested.{IsCaptured, RanNested, Went, EndsIn, WroteBeginning, IsBack, IsWrapped, StandsOn, behind, begins_in, base_in}
-use Rattle.tm_state.specs.State.{IsSaved, IsSavedSuper, behind_block, callee_of, put_back, undo_of}
-use Rattle.std.specs.Prelude.{option_map}
-use Rattle.tm_syntax.specs.Named.{find}
-use Rattle.tm_meaning.specs.Calls.{block_undone, of_super}
-use Rattle.tm_meaning.specs.Inheritance.{at_place_of, names_left, put_list}
-use Rattle.tm_meaning.specs.World.{HostValue, Layers}
-use Rattle.tm_tables.specs.Lists.{placed_at}
+use Rattle.tm_state.specs.State.{IsSaved, callee_of, put_back, undo_of}
+use Rattle.tm_meaning.specs.Inheritance.{names_left}
+use Rattle.tm_meaning.specs.World.{HostValue}
 use Rattle.tm_state.specs.declared.saved.SavedSuper.{SavedSuper}
 use Rattle.tm_vm.proofs.Shift.{alone, behind_text}
 
@@ -145,18 +141,10 @@ module _ (p : Program) (heard : Bool) (ks : List Capture) (w : World) (back : Ba
       let parts = nested_parts a l in
       subst (λ (e : Final). Leads p f e.text (back_to back e.end) o) (one_end parts.1 (behind_text t run)) parts.2
 
--- behind a `super()` its list is at the place before it
-super_undone : (s : SavedSuper) (b w : World) → IsSavedSuper s b → undone (of_super s.name b) w ≡ put_back (saved.Super s) w
-super_undone s b w (block, name, (l, found, place)) =
-    ap (λ (o : Option Layers). record (block_undone b w) { blocks = put_list s.name (option_map (at_place_of o) (find s.name w.blocks)) w.blocks })
-    found
-    ∙ ap (λ n. record (block_undone b w) { blocks = placed_at n s.name w.blocks }) (sym place)
-    ∙ ap (λ (r : SavedBlock). record (behind_block r w) { blocks = placed_at s.place s.name w.blocks }) (sym block)
-
 -- What is undone behind a run is what is put back.
 pub undone_is : (s : Saved) (b w : World) → IsSaved s b → undone (undo_of s b) w ≡ put_back s w
 undone_is (saved.Block s) b w is = sym (ap (λ x. put_back (saved.Block x) w) is)
-undone_is (saved.Super s) b w is = super_undone s b w is
+undone_is (saved.Super s) b w is = sym (ap (λ x. put_back (saved.Super x) w) is)
 undone_is (saved.Macro s) b w is = sym (ap (λ x. put_back (saved.Macro x) w) is)
 
 -- what a nested run's end leads to, by what is put back behind it
@@ -307,7 +295,7 @@ scopes_back : (limit : ℕ) (s : Saved) (old mid new : World) → OneDeeper limi
 scopes_back limit (saved.Block s) old mid new deep back =
     (back.0 ∙ ap (λ (s : SavedBlock). s.scopes) deep.0, back.1 ∙ ap (λ (s : SavedBlock). s.outer) deep.0)
 scopes_back limit (saved.Super s) old mid new deep back =
-    (back.0 ∙ ap (λ (s : SavedBlock). s.scopes) deep.0.0, back.1 ∙ ap (λ (s : SavedBlock). s.outer) deep.0.0)
+    (back.0 ∙ ap (λ (s : SavedSuper). s.replaced.scopes) deep.0, back.1 ∙ ap (λ (s : SavedSuper). s.replaced.outer) deep.0)
 scopes_back limit (saved.Macro s) old mid new deep back =
     let same : new.scopes ≡ old.scopes = back ∙ ap (λ (s : SavedMacro). s.context) deep.0 in
     (ap (λ (s : Scopes). length s.frames) same, ap (λ (s : Scopes). s.outer) same)
@@ -330,7 +318,7 @@ lies_deeper limit (saved.Block s) old mid deep names =
 lies_deeper limit (saved.Super s) old mid deep names =
     let frames = deep.1.0 in
     let outer = deep.1.1 in
-    let held : s.replaced.scopes ≡ length old.scopes.frames = ap (λ (s : SavedBlock). s.scopes) deep.0.0 in
+    let held : s.replaced.scopes ≡ length old.scopes.frames = ap (λ (s : SavedSuper). s.replaced.scopes) deep.0 in
     (omega (arith, frames, held), omega (arith, frames, outer))
 lies_deeper limit (saved.Macro s) old mid deep names =
     let lies = deep.1.1 in

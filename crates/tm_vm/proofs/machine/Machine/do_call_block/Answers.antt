@@ -1,4 +1,4 @@
-use Rattle.std.proofs.Common.{None, false, rules}
+use Rattle.std.proofs.Common.{None, false, rules, sym, ◌∙◌}
 use Rattle.tm_meaning.specs.Instructions.{call_block_of}
 use Rattle.tm_meaning.specs.Machine.{Config}
 use Rattle.tm_meaning.specs.declared.run_text.RunText.TheVariants as texts
@@ -25,6 +25,7 @@ returns g c =
       saved = saved.Block c.in-Ok.entered.1;
     } in
     let enters = block_entered p c.args.base.now c.args.self.now c.args.name.now c.in-Ok.entered.0 e new c.enter_block.new.self
-    (search rules fits 100) (search rules fits 100) (search rules fits 100) (search rules fits 100) (search rules fits 100) in
+    (search rules fits 100) (sym c.is_audible-heard.ensures ∙ (search rules fits 100)) (search rules fits 100) (search rules fits 100)
+    (search rules fits 100) in
     boxed {p = p} {n = call_block_of p c.args.base.now c.args.name.now c.args.self.now} {old = c.args.self.now} {new = new}
     e c.in_ok-entry.entry c.in_ok-entry.ensures.ok enters (search rules fits 100) (search rules fits 100) (search rules fits 100)
