@@ -12,7 +12,7 @@ use Rattle.tm_meaning.specs.Steps.{Final, final, step, Reaches}
 use Rattle.tm_meaning.specs.Compiled.{IsCompiled}
 use Rattle.tm_meaning.proofs.Ends.{one_end}
 use Rattle.tm_output.specs.Counts.{AppendsBeginning}
-use Rattle.tm_parts.specs.Halts.{failures_after}
+use Rattle.tm_parts.specs.Halts.{error_of, failures_after}
 use Rattle.tm_parts.specs.declared.halt.Halt.{Halt}
 use Rattle.tm_parts.specs.declared.halt.Halt.TheVariants as halt
 use Rattle.tm_simulation.proofs.Follow.{air, inside}
@@ -20,7 +20,10 @@ use Rattle.tm_simulation.proofs.Forms.{end_by}
 use Rattle.tm_simulation.proofs.Simulation.{render_runs}
 use Rattle.tm_vm.specs.Answers.{HaltsAs, ReachesEnd}
 use Rattle.tm_vm.specs.Nested.{WroteBeginning}
+use Rattle.template_machine.specs.Environment.{TemplateValue}
 use Rattle.template_machine.specs.Renders.{answer_by, IsFresh, Ran, run_as_meant, run_by_writer, run_by_memory}
+use Rattle.template_machine.specs.Renders.{Rendered, as_meant, by_writer, by_memory, RenderedText, text_as_meant, text_by_memory}
+use Rattle.template_machine.specs.Renders.{BlockWritten, block_as_meant, block_by_writer, block_by_memory}
 
 -- ---------------------------------------------------------------- ends
 -- the end that is meant, over captures
@@ -149,6 +152,62 @@ module _ (p : Program) (trees : Trees) (compiled : IsCompiled trees p) (captures
       by_halt halt.Stuck (text, appended, reaches) counted = absurd
           (not_stuck m.ending captures text m.text left m.world (one_end reaches (reached fresh)))
       by_halt (halt.Fault chain) ends counted = by_chain (is_want_of_memory chain) chain refl ends counted
+
+-- ---------------------------------------------------------------- what a run that failed is to its caller
+-- over no capture, into a writer
+module _ (m : Outcome) (left : World) (old : List Capture) (none : old ≡ []) (told now : Option (List ℕ)) (failures count : ℕ) where
+  abbrev Came : Halt → Type 0
+  Came why = Ran m (Err why) left old told now failures count
+
+  all_of_it : Appends told now (put_out old m.text) → Appends told now m.text
+  all_of_it appended = subst (λ ks. Appends told now (put_out ks m.text)) none appended
+
+  part_of_it : AppendsBeginning told now (put_out old m.text) → AppendsBeginning told now m.text
+  part_of_it part = subst (λ ks. AppendsBeginning told now (put_out ks m.text)) none part
+
+  pub rendered_failed : {O : Type 0} (t : TemplateValue O) (why : Halt) → Came why → Rendered t m (Err (error_of why)) told now failures count
+  rendered_failed t halt.Writer (run_as_meant is appended counted) = absurd is
+  rendered_failed t halt.Writer (run_by_writer is part counted) = by_writer refl (part_of_it part) counted
+  rendered_failed t halt.Writer (run_by_memory chain is memory part counted) = absurd (cc is)
+  rendered_failed t halt.Stuck (run_as_meant is appended counted) = absurd is
+  rendered_failed t halt.Stuck (run_by_writer is part counted) = absurd (cc is)
+  rendered_failed t halt.Stuck (run_by_memory chain is memory part counted) = absurd (cc is)
+  rendered_failed t (halt.Fault kinds) (run_as_meant is appended counted) = as_meant is.0 (all_of_it appended) counted
+  rendered_failed t (halt.Fault kinds) (run_by_writer is part counted) = absurd (cc is)
+  rendered_failed t (halt.Fault kinds) (run_by_memory chain is memory part counted) =
+      let kind : kinds ≡ chain = cc is in by_memory (ap is_want_of_memory kind ∙ memory) (part_of_it part) counted
+
+  pub written_failed : (why : Halt) → Came why → BlockWritten m (Err (error_of why)) left told now failures count
+  written_failed halt.Writer (run_as_meant is appended counted) = absurd is
+  written_failed halt.Writer (run_by_writer is part counted) = block_by_writer refl (part_of_it part) counted
+  written_failed halt.Writer (run_by_memory chain is memory part counted) = absurd (cc is)
+  written_failed halt.Stuck (run_as_meant is appended counted) = absurd is
+  written_failed halt.Stuck (run_by_writer is part counted) = absurd (cc is)
+  written_failed halt.Stuck (run_by_memory chain is memory part counted) = absurd (cc is)
+  written_failed (halt.Fault kinds) (run_as_meant is appended counted) = block_as_meant is (all_of_it appended) counted
+  written_failed (halt.Fault kinds) (run_by_writer is part counted) = absurd (cc is)
+  written_failed (halt.Fault kinds) (run_by_memory chain is memory part counted) =
+      let kind : kinds ≡ chain = cc is in block_by_memory (ap is_want_of_memory kind ∙ memory) (part_of_it part) counted
+
+  pub written_done : (new : List Capture) → Ran m (Ok new) left old told now failures count →
+      BlockWritten m (Ok tt) left told now failures count
+  written_done new (run_as_meant is appended counted) = block_as_meant is.0 (all_of_it appended) counted
+  written_done new (run_by_writer is part counted) = absurd (cc is)
+  written_done new (run_by_memory chain is memory part counted) = absurd (cc is)
+
+-- over a capture, with no writer that could fail
+pub text_failed : (m : Outcome) (left : World) (old : List Capture) (told now : Option (List ℕ)) (why : Halt) →
+    Ran m (Err why) left old told now 0 0 → RenderedText m (Err (error_of why))
+text_failed m left old told now halt.Writer (run_as_meant is appended counted) = absurd is
+text_failed m left old told now halt.Writer (run_by_writer is part counted) = absurd (cc counted)
+text_failed m left old told now halt.Writer (run_by_memory chain is memory part counted) = absurd (cc is)
+text_failed m left old told now halt.Stuck (run_as_meant is appended counted) = absurd is
+text_failed m left old told now halt.Stuck (run_by_writer is part counted) = absurd (cc is)
+text_failed m left old told now halt.Stuck (run_by_memory chain is memory part counted) = absurd (cc is)
+text_failed m left old told now (halt.Fault kinds) (run_as_meant is appended counted) = text_as_meant is.0
+text_failed m left old told now (halt.Fault kinds) (run_by_writer is part counted) = absurd (cc is)
+text_failed m left old told now (halt.Fault kinds) (run_by_memory chain is memory part counted) =
+    let kind : kinds ≡ chain = cc is in text_by_memory (ap is_want_of_memory kind ∙ memory)
 
 -- an error that was passed on
 pub passed : {T E : Type 0} (r : Result T E) (P : Result T E → Type 0) (e : E) → IsErrAnd r (λ x. x ≡ e) → P (Err e) → P r

@@ -24,6 +24,7 @@ use Rattle.tm_state.specs.declared.saved.Saved.{Saved}
 use Rattle.tm_state.specs.declared.saved.Saved.TheVariants as saved
 use Rattle.tm_state.specs.declared.saved.SavedBlock.{SavedBlock}
 use Rattle.tm_state.specs.declared.saved.SavedMacro.{SavedMacro}
+use Rattle.tm_state.specs.declared.saved.SavedSuper.{SavedSuper}
 use Rattle.tm_state.specs.declared.nested.NestedRun.{NestedRun}
 use Rattle.tm_tables.specs.Stated.{StatedObjects}
 use Rattle.tm_vm.specs.Answers.{ComesTo, HaltsAs, ReachesEnd, program}
@@ -236,7 +237,7 @@ pub stands_again : (limit : ℕ) (s : Saved) (before w left : World) → OneDeep
     length w.scopes.frames ≤ length left.scopes.frames → StaysInPlace before (put_back s left)
 stands_again limit (saved.Block s) before w left deep more = block_stands s before left deep.0 (omega (arith, deep.1.0, more))
 stands_again limit (saved.Super s) before w left deep more =
-    block_stands s.replaced before left deep.0.0 (omega (arith, deep.1.0, more))
+    block_stands s.replaced before left (ap (λ (s : SavedSuper). s.replaced) deep.0) (omega (arith, deep.1.0, more))
 stands_again limit (saved.Macro s) before w left deep more = (
   (ap (λ (s : SavedMacro). length s.context.frames) deep.0, ap (λ (s : SavedMacro). s.context.outer) deep.0),
   ap (λ (s : SavedMacro). s.stream) deep.0,

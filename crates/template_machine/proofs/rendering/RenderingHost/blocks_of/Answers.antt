@@ -8,7 +8,7 @@ pub returns-in-Some : goal.returns-in-Some
 returns-in-Some g c =
     let x = c.args.name.now in
     blocks_found g.O.Parties.stated c.args.self.now x c.in-Some.template.now _
-    (ap (λ (v : TemplateValue g.row.O.Denot). find x v.environment.templates) (sym c.self.view_is) ∙ c.in-Some.ensures) c.block_names-in-Some.ensures
+    (ap (λ (v : TemplateValue g.row.O.Denot). find x v.environment.templates) (sym c.self.view_is) ∙ c.in-Some.ensures) c.block_names.ensures
 
 pub returns-in-None : goal.returns-in-None
 returns-in-None g c =

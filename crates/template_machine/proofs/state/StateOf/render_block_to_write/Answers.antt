@@ -1,8 +1,8 @@
 use Rattle.std.proofs.Common.{List, Result, refl}
 use Rattle.tm_values.specs.declared.error.ErrorKind.{ErrorKind}
 use Rattle.tm_parts.specs.Halts.{error_of}
-use Rattle.template_machine.specs.Renders.{IsBack}
-use Rattle.template_machine.proofs.Answered.{passed}
+use Rattle.template_machine.specs.Renders.{BlockWritten, IsBack, block_meaning}
+use Rattle.template_machine.proofs.Answered.{passed, written_done, written_failed}
 use Rattle.template_machine.proofs.BlockCalls.{back_done, back_failed}
 use Rattle.template_machine.proofs.state.StateOf.render_block_to_write.Goals as goal
 
@@ -23,3 +23,24 @@ returns-clause-back g c =
     back_done g.O.Parties.stated s.template c.args.name.now s.world c.run_block.new.self.world _ (g.W.Sink.written c.args.writer.now)
     (g.W.Sink.written c.run_block.new.writer) (g.W.Sink.failures c.args.writer.now) (g.W.Sink.failures c.run_block.new.writer)
     c.in_ok-_captures._captures c.in_ok-_captures.ensures.ran
+
+pub returns-in_err-_captures-clause-rendered : goal.returns-in_err-_captures-clause-rendered
+returns-in_err-_captures-clause-rendered g c =
+    let s = c.args.self.now in
+    let m = block_meaning g.O.Parties.stated s.template c.args.name.now s.world in
+    let left = c.run_block.new.self.world in
+    let why = c.in_err-_captures.field-0.0 in
+    let told = g.W.Sink.written c.args.writer.now in
+    let now = g.W.Sink.written c.run_block.new.writer in
+    let failures = g.W.Sink.failures c.args.writer.now in
+    let count = g.W.Sink.failures c.run_block.new.writer in
+    let Came : Result (Unit {0}) (List ErrorKind) → Type 0 = λ r. BlockWritten m r left told now failures count in
+    passed c.from_residual.result Came (error_of why) c.from_residual.ensures.1
+    (written_failed m left c.new-captures.result c.new-captures.ensures told now failures count why c.in_err-_captures.ensures.ran)
+
+pub returns-clause-rendered : goal.returns-clause-rendered
+returns-clause-rendered g c =
+    let s = c.args.self.now in
+    written_done (block_meaning g.O.Parties.stated s.template c.args.name.now s.world) c.run_block.new.self.world c.new-captures.result
+    c.new-captures.ensures (g.W.Sink.written c.args.writer.now) (g.W.Sink.written c.run_block.new.writer)
+    (g.W.Sink.failures c.args.writer.now) (g.W.Sink.failures c.run_block.new.writer) c.in_ok-_captures._captures c.in_ok-_captures.ensures.ran

@@ -1,0 +1,23 @@
+use Rattle.std.proofs.Common.{List, Result, subst}
+use Rattle.tm_values.specs.declared.error.ErrorKind.{ErrorKind}
+use Rattle.tm_meaning.specs.World.{World}
+use Rattle.tm_parts.specs.Halts.{error_of}
+use Rattle.template_machine.specs.Renders.{CapturedValue, StateValue, meaning_from, Rendered}
+use Rattle.template_machine.proofs.Answered.{passed, rendered_failed}
+use Rattle.template_machine.proofs.template.TemplateOf.render_captured_to.Goals as goal
+
+pub returns-in_err-_captures-clause-rendered : goal.returns-in_err-_captures-clause-rendered
+returns-in_err-_captures-clause-rendered g c = λ h.
+    let t = c.args.self.now in
+    let why = c.in_err-_captures.field-0.0 in
+    let told = g.W.Sink.written c.args.writer.now in
+    let now = g.W.Sink.written c.run_over.new.writer in
+    let failures = g.W.Sink.failures c.args.writer.now in
+    let count = g.W.Sink.failures c.run_over.new.writer in
+    let Came : Result (CapturedValue (StateValue g.row.O.Denot)) (List ErrorKind) → World → Type 0 =
+    λ r w. Rendered t (meaning_from g.O.Parties.stated t w) r told now failures count in
+    let came : Came c.from_residual-in_err-_captures.result c.in_ok-first.first =
+    passed c.from_residual-in_err-_captures.result (λ r. Came r c.in_ok-first.first) (error_of why) c.from_residual-in_err-_captures.ensures.1
+    (rendered_failed (meaning_from g.O.Parties.stated t c.in_ok-first.first) c.run_over.new.state c.new.result c.new.ensures told now failures
+    count t why c.in_err-_captures.ensures) in
+    subst (Came c.from_residual-in_err-_captures.result) c.in_ok-first.ensures.state came
