@@ -222,24 +222,46 @@ module _ {O : Type 0} (stated : O → StatedObjects) (t : TemplateValue O) (e : 
 outermost_long : (n : ℕ) (frames : List Scope) → n ≤ length frames → length (outermost n frames) ≡ n
 outermost_long n frames h = omega (arith, length-drop (length frames - n) frames, h)
 
-pub block_stands : (s : SavedBlock) (before left : World) → s ≡ saved_of before →
-    length before.scopes.frames ≤ length left.scopes.frames → StaysInPlace before (behind_block s left)
-block_stands s before left is more =
+-- the scopes that a block's run opened are left
+frames_back : (s : SavedBlock) (before left : World) → s ≡ saved_of before → length before.scopes.frames ≤ length left.scopes.frames →
+    length (behind_block s left).scopes.frames ≡ length before.scopes.frames
+frames_back s before left is more =
     let scopes : s.scopes ≡ length before.scopes.frames = ap (λ (s : SavedBlock). s.scopes) is in
-    let long = outermost_long s.scopes left.scopes.frames (omega (arith, scopes, more)) in (
-      (omega (arith, long, scopes), ap (λ (s : SavedBlock). s.outer) is),
+    let long = outermost_long s.scopes left.scopes.frames (omega (arith, scopes, more)) in
+    omega (arith, long, scopes)
+
+pub block_stands : (s : SavedBlock) (before left : World) → s ≡ saved_of before →
+    length before.scopes.frames ≤ length left.scopes.frames → left.places ≡ before.places → StaysInPlace before (behind_block s left)
+block_stands s before left is more places = (
+  (frames_back s before left is more, ap (λ (s : SavedBlock). s.outer) is, places),
+  ap (λ (s : SavedBlock). s.stream) is,
+  ap (λ (s : SavedBlock). s.block) is,
+  ap (λ (s : SavedBlock). s.escape) is,
+)
+
+pub stands_again : (limit : ℕ) (s : Saved) (before w left : World) → OneDeeper limit s before w → NoFewer w left →
+    StaysInPlace before (put_back s left)
+stands_again limit (saved.Block s) before w left deep more =
+    let long = more.0 in
+    block_stands s before left deep.0 (omega (arith, deep.1.0, long)) (more.1.1 ∙ deep.1.2)
+stands_again limit (saved.Super s) before w left deep more =
+    let long = more.0 in
+    let is : s.replaced ≡ saved_of before = ap (λ (s : SavedSuper). s.replaced) deep.0 in (
+      (
+        frames_back s.replaced before left is (omega (arith, deep.1.0, long)),
+        ap (λ (s : SavedBlock). s.outer) is,
+        ap (λ (s : SavedSuper). s.places) deep.0,
+      ),
       ap (λ (s : SavedBlock). s.stream) is,
       ap (λ (s : SavedBlock). s.block) is,
       ap (λ (s : SavedBlock). s.escape) is,
     )
-
-pub stands_again : (limit : ℕ) (s : Saved) (before w left : World) → OneDeeper limit s before w →
-    length w.scopes.frames ≤ length left.scopes.frames → StaysInPlace before (put_back s left)
-stands_again limit (saved.Block s) before w left deep more = block_stands s before left deep.0 (omega (arith, deep.1.0, more))
-stands_again limit (saved.Super s) before w left deep more =
-    block_stands s.replaced before left (ap (λ (s : SavedSuper). s.replaced) deep.0) (omega (arith, deep.1.0, more))
 stands_again limit (saved.Macro s) before w left deep more = (
-  (ap (λ (s : SavedMacro). length s.context.frames) deep.0, ap (λ (s : SavedMacro). s.context.outer) deep.0),
+  (
+    ap (λ (s : SavedMacro). length s.context.frames) deep.0,
+    ap (λ (s : SavedMacro). s.context.outer) deep.0,
+    ap (λ (s : SavedMacro). s.lists.places) deep.0,
+  ),
   ap (λ (s : SavedMacro). s.stream) deep.0,
   ap (λ (s : SavedMacro). s.block) deep.0,
   ap (λ (s : SavedMacro). s.escape) deep.0,

@@ -25,19 +25,24 @@ use Rattle.tm_state.specs.declared.calls.CallResult.{CallResult}
 use Rattle.tm_state.specs.declared.calls.CallResult.TheVariants as outcome
 use Rattle.tm_state.specs.declared.calls.Recursion.{Recursion}
 
--- There are as many scopes, and they stand where they stood.
-abbrev pub SameScopes : World → World → Type 0
-SameScopes old new = (length new.scopes.frames ≡ length old.scopes.frames) × (new.scopes.outer ≡ old.scopes.outer)
+-- The outermost scope stands where it stood, and so do the places in lists of blocks.
+abbrev pub KeepsGround : World → World → Type 0
+KeepsGround old new = (new.scopes.outer ≡ old.scopes.outer) × (new.places ≡ old.places)
 
--- The scopes stand as they stood, and stream, block and escape are those from before.
+-- There are as many scopes, on the same ground.
+abbrev pub SameStanding : World → World → Type 0
+SameStanding old new = (length new.scopes.frames ≡ length old.scopes.frames) × KeepsGround old new
+
+-- The scopes stand as they stood, and stream, block, escape and places of blocks are those from before.
 abbrev pub StaysInPlace : World → World → Type 0
 StaysInPlace old new =
-    SameScopes old new × (new.stream ≡ old.stream) × (new.block ≡ old.block) × (new.escape ≡ old.escape)
+    SameStanding old new × (new.stream ≡ old.stream) × (new.block ≡ old.block) × (new.escape ≡ old.escape)
 
--- There is a scope more for a block or a `super()`, which may stand deeper; or there are two for a macro, deeper than those that stood.
+-- There is a scope more for a block, which keeps the places in lists of blocks, or for a `super()`, and it may stand deeper; or there are
+-- two for a macro, deeper than those that stood.
 abbrev pub HasMore : Saved → World → World → Type 0
 HasMore (saved.Block s) old new =
-    (length new.scopes.frames ≡ length old.scopes.frames + 1) × (old.scopes.outer ≤ new.scopes.outer)
+    (length new.scopes.frames ≡ length old.scopes.frames + 1) × (old.scopes.outer ≤ new.scopes.outer) × (new.places ≡ old.places)
 HasMore (saved.Super s) old new =
     (length new.scopes.frames ≡ length old.scopes.frames + 1) × (old.scopes.outer ≤ new.scopes.outer)
 HasMore (saved.Macro s) old new = (length new.scopes.frames ≡ 2) × (depth old.scopes + 1 ≤ depth new.scopes)

@@ -27,7 +27,7 @@ use Rattle.tm_vm.specs.declared.flow.Flow.{Flow}
 use Rattle.tm_vm.specs.declared.flow.Flow.TheVariants as flow
 use Rattle.tm_vm.specs.Answers.{EntersAsValue, Enters, GoesOnWith, Needs, NoFewer, Opens, Silently, entered}
 use Rattle.tm_vm.proofs.Counted.{calling}
-use Rattle.tm_vm.proofs.Loop.{kept_then, outermost_long}
+use Rattle.tm_vm.proofs.Loop.{ground_then, kept_then, outermost_long}
 use Rattle.tm_vm.proofs.Performed.{still}
 
 -- ---------------------------------------------------------------- worlds that don't matter
@@ -38,7 +38,7 @@ recursion_in p c x value vs ks n (Some l) items w = refl
 
 -- ---------------------------------------------------------------- values and loops
 fewer_then : (a b c : World) → StaysInPlace a b → NoFewer b c → NoFewer a c
-fewer_then a b c stays more = (omega (arith, stays.0.0, more.0), more.1 ∙ stays.0.1)
+fewer_then a b c stays more = (omega (arith, stays.0.0, more.0), ground_then stays.0.1 more.1)
 
 -- behind a call that left the scopes as they were
 opens_behind : (p : Program) (n : Next) (old new : Config) (before : World) (result : Result Flow Halt) → KeepsFixedAndNames before old.world →
@@ -91,16 +91,16 @@ put_back_fewer limit (saved.Block s) before w deep =
     let scopes : s.scopes ≡ length before.scopes.frames = ap (λ (s : SavedBlock). s.scopes) deep.0 in
     let frames = deep.1.0 in
     let long = outermost_long s.scopes w.scopes.frames (omega (arith, scopes, frames)) in
-    (omega (arith, long, scopes), ap (λ (s : SavedBlock). s.outer) deep.0)
+    (omega (arith, long, scopes), ap (λ (s : SavedBlock). s.outer) deep.0, deep.1.2)
 put_back_fewer limit (saved.Super s) before w deep =
     let scopes : s.replaced.scopes ≡ length before.scopes.frames = ap (λ (s : SavedSuper). s.replaced.scopes) deep.0 in
     let frames = deep.1.0 in
     let long = outermost_long s.replaced.scopes w.scopes.frames (omega (arith, scopes, frames)) in
-    (omega (arith, long, scopes), ap (λ (s : SavedSuper). s.replaced.outer) deep.0)
+    (omega (arith, long, scopes), ap (λ (s : SavedSuper). s.replaced.outer) deep.0, ap (λ (s : SavedSuper). s.places) deep.0)
 put_back_fewer limit (saved.Macro s) before w deep =
     let same : s.context ≡ before.scopes = ap (λ (s : SavedMacro). s.context) deep.0 in
     let frames = ap (λ (s : Scopes). length s.frames) same in
-    (omega (arith, frames), ap (λ (s : Scopes). s.outer) same)
+    (omega (arith, frames), ap (λ (s : Scopes). s.outer) same, ap (λ (s : SavedMacro). s.lists.places) deep.0)
 
 -- and what a run keeps is kept then
 pub put_back_keeps : (s : Saved) (before w : World) → IsSaved s before → KeepsFixedAndNames before w →

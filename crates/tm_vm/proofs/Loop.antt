@@ -26,8 +26,8 @@ use Rattle.tm_parts.specs.declared.halt.Halt.TheVariants as halt
 use Rattle.tm_state.specs.declared.nested.NestedRun.{NestedRun}
 use Rattle.tm_vm.specs.declared.flow.Flow.{Flow}
 use Rattle.tm_vm.specs.declared.flow.Flow.TheVariants as flow
-use Rattle.tm_vm.specs.Answers.{Begins, ComesTo, Did, Enters, HaltsAs, ReachesEnd, KeepsBaseScopes, output}
-use Rattle.tm_state.specs.Answers.{KeepsFixed, KeepsFixedAndNames, OneDeeper, SameScopes, call_of}
+use Rattle.tm_vm.specs.Answers.{Begins, ComesTo, Did, Enters, HaltsAs, NoFewer, ReachesEnd, KeepsBaseScopes, output}
+use Rattle.tm_state.specs.Answers.{KeepsFixed, KeepsFixedAndNames, KeepsGround, OneDeeper, SameStanding, call_of}
 use Rattle.tm_state.specs.declared.saved.Saved.{Saved}
 use Rattle.tm_state.specs.declared.saved.Saved.TheVariants as saved
 use Rattle.tm_state.specs.declared.saved.SavedBlock.{SavedBlock}
@@ -290,18 +290,30 @@ pub at_base : (p : Program) (old new : Config) (told now : Option (List ℕ)) (r
     Did p r told now new (step p f old) → Did p r told now new (step p g old)
 at_base p old new told now r f g e did = subst (λ x. Did p r told now new (step p x old)) e did
 
--- behind a nested run there are as many scopes as before it, and they stand where they stood
-scopes_back : (limit : ℕ) (s : Saved) (old mid new : World) → OneDeeper limit s old mid → IsBack s new → SameScopes old new
-scopes_back limit (saved.Block s) old mid new deep back =
-    (back.0 ∙ ap (λ (s : SavedBlock). s.scopes) deep.0, back.1 ∙ ap (λ (s : SavedBlock). s.outer) deep.0)
-scopes_back limit (saved.Super s) old mid new deep back =
-    (back.0 ∙ ap (λ (s : SavedSuper). s.replaced.scopes) deep.0, back.1 ∙ ap (λ (s : SavedSuper). s.replaced.outer) deep.0)
-scopes_back limit (saved.Macro s) old mid new deep back =
-    let same : new.scopes ≡ old.scopes = back ∙ ap (λ (s : SavedMacro). s.context) deep.0 in
-    (ap (λ (s : Scopes). length s.frames) same, ap (λ (s : Scopes). s.outer) same)
+pub ground_then : {a b c : World} → KeepsGround a b → KeepsGround b c → KeepsGround a c
+ground_then h k = (k.0 ∙ h.0, k.1 ∙ h.1)
 
-pub scopes_behind : (limit : ℕ) (e : NestedRun) (old mid new : World) → OneDeeper limit e.saved old mid → IsBack e.saved new →
-    SameScopes old new
+-- behind a nested run there are as many scopes as before it, on the same ground
+scopes_back : (limit : ℕ) (s : Saved) (old mid new : World) → OneDeeper limit s old mid → IsBack s mid new → SameStanding old new
+scopes_back limit (saved.Block s) old mid new deep back = (
+  back.0 ∙ ap (λ (s : SavedBlock). s.scopes) deep.0,
+  back.1 ∙ ap (λ (s : SavedBlock). s.outer) deep.0,
+  back.2 ∙ deep.1.2,
+)
+scopes_back limit (saved.Super s) old mid new deep back = (
+  back.0 ∙ ap (λ (s : SavedSuper). s.replaced.scopes) deep.0,
+  back.1 ∙ ap (λ (s : SavedSuper). s.replaced.outer) deep.0,
+  back.2 ∙ ap (λ (s : SavedSuper). s.places) deep.0,
+)
+scopes_back limit (saved.Macro s) old mid new deep back =
+    let same : new.scopes ≡ old.scopes = back.0 ∙ ap (λ (s : SavedMacro). s.context) deep.0 in (
+      ap (λ (s : Scopes). length s.frames) same,
+      ap (λ (s : Scopes). s.outer) same,
+      back.1 ∙ ap (λ (s : SavedMacro). s.lists.places) deep.0,
+    )
+
+pub scopes_behind : (limit : ℕ) (e : NestedRun) (old mid new : World) → OneDeeper limit e.saved old mid → IsBack e.saved mid new →
+    SameStanding old new
 scopes_behind limit e old mid new deep back = scopes_back limit e.saved old mid new deep back
 
 pub outermost_long : (n : ℕ) (frames : List Scope) → n ≤ length frames → length (outermost n frames) ≡ n
@@ -329,12 +341,20 @@ pub stands_deeper : (limit : ℕ) (e : NestedRun) (old mid : World) → OneDeepe
 stands_deeper limit e old mid deep names = lies_deeper limit e.saved old mid deep names
 
 -- the scopes that a run opened are left, and those that were replaced are back
-pub is_back : (s : Saved) (begun ran : World) → StandsOn s begun → length begun.scopes.frames ≤ length ran.scopes.frames → IsBack s (put_back s ran)
+pub is_back : (s : Saved) (begun ran : World) → StandsOn s begun → NoFewer begun ran → IsBack s begun (put_back s ran)
 is_back (saved.Block s) begun ran stands no_fewer =
-    (outermost_long s.scopes ran.scopes.frames (omega (arith, stands, no_fewer)), refl)
+    let more = no_fewer.0 in
+    (outermost_long s.scopes ran.scopes.frames (omega (arith, stands, more)), refl, no_fewer.1.1)
 is_back (saved.Super s) begun ran stands no_fewer =
-    (outermost_long s.replaced.scopes ran.scopes.frames (omega (arith, stands, no_fewer)), refl)
-is_back (saved.Macro s) begun ran stands no_fewer = refl
+    let more = no_fewer.0 in
+    (outermost_long s.replaced.scopes ran.scopes.frames (omega (arith, stands, more)), refl, refl)
+is_back (saved.Macro s) begun ran stands no_fewer = (refl, refl)
+
+-- the same, of a run that began in the world that was left before it
+pub was_back : (s : Saved) (old begun ran new : World) → begun ≡ old → StandsOn s old → NoFewer begun ran → new ≡ put_back s ran →
+    IsBack s old new
+was_back s old begun ran new same stands no_fewer moved =
+    subst (λ w. IsBack s old w) (sym moved) (is_back s old ran stands (subst (λ w. NoFewer w ran) same no_fewer))
 
 -- behind a run no more names are left than when it began
 pub names_back : (host : HostValue) (s : Saved) (begun ran : World) → StandsOn s begun → names_left host ran ≤ names_left host begun →

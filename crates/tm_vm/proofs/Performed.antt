@@ -14,7 +14,7 @@ use Rattle.std.proofs.Common.{◌-◌, nat_lt}
 use Rattle.std.proofs.lemmas.Bool.Decides.{nat_tests}
 use Rattle.tm_meaning.specs.Steps.{act, charge_of, effect, pay, step}
 use Rattle.tm_syntax.specs.declared.instruction.Instruction.{Instruction}
-use Rattle.tm_state.specs.Answers.{KeepsFixed, KeepsFixedAndNames, OneDeeper, SameScopes, fixed_of}
+use Rattle.tm_state.specs.Answers.{KeepsFixed, KeepsFixedAndNames, OneDeeper, SameStanding, fixed_of}
 use Rattle.tm_vm.proofs.Loop.{fixed_same, fixed_then, kept_same}
 use Rattle.std.proofs.Common.{◌≤◌}
 use Rattle.tm_meaning.specs.Inheritance.{names_left}
@@ -43,7 +43,7 @@ pub nothing_written : {n : Next} {c : Config} (told : Option (List ℕ)) → n �
 nothing_written {c = c} told at =
     (at ∙ ap (λ t. More t c) (sym (ap output at)), subst (λ t. Appends told told t) (sym (ap output at)) (appends_nothing told))
 
-stays : (f : Base) (old new : World) → SameScopes old new → KeepsBaseScopes f old new
+stays : (f : Base) (old new : World) → SameStanding old new → KeepsBaseScopes f old new
 stays f old new same = (λ h. omega (arith, h, same.0), same.1)
 
 -- the same names are loaded, so as many are left
@@ -61,7 +61,7 @@ silent {p = p} {f = f} {n = n} {old = old} {new = new} {told = told} (Ok flow.Go
       counted = refl;
       kept = fixed_of s.kept;
       names = same_names p.host s.kept;
-      depths = stays f old.world new.world s.same_scopes;
+      depths = stays f old.world new.world s.same_standing;
       same_stream = s.same_stream;
     }
 silent {p = p} (Ok flow.Done) s = absurd s.did
@@ -73,7 +73,7 @@ silent {p = p} {f = f} {n = n} {old = old} {new = new} {told = told} (Err halt.S
   counted = refl;
   kept = fixed_of s.kept;
   names = same_names p.host s.kept;
-  depths = stays f old.world new.world s.same_scopes;
+  depths = stays f old.world new.world s.same_standing;
   same_stream = s.same_stream;
 }
 silent {p = p} {f = f} {n = n} {old = old} {new = new} {told = told} (Err (halt.Fault chain)) s = record {
@@ -81,15 +81,15 @@ silent {p = p} {f = f} {n = n} {old = old} {new = new} {told = told} (Err (halt.
   counted = refl;
   kept = fixed_of s.kept;
   names = same_names p.host s.kept;
-  depths = stays f old.world new.world s.same_scopes;
+  depths = stays f old.world new.world s.same_standing;
   same_stream = s.same_stream;
 }
 
 -- one that may open a scope, and doesn't
 pub still : {n : Next} {old new : Config} (result : Result Flow Halt) → Silently n old new result → Opens n old new result
 still {old = old} {new = new} result s =
-    let same = s.same_scopes.0 in
-    record { did = s.did; kept = s.kept; no_fewer = (omega (arith, same), s.same_scopes.1); same_stream = s.same_stream }
+    let same = s.same_standing.0 in
+    record { did = s.did; kept = s.kept; no_fewer = (omega (arith, same), s.same_standing.1); same_stream = s.same_stream }
 
 stays_over : (f : Base) (old new : World) → NoFewer old new → KeepsBaseScopes f old new
 stays_over f old new more = let long = more.0 in (λ h. omega (arith, h, long), more.1)
@@ -170,7 +170,7 @@ wrote {p = p} {f = f} {old = old} {new = new}
       counted = s.counted;
       kept = fixed_of s.kept;
       names = same_names p.host s.kept;
-      depths = stays f old.world new.world s.same_scopes;
+      depths = stays f old.world new.world s.same_standing;
       same_stream = s.same_stream;
     }
 wrote {p = p} (Ok flow.Done) s = absurd s.did
@@ -182,7 +182,7 @@ wrote {p = p} {f = f} {old = old} {new = new}
       counted = s.counted;
       kept = fixed_of s.kept;
       names = same_names p.host s.kept;
-      depths = stays f old.world new.world s.same_scopes;
+      depths = stays f old.world new.world s.same_standing;
       same_stream = s.same_stream;
     }
 
@@ -231,7 +231,7 @@ loads {f = f} {n = n} {old = old} {new = new} {told = told} (Ok flow.GoOn) s = r
   counted = refl;
   kept = s.kept;
   names = s.names;
-  depths = stays f old.world new.world s.same_scopes;
+  depths = stays f old.world new.world s.same_standing;
   same_stream = s.same_stream;
 }
 loads (Ok flow.Done) s = absurd s.did
@@ -243,7 +243,7 @@ loads {f = f} {n = n} {old = old} {new = new} {told = told} (Err halt.Stuck) s =
   counted = refl;
   kept = s.kept;
   names = s.names;
-  depths = stays f old.world new.world s.same_scopes;
+  depths = stays f old.world new.world s.same_standing;
   same_stream = s.same_stream;
 }
 loads {f = f} {n = n} {old = old} {new = new} {told = told} (Err (halt.Fault chain)) s = record {
@@ -251,7 +251,7 @@ loads {f = f} {n = n} {old = old} {new = new} {told = told} (Err (halt.Fault cha
   counted = refl;
   kept = s.kept;
   names = s.names;
-  depths = stays f old.world new.world s.same_scopes;
+  depths = stays f old.world new.world s.same_standing;
   same_stream = s.same_stream;
 }
 
@@ -317,7 +317,7 @@ at_once n old new told failures true s = record {
   did = nothing_written told s.did;
   counted = refl;
   kept = s.kept;
-  same_scopes = s.same_scopes;
+  same_standing = s.same_standing;
   same_stream = s.same_stream;
 }
 at_once n old new told failures false same = (same, refl, refl)
@@ -329,7 +329,7 @@ free_at_once n old new told failures true s = record {
   did = nothing_written told s.did;
   counted = refl;
   kept = s.kept;
-  same_scopes = s.same_scopes;
+  same_standing = s.same_standing;
   same_stream = s.same_stream;
 }
 free_at_once n old new told failures false same = (same, refl, refl)
@@ -366,7 +366,7 @@ finished {p = p} {f = f} {n = n} {old = old} {new = new} {told = told} {failures
       counted = refl;
       kept = fixed_same new.world;
       names = omega arith;
-      depths = ((λ h. h, refl), s.1);
+      depths = ((λ h. h, refl, refl), s.1);
       same_stream = refl;
     })
 finished {p = p} {f = f} {old = old} {new = new} (Ok flow.Restart) s =
@@ -376,7 +376,7 @@ finished {p = p} {f = f} {old = old} {new = new} (Ok flow.Restart) s =
       counted = refl;
       kept = subst (λ w. KeepsFixed old.world w) (sym world) (record { same_id = refl; same_fuel_set = refl; no_more_fuel = omega arith });
       names = subst (λ w. names_left p.host w ≤ names_left p.host old.world) (sym world) (omega arith);
-      depths = subst (λ w. KeepsBaseScopes f old.world w) (sym world) (λ h. h, refl);
+      depths = subst (λ w. KeepsBaseScopes f old.world w) (sym world) (λ h. h, refl, refl);
       same_stream = tt;
     }
 finished (Ok flow.GoOn) s = absurd s

@@ -23,7 +23,7 @@ use Rattle.tm_output.specs.Counts.{AppendsBeginning}
 use Rattle.tm_parts.specs.Halts.{failures_after}
 use Rattle.tm_parts.specs.declared.halt.Halt.{Halt}
 use Rattle.tm_parts.specs.declared.halt.Halt.TheVariants as halt
-use Rattle.tm_state.specs.Answers.{KeepsFixed, KeepsFixedAndNames, SameScopes, OneDeeper, NamedBecomes, Leaves, call_of}
+use Rattle.tm_state.specs.Answers.{KeepsFixed, KeepsFixedAndNames, KeepsGround, SameStanding, OneDeeper, NamedBecomes, Leaves, call_of}
 use Rattle.tm_state.specs.State.{IsSaved, callee_of, put_back}
 use Rattle.tm_meaning.specs.Inheritance.{names_left}
 use Rattle.tm_meaning.specs.declared.stream.TemplateId.{TemplateId}
@@ -82,14 +82,13 @@ Did p (Ok flow.Restart) told now c n = (n ≡ Restart c) × (now ≡ told)
 Did p (Ok (flow.Enter e)) told now c n = Enters p e.value c n × (now ≡ told)
 Did p (Err why) told now c n = HaltsAs why c.world (λ e. n ≡ Over e) × AppendsBeginning told now (output n)
 
--- No scope is left, and they stand where they stood.
+-- No scope is left, and they stand on the same ground.
 abbrev pub NoFewer : World → World → Type 0
-NoFewer old new = (length old.scopes.frames ≤ length new.scopes.frames) × (new.scopes.outer ≡ old.scopes.outer)
+NoFewer old new = (length old.scopes.frames ≤ length new.scopes.frames) × KeepsGround old new
 
--- No scope that stood before the run is left, and they stand where they stood.
+-- No scope that stood before the run is left, and they stand on the same ground.
 abbrev pub KeepsBaseScopes : Base → World → World → Type 0
-KeepsBaseScopes f old new = (f.scopes ≤ length old.scopes.frames → f.scopes ≤ length new.scopes.frames)
-    × (new.scopes.outer ≡ old.scopes.outer)
+KeepsBaseScopes f old new = (f.scopes ≤ length old.scopes.frames → f.scopes ≤ length new.scopes.frames) × KeepsGround old new
 
 -- How the scopes lie behind a step: none of before is left; there is one more, within the limit, where a run of its own is needed; and a
 -- run that is over has closed what it opened.
@@ -175,7 +174,7 @@ pub record Writes (n : Next) (old new : Config) (told now : Option (List ℕ)) (
   pub did : Wrote result told now new n
   pub counted : count ≡ failures_after result failures
   pub kept : KeepsFixedAndNames old.world new.world
-  pub same_scopes : SameScopes old.world new.world
+  pub same_standing : SameStanding old.world new.world
   pub same_stream : new.run.stream ≡ old.run.stream
 
 -- And of one that writes nothing.
@@ -191,7 +190,7 @@ Quietly (Err (halt.Fault chain)) c n = is_want_of_memory chain ≡ false → n �
 pub record Silently (n : Next) (old new : Config) (result : Result Flow Halt) : Type 0 where
   pub did : Quietly result new n
   pub kept : KeepsFixedAndNames old.world new.world
-  pub same_scopes : SameScopes old.world new.world
+  pub same_standing : SameStanding old.world new.world
   pub same_stream : new.run.stream ≡ old.run.stream
 
 -- And of one that may open a scope, and leaves none.
@@ -213,7 +212,7 @@ pub record Loads (host : HostValue) (n : Next) (old new : Config) (result : Resu
   pub did : Quietly result new n
   pub kept : KeepsFixed old.world new.world
   pub names : names_left host new.world ≤ names_left host old.world
-  pub same_scopes : SameScopes old.world new.world
+  pub same_standing : SameStanding old.world new.world
   pub same_stream : new.run.stream ≡ old.run.stream
 
 -- And of one that may need a run of its own.

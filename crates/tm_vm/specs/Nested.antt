@@ -48,11 +48,13 @@ StandsOn (saved.Block s) w = length w.scopes.frames ≡ s.scopes + 1
 StandsOn (saved.Super s) w = length w.scopes.frames ≡ s.replaced.scopes + 1
 StandsOn (saved.Macro s) w = s.lists.loaded ≡ w.loaded
 
--- There are as many scopes as were saved, and they stand where those stood.
-abbrev pub IsBack : Saved → World → Type 0
-IsBack (saved.Block s) w = (length w.scopes.frames ≡ s.scopes) × (w.scopes.outer ≡ s.outer)
-IsBack (saved.Super s) w = (length w.scopes.frames ≡ s.replaced.scopes) × (w.scopes.outer ≡ s.replaced.outer)
-IsBack (saved.Macro s) w = w.scopes ≡ s.context
+-- There are as many scopes as were saved, and they stand where those stood; the places in lists of blocks are those that were saved, or
+-- from before a block's run.
+abbrev pub IsBack : Saved → World → World → Type 0
+IsBack (saved.Block s) begun w = (length w.scopes.frames ≡ s.scopes) × (w.scopes.outer ≡ s.outer) × (w.places ≡ begun.places)
+IsBack (saved.Super s) begun w =
+    (length w.scopes.frames ≡ s.replaced.scopes) × (w.scopes.outer ≡ s.replaced.outer) × (w.places ≡ s.places)
+IsBack (saved.Macro s) begun w = (w.scopes ≡ s.context) × (w.places ≡ s.lists.places)
 
 -- The run came to an end that leads to the end of the run that waits.
 abbrev pub EndsIn : Program → NestedRun → Config → Option (List ℕ) → Option (List ℕ) → End → Type 0

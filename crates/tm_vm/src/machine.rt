@@ -5,7 +5,7 @@ ghost use Rattle.tm_meaning.specs.Machine.{audible, base_of, first_run, run_from
 ghost use Rattle.tm_meaning.specs.Steps.{step};
 ghost use Rattle.tm_parts.specs.Halts.{failures_after};
 ghost use Rattle.tm_vm.specs.Answers.{program, Begins, EndsAs, IsAtFirst, ReachesEnd, NoFewer, StaysRun};
-ghost use Rattle.tm_state.specs.Answers.{KeepsFixed, SameScopes};
+ghost use Rattle.tm_state.specs.Answers.{KeepsFixed, SameStanding};
 ghost use Rattle.tm_state.specs.State.{callee_of, put_back};
 ghost use Rattle.tm_vm.specs.Nested.{RanNested, StandsOn, WroteBeginning, IsBack, IsWrapped, IsCaptured, base_in, begins_in};
 
@@ -181,7 +181,7 @@ impl Machine {
         ensures kept { KeepsFixed self.old.world self.new.world }
         ensures names { names_left (H.meaning host.now) self.new.world
             ≤ names_left (H.meaning host.now) self.old.world }
-        ensures back { IsBack entry.saved self.new.world }
+        ensures back { IsBack entry.saved self.old.world self.new.world }
         ensures same_run { StaysRun self.old.run self.new.run }
     {
         let NestedRun {
@@ -280,7 +280,7 @@ impl Machine {
         ensures names { names_left (H.meaning host.now) self.new.world
             ≤ names_left (H.meaning host.now) self.old.world }
         ensures no_fewer { NoFewer self.old.world self.new.world }
-        ensures closed { OnOk result (SameScopes self.old.world self.new.world) }
+        ensures closed { OnOk result (SameStanding self.old.world self.new.world) }
     {
         let base = self.base(heard);
         'streams: loop {

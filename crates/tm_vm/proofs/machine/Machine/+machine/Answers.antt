@@ -9,8 +9,8 @@ use Rattle.tm_vm.specs.declared.flow.Flow.TheVariants as flow
 use Rattle.tm_vm.proofs.Loop.{at_base, fixed_same, fixed_then, stands_first, stands_next, stands_again, stands_behind, beginning_at, beginning_in}
 use Rattle.tm_parts.specs.declared.halt.Halt.TheVariants as halt
 use Rattle.tm_state.specs.declared.nested.NestedRun.{NestedRun}
-use Rattle.tm_vm.specs.Nested.{IsBack, IsWrapped, StandsOn}
-use Rattle.tm_vm.proofs.Loop.{as_value, ended_at, first_of, in_place, is_back, refused_ends, stands_deeper, wrapped_ends}
+use Rattle.tm_vm.specs.Nested.{IsWrapped}
+use Rattle.tm_vm.proofs.Loop.{as_value, ended_at, first_of, ground_then, in_place, refused_ends, stands_deeper, was_back, wrapped_ends}
 use Rattle.tm_vm.proofs.Loop.{ended_in, done_at, whole_at, scopes_behind, was_there, above_base, unboxed, deeper}
 use Rattle.tm_vm.proofs.Weight.{less_behind, parents_behind}
 use Rattle.tm_vm.proofs.machine.Machine.+machine.Goals as goal
@@ -25,7 +25,7 @@ run-streams-init g t c =
       kept = fixed_same a.world;
       names = omega arith;
       above = omega (arith, all);
-      same_outer = refl;
+      ground = (refl, refl);
       stands = stands_first p (base_of c.args.heard a.captures a.world) a (g.W.Sink.written c.args.writer.now);
     }
 
@@ -35,7 +35,7 @@ run-steps-init g t c = record {
   kept = c.streams.invariant.kept;
   names = c.streams.invariant.names;
   above = c.streams.invariant.above;
-  same_outer = c.streams.invariant.same_outer;
+  ground = c.streams.invariant.ground;
   same_stream = refl;
   parents = omega arith;
   stands = c.streams.invariant.stands;
@@ -62,7 +62,7 @@ run-steps-preserved-in-Ok-GoOn g t c =
       names = omega (arith, names, c.steps.invariant.names);
       above = above_base c.args.heard a.captures a.world c.base-base.result c.steps.self.world c.step.new.self.world
           c.base-base.ensures c.steps.invariant.above step.depths;
-      same_outer = step.depths.1 ∙ c.steps.invariant.same_outer;
+      ground = ground_then c.steps.invariant.ground step.depths.1;
       same_stream = step.same_stream ∙ c.steps.invariant.same_stream;
       parents = omega (arith, parents, c.steps.invariant.parents);
       stands = stands_next c.step.new.self new c.steps.invariant.stands did;
@@ -77,7 +77,8 @@ run-run_nested-requires g t c κs within =
     let stands = stands_deeper limit e c.steps.self.world c.step.new.self.world deep step.names in
     let more = stands.1 in
     let fits = deep.2 in
-    (omega (arith, c.decreases, more, fits, c.steps.invariant.above, c.steps.invariant.same_outer), (within.0, (within.1, stands.0)))
+    let outer = c.steps.invariant.ground.0 in
+    (omega (arith, c.decreases, more, fits, c.steps.invariant.above, outer), (within.0, (within.1, stands.0)))
 
 pub run-returns-in-Err-run_nested-clause-ended : goal.run-returns-in-Err-run_nested-clause-ended
 run-returns-in-Err-run_nested-clause-ended g t c =
@@ -134,7 +135,7 @@ run-returns-in-Err-run_nested-clause-no_fewer g t c =
     let deep = deeper limit c.in-Ok-Enter.entry e c.steps.self.world c.step.new.self.world c.into_inner.ensures step.depths in
     let same = scopes_behind limit e c.steps.self.world c.step.new.self.world c.run_nested.new.self.world deep c.in-Err-run_nested.ensures.back in
     let frames = same.0 in
-    (omega (arith, frames, c.steps.invariant.above), same.1 ∙ c.steps.invariant.same_outer)
+    (omega (arith, frames, c.steps.invariant.above), ground_then c.steps.invariant.ground same.1)
 
 pub run-steps-smaller : goal.run-steps-smaller
 run-steps-smaller g t c =
@@ -179,7 +180,7 @@ run-steps-preserved g t c =
       kept = fixed_then c.steps.invariant.kept (fixed_then step.kept c.in_default.ensures.kept);
       names = omega (arith, left, fewer, c.steps.invariant.names);
       above = omega (arith, frames, c.steps.invariant.above);
-      same_outer = same.1 ∙ c.steps.invariant.same_outer;
+      ground = ground_then c.steps.invariant.ground same.1;
       same_stream = c.in_default.ensures.same_run.0 ∙ step.same_stream ∙ c.steps.invariant.same_stream;
       parents = omega (arith, parents, c.steps.invariant.parents);
       stands = stands_behind e c.step.new.self c.run_nested.new.self at new c.steps.invariant.stands enters went;
@@ -206,7 +207,7 @@ run-streams-preserved g t c =
       names = omega (arith, names, c.steps.invariant.names);
       above = above_base c.args.heard a.captures a.world c.base-base.result c.steps.self.world c.step.new.self.world
           c.base-base.ensures c.steps.invariant.above step.depths;
-      same_outer = step.depths.1 ∙ c.steps.invariant.same_outer;
+      ground = ground_then c.steps.invariant.ground step.depths.1;
       stands = stands_again c.step.new.self new c.steps.invariant.stands did;
     }
 
@@ -246,14 +247,14 @@ run-returns-in-Ok-Done-clause-no_fewer g t c =
     let step = rw c.in-Ok-Done.field-0-is at c.in-Ok-Done.ensures.performs in (
       above_base c.args.heard a.captures a.world c.base-base.result c.steps.self.world c.step.new.self.world
           c.base-base.ensures c.steps.invariant.above step.depths.0,
-      step.depths.0.1 ∙ c.steps.invariant.same_outer,
+      ground_then c.steps.invariant.ground step.depths.0.1,
     )
 
 pub run-returns-in-Ok-Done-clause-closed : goal.run-returns-in-Ok-Done-clause-closed
 run-returns-in-Ok-Done-clause-closed g t c =
     let step = rw c.in-Ok-Done.field-0-is at c.in-Ok-Done.ensures.performs in
     let base = ap (λ (b : Base). b.scopes) c.base-base.ensures in
-    (sym step.depths.1 ∙ base, step.depths.0.1 ∙ c.steps.invariant.same_outer)
+    (sym step.depths.1 ∙ base, ground_then c.steps.invariant.ground step.depths.0.1)
 
 pub run-returns-in-Err-clause-ended : goal.run-returns-in-Err-clause-ended
 run-returns-in-Err-clause-ended g t c =
@@ -291,7 +292,7 @@ run-returns-in-Err-clause-no_fewer g t c =
     let a = c.args.self.now in (
       above_base c.args.heard a.captures a.world c.base-base.result c.steps.self.world c.step.new.self.world
           c.base-base.ensures c.steps.invariant.above c.in-Err.ensures.performs.depths,
-      c.in-Err.ensures.performs.depths.1 ∙ c.steps.invariant.same_outer,
+      ground_then c.steps.invariant.ground c.in-Err.ensures.performs.depths.1,
     )
 
 pub run_nested-returns-in_default-clause-ran : goal.run_nested-returns-in_default-clause-ran
@@ -316,9 +317,8 @@ pub run_nested-returns-in-Err-clause-back : goal.run_nested-returns-in-Err-claus
 run_nested-returns-in-Err-clause-back g t c =
     let e = c.args.entry in
     let same = ap (λ (x : Config). x.world) c.put_back-2.ensures ∙ ap (λ (x : Config). put_back e.saved x.world) c.resume.ensures in
-    let stands = subst (λ w. StandsOn e.saved w) (sym c.in-Some.ensures.3) c.requires in
-    subst (λ w. IsBack e.saved w) (sym same)
-    (is_back e.saved c.begin.new.self.world c.run-result.new.self.world stands c.in-Err.ensures.no_fewer.0)
+    was_back e.saved c.args.self.now.world c.begin.new.self.world c.run-result.new.self.world c.put_back-2.new.self.world
+    c.in-Some.ensures.3 c.requires c.in-Err.ensures.no_fewer same
 
 pub run_nested-returns-then-value-clause-ran : goal.run_nested-returns-then-value-clause-ran
 run_nested-returns-then-value-clause-ran g t c =
@@ -336,9 +336,8 @@ run_nested-returns-then-value-clause-back g t c =
     let e = c.args.entry in
     let same = c.push_captured.ensures.same_world ∙ ap (λ (x : Config). x.world) c.put_back-2.ensures
     ∙ ap (λ (x : Config). put_back e.saved x.world) c.resume.ensures in
-    let stands = subst (λ w. StandsOn e.saved w) (sym c.in-Some.ensures.3) c.requires in
-    subst (λ w. IsBack e.saved w) (sym same)
-    (is_back e.saved c.begin.new.self.world c.run-result.new.self.world stands c.in_default-result.ensures.no_fewer.0)
+    was_back e.saved c.args.self.now.world c.begin.new.self.world c.run-result.new.self.world c.put_back-2.new.self.world
+    c.in-Some.ensures.3 c.requires c.in_default-result.ensures.no_fewer same
 
 pub run_nested-returns-clause-ran : goal.run_nested-returns-clause-ran
 run_nested-returns-clause-ran g t c =
@@ -354,6 +353,5 @@ pub run_nested-returns-clause-back : goal.run_nested-returns-clause-back
 run_nested-returns-clause-back g t c =
     let e = c.args.entry in
     let same = ap (λ (x : Config). x.world) c.put_back-2.ensures ∙ ap (λ (x : Config). put_back e.saved x.world) c.resume.ensures in
-    let stands = subst (λ w. StandsOn e.saved w) (sym c.in-Some.ensures.3) c.requires in
-    subst (λ w. IsBack e.saved w) (sym same)
-    (is_back e.saved c.begin.new.self.world c.run-result.new.self.world stands c.in_default-result.ensures.no_fewer.0)
+    was_back e.saved c.args.self.now.world c.begin.new.self.world c.run-result.new.self.world c.put_back-2.new.self.world
+    c.in-Some.ensures.3 c.requires c.in_default-result.ensures.no_fewer same
