@@ -1,10 +1,8 @@
 -- What the block means that a state is asked for, and what its run answers.
-use Rattle.std.proofs.Common.{◌≡◌, ◌≢◌, ◌∙◌, ◌+◌, ◌++◌, ℕ, List, [], ◌∷◌, Option, Result, Ok, Err, String, string_bytes, Bool, true, false, true≢false}
+use Rattle.std.proofs.Common.{◌≡◌, ◌∙◌, ℕ, List, [], ◌∷◌, Option, Result, Ok, Err, Bool, true, false}
 use Rattle.std.proofs.Common.{refl, sym, ap, subst}
-use Rattle.std.specs.declared.alloc.Global.{Global}
 use Rattle.std.specs.Io.KnownBytes.{Appends}
 use Rattle.tm_values.specs.declared.error.ErrorKind.{ErrorKind}
-use Rattle.tm_values.specs.declared.error.ErrorKind.TheVariants.{WriteFailure}
 use Rattle.tm_output.specs.Counts.{AppendsBeginning}
 use Rattle.tm_output.specs.Pieces.{appends_nothing, beginning_nothing}
 use Rattle.tm_meaning.specs.Memory.{is_want_of_memory}
@@ -15,12 +13,9 @@ use Rattle.tm_meaning.specs.Calls.{Asked, NestedCall, block_call, enter_block, r
 use Rattle.tm_meaning.specs.Machine.{Capture, new_capture, put_in, put_out}
 use Rattle.tm_meaning.specs.Meaning.{Ending, done, leave, next, fault, Outcome, Run, Under, behind, ended, in_place_of, nests_of, new_run, rendered}
 use Rattle.tm_meaning.specs.Meaning.{rendered_block, under}
-use Rattle.tm_parts.specs.Halts.{error_of}
 use Rattle.tm_parts.specs.declared.halt.Halt.{Halt}
 use Rattle.tm_parts.specs.declared.halt.Halt.TheVariants as halt
-use Rattle.tm_simulation.specs.Kept.{PutsBack}
 use Rattle.tm_simulation.proofs.Asks.{block_asks_by, in_block}
-use Rattle.tm_simulation.proofs.Keeps.{tag_puts_back}
 use Rattle.tm_state.specs.State.{behind_block, runs_block, saved_of}
 use Rattle.tm_state.specs.declared.saved.Saved.TheVariants as saved
 use Rattle.tm_state.specs.declared.saved.SavedBlock.{SavedBlock}
@@ -135,28 +130,6 @@ module _ {O : Type 0} (stated : O → StatedObjects) (t : TemplateValue O) (b : 
       (subst (λ x. Ran x result (undone (block_call stream w).undo left) old told now failures count)
       (sym (block_is (host_of stated t) (trees t) b w stream mid asked))
       (ran_behind stream w (new_run true w) o result left old told now failures count ran))
-
-  -- what was put back
-  world_back : m.world ≡ left → PutsBack w left
-  world_back is =
-      let host = host_of stated t in
-      subst (PutsBack w) is (tag_puts_back host (trees t) (host.limit + 1) empty (new_run true w) b [] w)
-
-  pub back_done : (new : List Capture) → Came (Ok new) left → PutsBack w left
-  back_done new (run_as_meant is appended counted) = world_back (left_by m.ending m.world left is.0)
-  back_done new (run_by_writer is part counted) = absurd (cc is)
-  back_done new (run_by_memory chain is memory part counted) = absurd (cc is)
-
-  pub back_failed : (why : Halt) (chain : List ErrorKind) → chain ≡ error_of why → Came (Err why) left →
-      is_want_of_memory chain ≡ false → chain ≢ WriteFailure ∷ [] → PutsBack w left
-  back_failed halt.Writer chain same came own apart = absurd (apart same)
-  back_failed halt.Stuck chain same (run_as_meant is appended counted) own apart = absurd is
-  back_failed halt.Stuck chain same (run_by_writer is part counted) own apart = absurd (cc is)
-  back_failed halt.Stuck chain same (run_by_memory why is memory part counted) own apart = absurd (cc is)
-  back_failed (halt.Fault kinds) chain same (run_as_meant is appended counted) own apart = world_back is.1
-  back_failed (halt.Fault kinds) chain same (run_by_writer is part counted) own apart = absurd (cc is)
-  back_failed (halt.Fault kinds) chain same (run_by_memory why is memory part counted) own apart =
-      let kind : kinds ≡ why = cc is in absurd (true≢false (sym memory ∙ ap is_want_of_memory (sym kind ∙ sym same) ∙ own))
 
 -- a block that is refused
 refused_ran : {O : Type 0} (stated : O → StatedObjects) (t : TemplateValue O) (b : List ℕ) (w : World) (old : List Capture)

@@ -2,10 +2,9 @@
 use Rattle.std.proofs.Common.{◌≡◌, ◌+◌, ◌≤◌, ◌-◌, ℕ, suc, List, [], ◌∷◌, Option, Some, None, Ok, Err, String, string_bytes, Bool, true}
 use Rattle.std.proofs.Common.{refl, sym, ap, ◌∙◌, subst, arith, length}
 use Rattle.std.specs.declared.alloc.Global.{Global}
-use Rattle.std.proofs.lemmas.List.{length-drop}
 use Rattle.tm_values.specs.Val.{Val}
 use Rattle.tm_values.specs.declared.error.ErrorKind.{ErrorKind}
-use Rattle.tm_meaning.specs.World.{World, Scope, Good, Bad}
+use Rattle.tm_meaning.specs.World.{World, Good, Bad, without_first}
 use Rattle.tm_meaning.specs.Calls.{Asked, Callee, NestedCall, outermost, run_value, undone, wrapped}
 use Rattle.tm_meaning.specs.Meaning.{Ending, done, leave, next, fault, Outcome, nests_of, value_behind}
 use Rattle.tm_meaning.specs.Machine.{Capture, Config, End, Finished, Failed, Stuck, Over, Program, base_of, first_run, new_capture, running}
@@ -18,7 +17,7 @@ use Rattle.tm_values.specs.declared.error.ErrorKind.TheVariants.{InvalidOperatio
 use Rattle.tm_parts.specs.Halts.{failures_after}
 use Rattle.tm_parts.specs.declared.halt.Halt.{Halt}
 use Rattle.tm_parts.specs.declared.halt.Halt.TheVariants as halt
-use Rattle.tm_state.specs.Answers.{NeedsRun, OneDeeper, StaysInPlace, call_of}
+use Rattle.tm_state.specs.Answers.{HasOneMore, NeedsRun, OneDeeper, StaysInPlace, call_of}
 use Rattle.tm_state.specs.State.{behind_block, callee_of, put_back, saved_of}
 use Rattle.tm_state.specs.declared.saved.Saved.{Saved}
 use Rattle.tm_state.specs.declared.saved.Saved.TheVariants as saved
@@ -27,8 +26,8 @@ use Rattle.tm_state.specs.declared.saved.SavedMacro.{SavedMacro}
 use Rattle.tm_state.specs.declared.saved.SavedSuper.{SavedSuper}
 use Rattle.tm_state.specs.declared.nested.NestedRun.{NestedRun}
 use Rattle.tm_tables.specs.Stated.{StatedObjects}
-use Rattle.tm_vm.specs.Answers.{ComesTo, HaltsAs, ReachesEnd, program}
-use Rattle.tm_vm.proofs.Loop.{undone_is}
+use Rattle.tm_vm.specs.Answers.{ComesTo, HaltsAs, NoFewer, ReachesEnd, program}
+use Rattle.tm_vm.proofs.Loop.{left_below, undone_is}
 use Rattle.template_machine.specs.Environment.{TemplateValue, code, host_of, trees}
 use Rattle.template_machine.specs.Renders.{answer_by, answer_of, called_value, callee_run, IsCalled, IsCaptured, RanApart}
 
@@ -219,50 +218,42 @@ module _ {O : Type 0} (stated : O → StatedObjects) (t : TemplateValue O) (e : 
       wrapped_by ks = wrapped e.wrap ks
 
 -- ---------------------------------------------------------------- what stands behind it
-outermost_long : (n : ℕ) (frames : List Scope) → n ≤ length frames → length (outermost n frames) ≡ n
-outermost_long n frames h = omega (arith, length-drop (length frames - n) frames, h)
-
--- the scopes that a block's run opened are left
-frames_back : (s : SavedBlock) (before left : World) → s ≡ saved_of before → length before.scopes.frames ≤ length left.scopes.frames →
-    length (behind_block s left).scopes.frames ≡ length before.scopes.frames
-frames_back s before left is more =
+-- where no scope of those below a block's own is left, only that is
+block_left : (s : SavedBlock) (before w left : World) → s ≡ saved_of before → HasOneMore before w → NoFewer w left →
+    (behind_block s left).scopes ≡ before.scopes
+block_left s before w left is more no_fewer =
     let scopes : s.scopes ≡ length before.scopes.frames = ap (λ (s : SavedBlock). s.scopes) is in
-    let long = outermost_long s.scopes left.scopes.frames (omega (arith, scopes, more)) in
-    omega (arith, long, scopes)
+    let long : length w.scopes.frames ≡ length before.scopes.frames + 1 = ap length more.0 ∙ omega arith in
+    let frames : outermost s.scopes left.scopes.frames ≡ before.scopes.frames =
+    left_below s.scopes w left (omega (arith, long, scopes)) no_fewer ∙ ap without_first more.0 in
+    ap (λ fs. record { frames = fs; outer = s.outer }) frames
+    ∙ ap (λ n. record { frames = before.scopes.frames; outer = n }) (ap (λ (s : SavedBlock). s.outer) is)
 
-pub block_stands : (s : SavedBlock) (before left : World) → s ≡ saved_of before →
-    length before.scopes.frames ≤ length left.scopes.frames → left.places ≡ before.places → StaysInPlace before (behind_block s left)
-block_stands s before left is more places = (
-  (frames_back s before left is more, ap (λ (s : SavedBlock). s.outer) is, places),
+pub block_stands : (s : SavedBlock) (before w left : World) → s ≡ saved_of before → HasOneMore before w → w.places ≡ before.places →
+    NoFewer w left → StaysInPlace before (behind_block s left)
+block_stands s before w left is more places no_fewer = (
+  block_left s before w left is more no_fewer,
   ap (λ (s : SavedBlock). s.stream) is,
   ap (λ (s : SavedBlock). s.block) is,
   ap (λ (s : SavedBlock). s.escape) is,
+  no_fewer.1.same_places ∙ places,
 )
 
 pub stands_again : (limit : ℕ) (s : Saved) (before w left : World) → OneDeeper limit s before w → NoFewer w left →
     StaysInPlace before (put_back s left)
-stands_again limit (saved.Block s) before w left deep more =
-    let long = more.0 in
-    block_stands s before left deep.0 (omega (arith, deep.1.0, long)) (more.1.1 ∙ deep.1.2)
-stands_again limit (saved.Super s) before w left deep more =
-    let long = more.0 in
+stands_again limit (saved.Block s) before w left deep no_fewer = block_stands s before w left deep.0 deep.1.0 deep.1.1 no_fewer
+stands_again limit (saved.Super s) before w left deep no_fewer =
     let is : s.replaced ≡ saved_of before = ap (λ (s : SavedSuper). s.replaced) deep.0 in (
-      (
-        frames_back s.replaced before left is (omega (arith, deep.1.0, long)),
-        ap (λ (s : SavedBlock). s.outer) is,
-        ap (λ (s : SavedSuper). s.places) deep.0,
-      ),
+      block_left s.replaced before w left is deep.1 no_fewer,
       ap (λ (s : SavedBlock). s.stream) is,
       ap (λ (s : SavedBlock). s.block) is,
       ap (λ (s : SavedBlock). s.escape) is,
+      ap (λ (s : SavedSuper). s.places) deep.0,
     )
-stands_again limit (saved.Macro s) before w left deep more = (
-  (
-    ap (λ (s : SavedMacro). length s.context.frames) deep.0,
-    ap (λ (s : SavedMacro). s.context.outer) deep.0,
-    ap (λ (s : SavedMacro). s.lists.places) deep.0,
-  ),
+stands_again limit (saved.Macro s) before w left deep no_fewer = (
+  ap (λ (s : SavedMacro). s.context) deep.0,
   ap (λ (s : SavedMacro). s.stream) deep.0,
   ap (λ (s : SavedMacro). s.block) deep.0,
   ap (λ (s : SavedMacro). s.escape) deep.0,
+  ap (λ (s : SavedMacro). s.lists.places) deep.0,
 )

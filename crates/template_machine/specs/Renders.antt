@@ -1,6 +1,6 @@
 -- What renders mean, leave and answer.
-use Rattle.std.specs.Prelude.{◌≡◌, ◌≢◌, ◌⊎◌, ◌+◌, ◌-◌, ◌^◌, ℕ, List, [], ◌∷◌, Bool, true, false, Option, Result, Ok, Err, String}
-use Rattle.std.specs.Prelude.{length, string_bytes}
+use Rattle.std.specs.Prelude.{◌≡◌, ◌⊎◌, ℕ, List, [], ◌∷◌, Bool, true, false, Option, Result, Ok, Err, String}
+use Rattle.std.specs.Prelude.{string_bytes}
 use Rattle.std.specs.Io.KnownBytes.{Appends}
 use Rattle.std.specs.declared.alloc.Global.{Global}
 use Rattle.tm_values.specs.Answer.{Answer}
@@ -17,7 +17,7 @@ use Rattle.tm_meaning.specs.declared.stream.StreamId.{StreamId}
 use Rattle.tm_meaning.specs.declared.stream.TemplateId.TheVariants.{Own}
 use Rattle.tm_meaning.specs.Machine.{Capture, new_capture, put_in, put_out}
 use Rattle.tm_meaning.specs.Meaning.{Ending, fault, Outcome, first_world, nests_of, rendered, rendered_block, value_behind}
-use Rattle.tm_simulation.specs.Kept.{PutsBack}
+use Rattle.tm_state.specs.Answers.{HasOneMore}
 use Rattle.tm_state.specs.State.{runs_block, saved_of}
 use Rattle.tm_state.specs.declared.saved.SavedBlock.{SavedBlock}
 use Rattle.tm_output.specs.Counts.{saturating_increment, AppendsBeginning}
@@ -193,14 +193,7 @@ block_meaning stated t b w = rendered_block (host_of stated t) (trees t) b w
 -- The block's run is what is asked for, from this world; what is put back behind it is of the world before.
 abbrev pub IsEntered : Asked → SavedBlock → World → World → Type 0
 IsEntered asked saved old new =
-    (saved ≡ saved_of old) × ((s : StreamId) × (asked ≡ runs_block s old new))
-    × (length new.scopes.frames ≡ length old.scopes.frames + 1)
-
--- But for want of memory and a writer that fails, what a block's run replaced is put back as it was: the very scopes, the stream, the block,
--- the escape and the places in lists of blocks.
-abbrev pub IsBack : {A : Type 0} → Result A (List ErrorKind) → World → World → Type 0
-IsBack (Ok x) old new = PutsBack old new
-IsBack (Err chain) old new = is_want_of_memory chain ≡ false → chain ≢ WriteFailure ∷ [] → PutsBack old new
+    (saved ≡ saved_of old) × ((s : StreamId) × (asked ≡ runs_block s old new)) × HasOneMore old new × (new.places ≡ old.places)
 
 -- The answer is the end that was meant, in the world that is left.
 abbrev pub IsBlockEnd : Result (Unit {0}) (List ErrorKind) → World → Outcome → Type 0

@@ -94,7 +94,7 @@ impl<O: Parties> Rendering<'_, O> {
         requires { IsFresh captures }
         ensures ran { Ran (meaning_from O.stated self.now state.old) result state.new captures
             (W.written writer.old) (W.written writer.new) (W.failures writer.old) (W.failures writer.new) }
-        ensures no_fewer { length state.old.scopes.frames ≤ length state.new.scopes.frames }
+        ensures no_fewer { NoFewer state.old state.new }
         ensures kept { KeepsFixed state.old state.new }
     {
         let alloc = self.allocator();

@@ -1,7 +1,7 @@
 //! States, and what a render leaves.
 ghost use Rattle.std.specs.Fn.{FnOnceReturnsAtMut};
 ghost use Rattle.std.specs.List.Sorted.{IsStrictlySortedBy};
-ghost use Rattle.std.specs.Prelude.{◌≡◌, ◌+◌, ◌≤◌, [], ◌∷◌, Some, IfErr, IfOk, IfSome, Ok, OnErr, OnOk, false, length, string_bytes, true};
+ghost use Rattle.std.specs.Prelude.{◌≡◌, ◌+◌, [], ◌∷◌, Some, IfErr, IfOk, IfSome, Ok, OnErr, OnOk, false, string_bytes, true};
 ghost use Rattle.tm_syntax.specs.Named.{find, name_cmp, texts_of};
 ghost use Rattle.tm_values.specs.Answer.{IsAnswer, IsLent, OkOrOutOfMemory};
 ghost use Rattle.tm_meaning.specs.World.{emitted, find_name, fuel_levels, name_of, records_of, view_of};
@@ -12,8 +12,9 @@ ghost use Rattle.tm_state.specs.Answers.{Becomes, CallLies, IsEmitted, KeepsFixe
 ghost use Rattle.tm_state.specs.State.{callee_of, exported};
 ghost use Rattle.template_machine.specs.Environment.{host_of};
 ghost use Rattle.template_machine.specs.Renders.{as_text, block_meaning, call_by_name, called_value, callee_run, with_temp, with_world};
-ghost use Rattle.template_machine.specs.Renders.{BlockWritten, IsBack, IsCalled, IsCaptured, IsEntered, IsFresh, IsTested, Ran, RanApart};
+ghost use Rattle.template_machine.specs.Renders.{BlockWritten, IsCalled, IsCaptured, IsEntered, IsFresh, IsTested, Ran, RanApart};
 ghost use Rattle.tm_meaning.specs.Machine.{new_capture};
+ghost use Rattle.tm_vm.specs.Answers.{NoFewer};
 
 use crate::environment::BoxedObjects;
 use crate::rendering::Rendering;
@@ -192,7 +193,6 @@ impl<'env, O: Parties> StateOf<'env, O> {
     pub fn render_block(&mut self, name: &str) -> Result<String, Error>
         ensures called { IsCaptured result
             (block_meaning O.stated self.old.template name.now self.old.world) self.new.world }
-        ensures back { IsBack result self.old.world self.new.world }
         ensures template { self.new.template ≡ self.old.template }
         ensures stays { StaysInPlace self.old.world self.new.world }
         ensures kept { KeepsFixed self.old.world self.new.world }
@@ -217,7 +217,6 @@ impl<'env, O: Parties> StateOf<'env, O> {
         ensures rendered { BlockWritten
             (block_meaning O.stated self.old.template name.now self.old.world) result self.new.world
             (W.written writer.old) (W.written writer.new) (W.failures writer.old) (W.failures writer.new) }
-        ensures back { IsBack result self.old.world self.new.world }
         ensures template { self.new.template ≡ self.old.template }
         ensures stays { StaysInPlace self.old.world self.new.world }
         ensures kept { KeepsFixed self.old.world self.new.world }
@@ -319,7 +318,7 @@ impl<'env, O: Parties> StateOf<'env, O> {
         ensures captured { IsCaptured result (callee_run O.stated self.old.template
             (callee_of run) self.old.world) self.new.world }
         ensures template { self.new.template ≡ self.old.template }
-        ensures no_fewer { length self.old.world.scopes.frames ≤ length self.new.world.scopes.frames }
+        ensures no_fewer { NoFewer self.old.world self.new.world }
         ensures kept { KeepsFixed self.old.world self.new.world }
     {
         let alloc = self.rendering.allocator();
@@ -339,7 +338,7 @@ impl<'env, O: Parties> StateOf<'env, O> {
         ensures ran { RanApart result (callee_run O.stated self.old.template
             (callee_of run) self.old.world) self.new.world }
         ensures template { self.new.template ≡ self.old.template }
-        ensures no_fewer { length self.old.world.scopes.frames ≤ length self.new.world.scopes.frames }
+        ensures no_fewer { NoFewer self.old.world self.new.world }
         ensures kept { KeepsFixed self.old.world self.new.world }
     {
         let alloc = self.rendering.allocator();

@@ -6,9 +6,9 @@ use Rattle.tm_meaning.specs.Memory.{is_want_of_memory}
 use Rattle.tm_values.specs.declared.error.ErrorKind.{ErrorKind}
 use Rattle.tm_values.specs.declared.error.ErrorKind.TheVariants.{InvalidOperation}
 use Rattle.tm_syntax.specs.Named.{put_each}
-use Rattle.tm_values.specs.Val.{Val}
+use Rattle.tm_values.specs.Val.{Val, undefined}
 use Rattle.tm_tables.specs.Stated.{is_for_memory}
-use Rattle.tm_meaning.specs.World.{World, HostValue, Object, Stated, Loop, Res, Good, Bad, depth}
+use Rattle.tm_meaning.specs.World.{World, HostValue, Object, Stated, Loop, Res, Good, Bad, depth, plain_scope}
 use Rattle.tm_meaning.specs.Calls.{Asked, has, refused, recurs, runs, NestedCall, MakesFurther, replied, found_call}
 use Rattle.tm_meaning.specs.Calls.{as_printed, as_truth, is_changed}
 use Rattle.tm_meaning.specs.declared.reply.Call.{Call}
@@ -25,26 +25,22 @@ use Rattle.tm_state.specs.declared.calls.CallResult.{CallResult}
 use Rattle.tm_state.specs.declared.calls.CallResult.TheVariants as outcome
 use Rattle.tm_state.specs.declared.calls.Recursion.{Recursion}
 
--- The outermost scope stands where it stood, and so do the places in lists of blocks.
-abbrev pub KeepsGround : World → World → Type 0
-KeepsGround old new = (new.scopes.outer ≡ old.scopes.outer) × (new.places ≡ old.places)
-
--- There are as many scopes, on the same ground.
-abbrev pub SameStanding : World → World → Type 0
-SameStanding old new = (length new.scopes.frames ≡ length old.scopes.frames) × KeepsGround old new
-
--- The scopes stand as they stood, and stream, block, escape and places of blocks are those from before.
+-- The scopes are the very ones from before, and so are stream, block, escape and the places in lists of blocks.
 abbrev pub StaysInPlace : World → World → Type 0
 StaysInPlace old new =
-    SameStanding old new × (new.stream ≡ old.stream) × (new.block ≡ old.block) × (new.escape ≡ old.escape)
+    (new.scopes ≡ old.scopes) × (new.stream ≡ old.stream) × (new.block ≡ old.block) × (new.escape ≡ old.escape)
+    × (new.places ≡ old.places)
 
--- There is a scope more for a block, which keeps the places in lists of blocks, or for a `super()`, and it may stand deeper; or there are
--- two for a macro, deeper than those that stood.
+-- There is one scope more, over the very ones from before, which may stand deeper.
+abbrev pub HasOneMore : World → World → Type 0
+HasOneMore old new =
+    (new.scopes.frames ≡ plain_scope (undefined false) ∷ old.scopes.frames) × (old.scopes.outer ≤ new.scopes.outer)
+
+-- There is a scope more for a block, which keeps the places in lists of blocks, or for a `super()`; or there are two for a macro, deeper
+-- than those that stood.
 abbrev pub HasMore : Saved → World → World → Type 0
-HasMore (saved.Block s) old new =
-    (length new.scopes.frames ≡ length old.scopes.frames + 1) × (old.scopes.outer ≤ new.scopes.outer) × (new.places ≡ old.places)
-HasMore (saved.Super s) old new =
-    (length new.scopes.frames ≡ length old.scopes.frames + 1) × (old.scopes.outer ≤ new.scopes.outer)
+HasMore (saved.Block s) old new = HasOneMore old new × (new.places ≡ old.places)
+HasMore (saved.Super s) old new = HasOneMore old new
 HasMore (saved.Macro s) old new = (length new.scopes.frames ≡ 2) × (depth old.scopes + 1 ≤ depth new.scopes)
 
 -- A run is needed first, whose scopes lie within the limit. What is put back behind it is what stood before.

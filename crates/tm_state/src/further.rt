@@ -1,5 +1,5 @@
 //! What an object of the caller answers, followed through the further calls that it asks for.
-ghost use Rattle.std.specs.Prelude.{◌≡◌, ◌+◌, ◌≤◌, false, IfOk, IfErr, OnErr, OnOk, length};
+ghost use Rattle.std.specs.Prelude.{◌≡◌, ◌+◌, ◌≤◌, false, IfOk, IfErr, OnErr, OnOk};
 ghost use Rattle.tm_values.specs.Val.{function, macro};
 ghost use Rattle.tm_syntax.specs.Named.{find, put_each};
 ghost use Rattle.tm_meaning.specs.Memory.{is_want_of_memory};
@@ -8,7 +8,7 @@ ghost use Rattle.tm_meaning.specs.Calls.{block_call, by_depths, deeper, enter_bl
 ghost use Rattle.tm_meaning.specs.Calls.{as_printed, named_call, replied, runs, value_call};
 ghost use Rattle.tm_meaning.specs.declared.run_text.RunText.TheVariants as texts;
 ghost use Rattle.tm_state.specs.Answers.{Answers, Becomes, Comes, FurtherComes, FurtherLies, KeepsFixedAndNames, Leaves, NeedsPlain, PrintedComes};
-ghost use Rattle.tm_state.specs.Answers.{OneDeeper, is_macro, shown, tested, text_for};
+ghost use Rattle.tm_state.specs.Answers.{HasOneMore, OneDeeper, is_macro, shown, tested, text_for};
 ghost use Rattle.tm_state.specs.State.{saved_of};
 
 use crate::calls::CallResult;
@@ -287,10 +287,9 @@ impl StateData {
         ensures ok { IfOk result (λ r. (r.1 ≡ saved_of self.old) × (from_deeper self.old
             (enter_block (H.meaning host.now) name.now (deeper levels self.old)) ≡
             runs (record (block_call r.0 self.old) { text = texts.Plain }) self.new)) }
-        ensures deeper { OnOk result
-            ((length self.new.scopes.frames ≡ length self.old.scopes.frames + 1)
-            × (self.old.scopes.outer ≤ self.new.scopes.outer)
-            × (depth self.new.scopes ≤ (H.meaning host.now).limit)) }
+        ensures more { OnOk result (HasOneMore self.old self.new) }
+        ensures deeper { OnOk result (depth self.new.scopes ≤ (H.meaning host.now).limit) }
+        ensures places { self.new.places ≡ self.old.places }
         ensures err { IfErr result (λ e. is_want_of_memory e ≡ false → from_deeper self.old
             (enter_block (H.meaning host.now) name.now (deeper levels self.old))
             ≡ refused e self.old) }

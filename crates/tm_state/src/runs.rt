@@ -1,9 +1,9 @@
 //! What runs: blocks that are entered, and what is put back behind a run.
-ghost use Rattle.std.specs.Prelude.{◌≡◌, ◌+◌, ◌≤◌, ◌∷◌, [], IfErr, IfOk, None, OnErr, OnOk, Some, false, length};
+ghost use Rattle.std.specs.Prelude.{◌≡◌, ◌+◌, ◌≤◌, ◌∷◌, [], IfErr, IfOk, None, OnErr, OnOk, Some, false};
 ghost use Rattle.tm_meaning.specs.Calls.{deeper, enter_block, refused};
 ghost use Rattle.tm_meaning.specs.Memory.{is_want_of_memory};
 ghost use Rattle.tm_meaning.specs.World.{depth};
-ghost use Rattle.tm_state.specs.Answers.{Becomes, KeepsFixedAndNames, Leaves};
+ghost use Rattle.tm_state.specs.Answers.{Becomes, HasOneMore, KeepsFixedAndNames, Leaves};
 ghost use Rattle.tm_state.specs.State.{IsBlockOf, behind_block, behind_macro, behind_super, lists_of, put_back, runs_block};
 ghost use Rattle.tm_state.specs.State.{saved_of, saved_scopes, template_of_block};
 ghost use Rattle.tm_values.specs.Answer.{IsLent};
@@ -53,10 +53,10 @@ impl StateData {
         ensures ok { IfOk result (λ r. (r.1 ≡ saved_of self.old)
             × (enter_block (H.meaning host.now) name.now self.old ≡
             runs_block r.0 self.old self.new)) }
-        ensures deeper { OnOk result
-            ((length self.new.scopes.frames ≡ length self.old.scopes.frames + 1)
-            × (self.new.scopes.outer ≡ self.old.scopes.outer)
+        ensures more { OnOk result (HasOneMore self.old self.new) }
+        ensures deeper { OnOk result ((self.new.scopes.outer ≡ self.old.scopes.outer)
             × (depth self.new.scopes ≤ (H.meaning host.now).limit)) }
+        ensures places { self.new.places ≡ self.old.places }
         ensures err { IfErr result (λ e. is_want_of_memory e ≡ false →
             enter_block (H.meaning host.now) name.now self.old ≡ refused e self.old) }
         ensures unchanged { OnErr result (self.new ≡ self.old) }

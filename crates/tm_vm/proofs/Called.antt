@@ -2,12 +2,12 @@
 use Rattle.std.specs.Global.{Box}
 use Rattle.std.proofs.Common.{◌≡◌, ℕ, List, [], ◌∷◌, length, drop, Option, Some, None, Result, Ok, Err, Bool, true, false}
 use Rattle.std.proofs.Common.{refl, sym, ap, ◌∙◌, subst, arith}
-use Rattle.tm_values.specs.Val.{Val}
+use Rattle.tm_values.specs.Val.{Val, undefined}
 use Rattle.tm_values.specs.declared.error.ErrorKind.{ErrorKind}
 use Rattle.std.specs.Result.{IsErr, IsErrAnd}
-use Rattle.tm_meaning.specs.World.{World, Scopes}
+use Rattle.tm_meaning.specs.World.{World, Named, Scopes, plain_scope}
 use Rattle.tm_syntax.specs.declared.instruction.LoopPlace.{LoopPlace}
-use Rattle.tm_meaning.specs.Calls.{Asked, runs, recurs}
+use Rattle.tm_meaning.specs.Calls.{Asked, outermost, runs, recurs}
 use Rattle.tm_meaning.specs.Machine.{Capture, Config, Next, Program, asked, first_run, goes, nested, new_capture, on_taken}
 use Rattle.tm_meaning.specs.Machine.{place_of_loop, recursion, take_n, taken, waiting}
 use Rattle.tm_parts.specs.declared.halt.Halt.{Halt}
@@ -21,13 +21,14 @@ use Rattle.tm_state.specs.declared.saved.SavedBlock.{SavedBlock}
 use Rattle.tm_state.specs.declared.saved.SavedMacro.{SavedMacro}
 use Rattle.tm_state.specs.declared.saved.SavedSuper.{SavedSuper}
 use Rattle.tm_state.specs.declared.nested.NestedRun.{NestedRun}
-use Rattle.tm_state.specs.Answers.{Becomes, KeepsFixedAndNames, Leaves, NamedBecomes, NeedsAny, OneDeeper, StaysInPlace, call_of}
-use Rattle.tm_state.specs.State.{IsSaved, callee_of, put_back}
+use Rattle.tm_state.specs.Answers.{Becomes, HasOneMore, KeepsFixedAndNames, Leaves, NamedBecomes, NeedsAny, OneDeeper, StaysInPlace, call_of}
+use Rattle.tm_state.specs.State.{IsSaved, behind_block, callee_of, put_back, saved_of}
 use Rattle.tm_vm.specs.declared.flow.Flow.{Flow}
 use Rattle.tm_vm.specs.declared.flow.Flow.TheVariants as flow
-use Rattle.tm_vm.specs.Answers.{EntersAsValue, Enters, GoesOnWith, Needs, NoFewer, Opens, Silently, entered}
+use Rattle.tm_vm.specs.Answers.{EntersAsValue, Enters, GoesOnWith, Needs, NoFewer, Opens, SameStanding, Silently, entered}
 use Rattle.tm_vm.proofs.Counted.{calling}
-use Rattle.tm_vm.proofs.Loop.{ground_then, kept_then, outermost_long}
+use Rattle.tm_vm.proofs.Ground.{no_fewer_in_place, no_fewer_then, same_as_no_fewer, standing, under_one}
+use Rattle.tm_vm.proofs.Loop.{kept_then}
 use Rattle.tm_vm.proofs.Performed.{still}
 
 -- ---------------------------------------------------------------- worlds that don't matter
@@ -37,16 +38,13 @@ recursion_in p c x value vs ks n None items w = refl
 recursion_in p c x value vs ks n (Some l) items w = refl
 
 -- ---------------------------------------------------------------- values and loops
-fewer_then : (a b c : World) → StaysInPlace a b → NoFewer b c → NoFewer a c
-fewer_then a b c stays more = (omega (arith, stays.0.0, more.0), ground_then stays.0.1 more.1)
-
 -- behind a call that left the scopes as they were
 opens_behind : (p : Program) (n : Next) (old new : Config) (before : World) (result : Result Flow Halt) → KeepsFixedAndNames before old.world →
     StaysInPlace before old.world → Opens n old new result → Needs p n (record old { world = before }) new result
 opens_behind p n old new before (Ok flow.GoOn) kept stays h = record {
   did = h.did;
   kept = kept_then kept h.kept;
-  deepens = fewer_then before old.world new.world stays h.no_fewer;
+  deepens = no_fewer_then before old.world new.world (no_fewer_in_place before old.world stays) h.no_fewer;
   same_stream = h.same_stream;
 }
 opens_behind p n old new before (Ok flow.Done) kept stays h = absurd h.did
@@ -56,13 +54,13 @@ opens_behind p n old new before (Err halt.Writer) kept stays h = absurd h.did
 opens_behind p n old new before (Err halt.Stuck) kept stays h = record {
   did = h.did;
   kept = kept_then kept h.kept;
-  deepens = fewer_then before old.world new.world stays h.no_fewer;
+  deepens = no_fewer_then before old.world new.world (no_fewer_in_place before old.world stays) h.no_fewer;
   same_stream = h.same_stream;
 }
 opens_behind p n old new before (Err (halt.Fault chain)) kept stays h = record {
   did = h.did;
   kept = kept_then kept h.kept;
-  deepens = fewer_then before old.world new.world stays h.no_fewer;
+  deepens = no_fewer_then before old.world new.world (no_fewer_in_place before old.world stays) h.no_fewer;
   same_stream = h.same_stream;
 }
 
@@ -85,22 +83,27 @@ loop_goes_on p r count old new result h q before is leaves =
     (opens_behind p (asked p old vs (recurs r.number items old.world)) old new before result leaves.kept leaves.lies h))
 
 -- ---------------------------------------------------------------- runs
+-- where no more than a block's scope is there, that is left
+block_left : (s : SavedBlock) (before w : World) (places : Named ℕ) → s ≡ saved_of before → HasOneMore before w → places ≡ before.places →
+    SameStanding before (record (behind_block s w) { places = places })
+block_left s before w places is more same =
+    let many : s.scopes ≡ length before.scopes.frames = ap (λ (s : SavedBlock). s.scopes) is in
+    standing before (record (behind_block s w) { places = places })
+    (ap (λ n. record { frames = outermost n w.scopes.frames; outer = s.outer }) many
+    ∙ ap (λ fs. record { frames = outermost (length before.scopes.frames) fs; outer = s.outer }) more.0
+    ∙ ap (λ fs. record { frames = fs; outer = s.outer }) (under_one (plain_scope (undefined false)) before.scopes.frames)
+    ∙ ap (λ n. record { frames = before.scopes.frames; outer = n }) (ap (λ (s : SavedBlock). s.outer) is)) same
+
 -- what is put back where no memory was found for the capture
 put_back_fewer : (limit : ℕ) (s : Saved) (before w : World) → OneDeeper limit s before w → NoFewer before (put_back s w)
 put_back_fewer limit (saved.Block s) before w deep =
-    let scopes : s.scopes ≡ length before.scopes.frames = ap (λ (s : SavedBlock). s.scopes) deep.0 in
-    let frames = deep.1.0 in
-    let long = outermost_long s.scopes w.scopes.frames (omega (arith, scopes, frames)) in
-    (omega (arith, long, scopes), ap (λ (s : SavedBlock). s.outer) deep.0, deep.1.2)
+    same_as_no_fewer before (put_back (saved.Block s) w) (block_left s before w (w.places) deep.0 deep.1.0 deep.1.1)
 put_back_fewer limit (saved.Super s) before w deep =
-    let scopes : s.replaced.scopes ≡ length before.scopes.frames = ap (λ (s : SavedSuper). s.replaced.scopes) deep.0 in
-    let frames = deep.1.0 in
-    let long = outermost_long s.replaced.scopes w.scopes.frames (omega (arith, scopes, frames)) in
-    (omega (arith, long, scopes), ap (λ (s : SavedSuper). s.replaced.outer) deep.0, ap (λ (s : SavedSuper). s.places) deep.0)
+    same_as_no_fewer before (put_back (saved.Super s) w) (block_left s.replaced before w (s.places) (ap (λ (s : SavedSuper). s.replaced) deep.0) deep.1
+    (ap (λ (s : SavedSuper). s.places) deep.0))
 put_back_fewer limit (saved.Macro s) before w deep =
-    let same : s.context ≡ before.scopes = ap (λ (s : SavedMacro). s.context) deep.0 in
-    let frames = ap (λ (s : Scopes). length s.frames) same in
-    (omega (arith, frames), ap (λ (s : Scopes). s.outer) same, ap (λ (s : SavedMacro). s.lists.places) deep.0)
+    same_as_no_fewer before (put_back (saved.Macro s) w) (standing before (put_back (saved.Macro s) w) (ap (λ (s : SavedMacro). s.context) deep.0)
+    (ap (λ (s : SavedMacro). s.lists.places) deep.0))
 
 -- and what a run keeps is kept then
 pub put_back_keeps : (s : Saved) (before w : World) → IsSaved s before → KeepsFixedAndNames before w →
@@ -192,12 +195,11 @@ module _ (p : Program) (call : World → List Val → Asked) (count : ℕ) (old 
   refused_there : (chain : List ErrorKind) → NamedBecomes (Err chain) (call old.world vs) w → Leaves p.host.limit (Err chain) old.world w →
       Called old (record old { world = w }) (Err (halt.Fault chain))
   refused_there chain becomes leaves =
-      let same = leaves.lies.0 in
       subst (λ t. Needs p (on_taken t old.world (calling p call old)) old (record old { world = w }) (Err (halt.Fault chain)))
       (sym there) (record {
         did = λ m. ap (asked p old (drop count old.run.operands)) (becomes m);
         kept = leaves.kept;
-        deepens = (omega (arith, same.0), same.1);
+        deepens = no_fewer_in_place old.world w leaves.lies;
         same_stream = refl;
       })
 

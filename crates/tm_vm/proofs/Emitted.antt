@@ -14,8 +14,9 @@ use Rattle.tm_meaning.specs.declared.base.Base.{Base}
 use Rattle.tm_output.specs.Targets.{IsToldInPart, IsToldWhole}
 use Rattle.tm_output.specs.declared.target.TargetFailed.{TargetFailed}
 use Rattle.tm_output.specs.Counts.{AppendsBeginning}
-use Rattle.tm_state.specs.Answers.{KeepsFixedAndNames, SameStanding}
-use Rattle.tm_vm.specs.Answers.{output}
+use Rattle.tm_state.specs.Answers.{KeepsFixedAndNames}
+use Rattle.tm_vm.specs.Answers.{SameStanding, output}
+use Rattle.tm_vm.proofs.Ground.{standing_same}
 use Rattle.tm_vm.specs.AtOnce.{Attempted, AttemptedUntold, IsAtOnce, captured_of, paid, written_of}
 use Rattle.tm_parts.specs.Outgoing.{IsPut, IsPutInPart}
 use Rattle.tm_output.specs.Pieces.{beginning_nothing}
@@ -68,7 +69,7 @@ emitted_at_once told now failures count host f old new v rest (Ok u) none heard 
       did = (at ∙ ap (λ t. More t new) (sym (ap output at)), subst (λ t. Appends told now t) (sym (ap output at)) taken.0);
       counted = taken.1;
       kept = kept_in c new moved;
-      same_standing = subst (λ (w : World). SameStanding c.world w) (sym (ap (λ (c : Config). c.world) moved)) (refl, refl, refl);
+      same_standing = subst (λ (w : World). SameStanding c.world w) (sym (ap (λ (c : Config). c.world) moved)) (standing_same c.world);
       same_stream = ap (λ (c : Config). c.run.stream) moved;
     }
 emitted_at_once told now failures count host f old new v rest (Err e) none heard top unformatted defined fine moved taken =
@@ -79,7 +80,7 @@ emitted_at_once told now failures count host f old new v rest (Err e) none heard
       did = (tt, subst (λ t. AppendsBeginning told now t) (sym (ap output at)) taken.0);
       counted = taken.1;
       kept = kept_in c new moved;
-      same_standing = subst (λ (w : World). SameStanding c.world w) (sym (ap (λ (c : Config). c.world) moved)) (refl, refl, refl);
+      same_standing = subst (λ (w : World). SameStanding c.world w) (sym (ap (λ (c : Config). c.world) moved)) (standing_same c.world);
       same_stream = ap (λ (c : Config). c.run.stream) moved;
     }
 
@@ -125,7 +126,7 @@ captured_at_once host f old new v rest (Ok u) some heard top unformatted defined
       did = nothing_written told at;
       counted = refl;
       kept = kept_behind ks c new moved;
-      same_standing = subst (λ (w : World). SameStanding c.world w) (sym (ap (λ (d : Config). d.world) moved)) (refl, refl, refl);
+      same_standing = subst (λ (w : World). SameStanding c.world w) (sym (ap (λ (d : Config). d.world) moved)) (standing_same c.world);
       same_stream = ap (λ (d : Config). d.run.stream) moved;
     }
 captured_at_once host f old new v rest (Err e) some heard top unformatted defined fine ks moved put told failures =
@@ -134,7 +135,7 @@ captured_at_once host f old new v rest (Err e) some heard top unformatted define
       did = (λ other. absurd (cc other), beginning_nothing told (output (emit_of host f c)));
       counted = refl;
       kept = kept_behind ks c new moved;
-      same_standing = subst (λ (w : World). SameStanding c.world w) (sym (ap (λ (d : Config). d.world) moved)) (refl, refl, refl);
+      same_standing = subst (λ (w : World). SameStanding c.world w) (sym (ap (λ (d : Config). d.world) moved)) (standing_same c.world);
       same_stream = ap (λ (d : Config). d.run.stream) moved;
     }
 
@@ -145,7 +146,7 @@ quiet : (n : Config → Next) (old new : Config) → n (paid old) ≡ More [] ne
 quiet n old new did same stream = record {
   did = did;
   kept = subst (λ (w : World). KeepsFixedAndNames (paid old).world w) (sym same) (kept_same (paid old).world);
-  same_standing = subst (λ (w : World). SameStanding (paid old).world w) (sym same) (refl, refl, refl);
+  same_standing = subst (λ (w : World). SameStanding (paid old).world w) (sym same) (standing_same (paid old).world);
   same_stream = stream;
 }
 

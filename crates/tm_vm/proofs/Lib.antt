@@ -1,3 +1,4 @@
+pub mod Ground
 pub mod Shift
 pub mod Loop
 pub mod Used

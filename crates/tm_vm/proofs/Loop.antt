@@ -3,11 +3,11 @@ use Rattle.std.specs.Global.{Box}
 use Rattle.std.proofs.Common.{◌≡◌, ◌≤◌, ◌<◌, ℕ, List, [], ◌∷◌, length, ◌++◌, take, zero, suc, Option, Result, Ok, Err, Some, None, Bool, true, false, refl, sym}
 use Rattle.std.proofs.Common.{◌∙◌, ap, subst, append_assoc, arith, inl, inr}
 use Rattle.std.specs.Io.KnownBytes.{Appends}
-use Rattle.std.proofs.lemmas.List.{append-nil, length-drop}
-use Rattle.std.proofs.Common.{◌-◌}
+use Rattle.std.proofs.lemmas.List.{append-nil}
+use Rattle.std.proofs.Common.{◌+◌, ◌-◌}
 use Rattle.tm_meaning.specs.World.{Scope}
 use Rattle.tm_meaning.specs.Calls.{outermost}
-use Rattle.tm_meaning.specs.World.{World, Scopes, depth}
+use Rattle.tm_meaning.specs.World.{World, Scopes, depth, without_first}
 use Rattle.tm_meaning.specs.Calls.{undone, wrapped}
 use Rattle.tm_meaning.specs.Memory.{is_want_of_memory}
 use Rattle.tm_meaning.specs.declared.wrapping.Wrapping.{Wrapping}
@@ -26,8 +26,9 @@ use Rattle.tm_parts.specs.declared.halt.Halt.TheVariants as halt
 use Rattle.tm_state.specs.declared.nested.NestedRun.{NestedRun}
 use Rattle.tm_vm.specs.declared.flow.Flow.{Flow}
 use Rattle.tm_vm.specs.declared.flow.Flow.TheVariants as flow
-use Rattle.tm_vm.specs.Answers.{Begins, ComesTo, Did, Enters, HaltsAs, NoFewer, ReachesEnd, KeepsBaseScopes, output}
-use Rattle.tm_state.specs.Answers.{KeepsFixed, KeepsFixedAndNames, KeepsGround, OneDeeper, SameStanding, call_of}
+use Rattle.tm_vm.specs.Answers.{Begins, ComesTo, Did, Enters, HaltsAs, KeepsGround, NoFewer, ReachesEnd, KeepsBaseScopes, SameStanding, output}
+use Rattle.tm_vm.proofs.Ground.{below_first, ground_then, standing}
+use Rattle.tm_state.specs.Answers.{KeepsFixed, KeepsFixedAndNames, OneDeeper, call_of}
 use Rattle.tm_state.specs.declared.saved.Saved.{Saved}
 use Rattle.tm_state.specs.declared.saved.Saved.TheVariants as saved
 use Rattle.tm_state.specs.declared.saved.SavedBlock.{SavedBlock}
@@ -290,45 +291,35 @@ pub at_base : (p : Program) (old new : Config) (told now : Option (List ℕ)) (r
     Did p r told now new (step p f old) → Did p r told now new (step p g old)
 at_base p old new told now r f g e did = subst (λ x. Did p r told now new (step p x old)) e did
 
-pub ground_then : {a b c : World} → KeepsGround a b → KeepsGround b c → KeepsGround a c
-ground_then h k = (k.0 ∙ h.0, k.1 ∙ h.1)
-
--- behind a nested run there are as many scopes as before it, on the same ground
+-- behind a nested run the scopes are the very ones from before it
 scopes_back : (limit : ℕ) (s : Saved) (old mid new : World) → OneDeeper limit s old mid → IsBack s mid new → SameStanding old new
-scopes_back limit (saved.Block s) old mid new deep back = (
-  back.0 ∙ ap (λ (s : SavedBlock). s.scopes) deep.0,
-  back.1 ∙ ap (λ (s : SavedBlock). s.outer) deep.0,
-  back.2 ∙ deep.1.2,
-)
-scopes_back limit (saved.Super s) old mid new deep back = (
-  back.0 ∙ ap (λ (s : SavedSuper). s.replaced.scopes) deep.0,
-  back.1 ∙ ap (λ (s : SavedSuper). s.replaced.outer) deep.0,
-  back.2 ∙ ap (λ (s : SavedSuper). s.places) deep.0,
-)
+scopes_back limit (saved.Block s) old mid new deep back =
+    standing old new
+    (ap (λ fs. record { frames = fs; outer = new.scopes.outer }) (back.0 ∙ ap without_first deep.1.0.0)
+    ∙ ap (λ n. record { frames = old.scopes.frames; outer = n }) (back.1 ∙ ap (λ (s : SavedBlock). s.outer) deep.0))
+    (back.2 ∙ deep.1.1)
+scopes_back limit (saved.Super s) old mid new deep back =
+    standing old new
+    (ap (λ fs. record { frames = fs; outer = new.scopes.outer }) (back.0 ∙ ap without_first deep.1.0)
+    ∙ ap (λ n. record { frames = old.scopes.frames; outer = n }) (back.1 ∙ ap (λ (s : SavedSuper). s.replaced.outer) deep.0))
+    (back.2 ∙ ap (λ (s : SavedSuper). s.places) deep.0)
 scopes_back limit (saved.Macro s) old mid new deep back =
-    let same : new.scopes ≡ old.scopes = back.0 ∙ ap (λ (s : SavedMacro). s.context) deep.0 in (
-      ap (λ (s : Scopes). length s.frames) same,
-      ap (λ (s : Scopes). s.outer) same,
-      back.1 ∙ ap (λ (s : SavedMacro). s.lists.places) deep.0,
-    )
+    standing old new (back.0 ∙ ap (λ (s : SavedMacro). s.context) deep.0) (back.1 ∙ ap (λ (s : SavedMacro). s.lists.places) deep.0)
 
 pub scopes_behind : (limit : ℕ) (e : NestedRun) (old mid new : World) → OneDeeper limit e.saved old mid → IsBack e.saved mid new →
     SameStanding old new
 scopes_behind limit e old mid new deep back = scopes_back limit e.saved old mid new deep back
 
-pub outermost_long : (n : ℕ) (frames : List Scope) → n ≤ length frames → length (outermost n frames) ≡ n
-outermost_long n frames h = omega (arith, length-drop (length frames - n) frames, h)
-
 -- it stands deeper than the run that waits, on the scopes that were saved
 lies_deeper : (limit : ℕ) (s : Saved) (old mid : World) → OneDeeper limit s old mid → mid.loaded ≡ old.loaded →
     StandsOn s mid × (depth old.scopes < depth mid.scopes)
 lies_deeper limit (saved.Block s) old mid deep names =
-    let frames = deep.1.0 in
-    let outer = deep.1.1 in
+    let frames = ap length deep.1.0.0 in
+    let outer = deep.1.0.1 in
     let held : s.scopes ≡ length old.scopes.frames = ap (λ (s : SavedBlock). s.scopes) deep.0 in
     (omega (arith, frames, held), omega (arith, frames, outer))
 lies_deeper limit (saved.Super s) old mid deep names =
-    let frames = deep.1.0 in
+    let frames = ap length deep.1.0 in
     let outer = deep.1.1 in
     let held : s.replaced.scopes ≡ length old.scopes.frames = ap (λ (s : SavedSuper). s.replaced.scopes) deep.0 in
     (omega (arith, frames, held), omega (arith, frames, outer))
@@ -340,14 +331,17 @@ pub stands_deeper : (limit : ℕ) (e : NestedRun) (old mid : World) → OneDeepe
     StandsOn e.saved mid × (depth old.scopes < depth mid.scopes)
 stands_deeper limit e old mid deep names = lies_deeper limit e.saved old mid deep names
 
+-- of the scopes behind a run only those below its own are left
+pub left_below : (n : ℕ) (begun ran : World) → length begun.scopes.frames ≡ n + 1 → NoFewer begun ran →
+    outermost n ran.scopes.frames ≡ without_first begun.scopes.frames
+left_below n begun ran stands no_fewer =
+    let less : n ≡ length begun.scopes.frames - 1 = omega (arith, stands) in
+    ap (λ k. outermost k ran.scopes.frames) less ∙ no_fewer.1.same_below ∙ below_first begun.scopes.frames (omega (arith, stands))
+
 -- the scopes that a run opened are left, and those that were replaced are back
 pub is_back : (s : Saved) (begun ran : World) → StandsOn s begun → NoFewer begun ran → IsBack s begun (put_back s ran)
-is_back (saved.Block s) begun ran stands no_fewer =
-    let more = no_fewer.0 in
-    (outermost_long s.scopes ran.scopes.frames (omega (arith, stands, more)), refl, no_fewer.1.1)
-is_back (saved.Super s) begun ran stands no_fewer =
-    let more = no_fewer.0 in
-    (outermost_long s.replaced.scopes ran.scopes.frames (omega (arith, stands, more)), refl, refl)
+is_back (saved.Block s) begun ran stands no_fewer = (left_below s.scopes begun ran stands no_fewer, refl, no_fewer.1.same_places)
+is_back (saved.Super s) begun ran stands no_fewer = (left_below s.replaced.scopes begun ran stands no_fewer, refl, refl)
 is_back (saved.Macro s) begun ran stands no_fewer = (refl, refl)
 
 -- the same, of a run that began in the world that was left before it
@@ -376,12 +370,13 @@ fixed_back (saved.Macro s) old ran kept =
 
 -- behind a step of a run whose base stood over so many scopes
 pub above_base : (heard : Bool) (ks : List Capture) (first : World) (f : Base) (old new : World) → f ≡ base_of heard ks first →
-    length first.scopes.frames ≤ length old.scopes.frames
-    → KeepsBaseScopes f old new → length first.scopes.frames ≤ length new.scopes.frames
+    NoFewer first old → KeepsBaseScopes f old new → NoFewer first new
 above_base heard ks first f old new e above stays =
     let base : f.scopes ≡ length first.scopes.frames = ap (λ (b : Base). b.scopes) e in
-    let then : f.scopes ≤ length new.scopes.frames = stays.0 (omega (arith, base, above)) in
-    omega (arith, base, then)
+    let more = above.0 in
+    let then = stays (omega (arith, base, more)) in
+    let long = then.0 in
+    (omega (arith, base, long), ground_then above.1 (subst (λ n. KeepsGround n old new) base then.1))
 
 -- what a step gives boxed, taken out
 pub unboxed : (p : Program) {n : Next} (b : Box NestedRun) (e : NestedRun) (c : Config) (told now : Option (List ℕ)) → e ≡ b.value →

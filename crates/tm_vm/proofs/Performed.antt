@@ -14,7 +14,8 @@ use Rattle.std.proofs.Common.{◌-◌, nat_lt}
 use Rattle.std.proofs.lemmas.Bool.Decides.{nat_tests}
 use Rattle.tm_meaning.specs.Steps.{act, charge_of, effect, pay, step}
 use Rattle.tm_syntax.specs.declared.instruction.Instruction.{Instruction}
-use Rattle.tm_state.specs.Answers.{KeepsFixed, KeepsFixedAndNames, OneDeeper, SameStanding, fixed_of}
+use Rattle.tm_state.specs.Answers.{KeepsFixed, KeepsFixedAndNames, OneDeeper, fixed_of}
+use Rattle.tm_vm.proofs.Ground.{same_as_no_fewer, standing_same, stays, stays_over}
 use Rattle.tm_vm.proofs.Loop.{fixed_same, fixed_then, kept_same}
 use Rattle.std.proofs.Common.{◌≤◌}
 use Rattle.tm_meaning.specs.Inheritance.{names_left}
@@ -42,9 +43,6 @@ use Rattle.tm_vm.specs.declared.flow.Flow.TheVariants as flow
 pub nothing_written : {n : Next} {c : Config} (told : Option (List ℕ)) → n ≡ More [] c → (n ≡ More (output n) c) × Appends told told (output n)
 nothing_written {c = c} told at =
     (at ∙ ap (λ t. More t c) (sym (ap output at)), subst (λ t. Appends told told t) (sym (ap output at)) (appends_nothing told))
-
-stays : (f : Base) (old new : World) → SameStanding old new → KeepsBaseScopes f old new
-stays f old new same = (λ h. omega (arith, h, same.0), same.1)
 
 -- the same names are loaded, so as many are left
 pub same_names : (host : HostValue) {old new : World} → KeepsFixedAndNames old new → names_left host new ≤ names_left host old
@@ -88,11 +86,7 @@ silent {p = p} {f = f} {n = n} {old = old} {new = new} {told = told} (Err (halt.
 -- one that may open a scope, and doesn't
 pub still : {n : Next} {old new : Config} (result : Result Flow Halt) → Silently n old new result → Opens n old new result
 still {old = old} {new = new} result s =
-    let same = s.same_standing.0 in
-    record { did = s.did; kept = s.kept; no_fewer = (omega (arith, same), s.same_standing.1); same_stream = s.same_stream }
-
-stays_over : (f : Base) (old new : World) → NoFewer old new → KeepsBaseScopes f old new
-stays_over f old new more = let long = more.0 in (λ h. omega (arith, h, long), more.1)
+    record { did = s.did; kept = s.kept; no_fewer = same_as_no_fewer old.world new.world s.same_standing; same_stream = s.same_stream }
 
 pub opened : {p : Program} {f : Base} {n : Next} {old new : Config} {told : Option (List ℕ)} {failures : ℕ} (result : Result Flow Halt) →
     Opens n old new result
@@ -366,7 +360,7 @@ finished {p = p} {f = f} {n = n} {old = old} {new = new} {told = told} {failures
       counted = refl;
       kept = fixed_same new.world;
       names = omega arith;
-      depths = ((λ h. h, refl, refl), s.1);
+      depths = (stays f new.world new.world (standing_same new.world), s.1);
       same_stream = refl;
     })
 finished {p = p} {f = f} {old = old} {new = new} (Ok flow.Restart) s =
@@ -376,7 +370,7 @@ finished {p = p} {f = f} {old = old} {new = new} (Ok flow.Restart) s =
       counted = refl;
       kept = subst (λ w. KeepsFixed old.world w) (sym world) (record { same_id = refl; same_fuel_set = refl; no_more_fuel = omega arith });
       names = subst (λ w. names_left p.host w ≤ names_left p.host old.world) (sym world) (omega arith);
-      depths = subst (λ w. KeepsBaseScopes f old.world w) (sym world) (λ h. h, refl, refl);
+      depths = subst (λ w. KeepsBaseScopes f old.world w) (sym world) (λ h. (h, record { same_below = refl; same_outer = refl; same_places = refl }));
       same_stream = tt;
     }
 finished (Ok flow.GoOn) s = absurd s
@@ -388,7 +382,7 @@ finished {p = p} {f = f} {n = n} {old = old} {new = new} {told = told} {failures
       counted = refl;
       kept = fixed_same new.world;
       names = omega arith;
-      depths = (λ h. h, refl);
+      depths = stays f new.world new.world (standing_same new.world);
       same_stream = refl;
     })
 finished {p = p} {f = f} {n = n} {old = old} {new = new} {told = told} {failures = failures} (Err (halt.Fault chain)) s =
@@ -397,7 +391,7 @@ finished {p = p} {f = f} {n = n} {old = old} {new = new} {told = told} {failures
       counted = refl;
       kept = fixed_same new.world;
       names = omega arith;
-      depths = (λ h. h, refl);
+      depths = stays f new.world new.world (standing_same new.world);
       same_stream = refl;
     })
 

@@ -7,8 +7,8 @@ use Rattle.std.specs.declared.alloc.Global.{Global}
 use Rattle.std.specs.Io.KnownBytes.{Appends}
 use Rattle.tm_meaning.specs.Memory.{is_want_of_memory}
 use Rattle.tm_syntax.specs.declared.instruction.Instruction.{Instruction}
-use Rattle.tm_meaning.specs.World.{World, HostValue}
-use Rattle.tm_meaning.specs.Calls.{Asked}
+use Rattle.tm_meaning.specs.World.{World, HostValue, Named, Scopes}
+use Rattle.tm_meaning.specs.Calls.{Asked, outermost}
 use Rattle.tm_values.specs.declared.error.ErrorKind.TheVariants.{OutOfMemory}
 use Rattle.tm_meaning.specs.Machine.{Caches, take_n, stuck}
 use Rattle.tm_meaning.specs.Machine.{Return, Activation, Capture, Config, End, Finished, Failed, Stuck, Next, More, Over, Restart, Nest, Program}
@@ -23,7 +23,7 @@ use Rattle.tm_output.specs.Counts.{AppendsBeginning}
 use Rattle.tm_parts.specs.Halts.{failures_after}
 use Rattle.tm_parts.specs.declared.halt.Halt.{Halt}
 use Rattle.tm_parts.specs.declared.halt.Halt.TheVariants as halt
-use Rattle.tm_state.specs.Answers.{KeepsFixed, KeepsFixedAndNames, KeepsGround, SameStanding, OneDeeper, NamedBecomes, Leaves, call_of}
+use Rattle.tm_state.specs.Answers.{KeepsFixed, KeepsFixedAndNames, OneDeeper, NamedBecomes, Leaves, call_of}
 use Rattle.tm_state.specs.State.{IsSaved, callee_of, put_back}
 use Rattle.tm_meaning.specs.Inheritance.{names_left}
 use Rattle.tm_meaning.specs.declared.stream.TemplateId.{TemplateId}
@@ -82,13 +82,28 @@ Did p (Ok flow.Restart) told now c n = (n ≡ Restart c) × (now ≡ told)
 Did p (Ok (flow.Enter e)) told now c n = Enters p e.value c n × (now ≡ told)
 Did p (Err why) told now c n = HaltsAs why c.world (λ e. n ≡ Over e) × AppendsBeginning told now (output n)
 
+-- Of so many outermost scopes all below the innermost one are the very ones, where they stood; and the places in lists of blocks are the
+-- same.
+pub record SameGround (n : ℕ) (old new : Scopes) (were are : Named ℕ) : Type 0 where
+  pub same_below : outermost (n - 1) new.frames ≡ outermost (n - 1) old.frames
+  pub same_outer : new.outer ≡ old.outer
+  pub same_places : are ≡ were
+
+abbrev pub KeepsGround : ℕ → World → World → Type 0
+KeepsGround n old new = SameGround n old.scopes new.scopes old.places new.places
+
+-- There are as many scopes, on the same ground.
+abbrev pub SameStanding : World → World → Type 0
+SameStanding old new = (length new.scopes.frames ≡ length old.scopes.frames) × KeepsGround (length old.scopes.frames) old new
+
 -- No scope is left, and they stand on the same ground.
 abbrev pub NoFewer : World → World → Type 0
-NoFewer old new = (length old.scopes.frames ≤ length new.scopes.frames) × KeepsGround old new
+NoFewer old new = (length old.scopes.frames ≤ length new.scopes.frames) × KeepsGround (length old.scopes.frames) old new
 
 -- No scope that stood before the run is left, and they stand on the same ground.
 abbrev pub KeepsBaseScopes : Base → World → World → Type 0
-KeepsBaseScopes f old new = (f.scopes ≤ length old.scopes.frames → f.scopes ≤ length new.scopes.frames) × KeepsGround old new
+KeepsBaseScopes f old new =
+    f.scopes ≤ length old.scopes.frames → (f.scopes ≤ length new.scopes.frames) × KeepsGround f.scopes old new
 
 -- How the scopes lie behind a step: none of before is left; there is one more, within the limit, where a run of its own is needed; and a
 -- run that is over has closed what it opened.

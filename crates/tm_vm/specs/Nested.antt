@@ -1,7 +1,7 @@
 -- A run that an instruction needed, and the machine behind it.
 use Rattle.std.specs.Prelude.{◌≡◌, ◌⊎◌, ◌+◌, ℕ, List, [], ◌∷◌, length, Option, Result, Ok, Err, true}
 use Rattle.std.specs.Io.KnownBytes.{Appends}
-use Rattle.tm_meaning.specs.World.{World}
+use Rattle.tm_meaning.specs.World.{World, without_first}
 use Rattle.tm_meaning.specs.Memory.{is_want_of_memory}
 use Rattle.tm_values.specs.declared.error.ErrorKind.TheVariants.{OutOfMemory}
 use Rattle.tm_meaning.specs.Calls.{wrapped}
@@ -48,12 +48,13 @@ StandsOn (saved.Block s) w = length w.scopes.frames ≡ s.scopes + 1
 StandsOn (saved.Super s) w = length w.scopes.frames ≡ s.replaced.scopes + 1
 StandsOn (saved.Macro s) w = s.lists.loaded ≡ w.loaded
 
--- There are as many scopes as were saved, and they stand where those stood; the places in lists of blocks are those that were saved, or
--- from before a block's run.
+-- The scopes are those below the run's own, where those that were saved stood, or those that were saved; the places in lists of blocks are
+-- those that were saved, or from before a block's run.
 abbrev pub IsBack : Saved → World → World → Type 0
-IsBack (saved.Block s) begun w = (length w.scopes.frames ≡ s.scopes) × (w.scopes.outer ≡ s.outer) × (w.places ≡ begun.places)
+IsBack (saved.Block s) begun w =
+    (w.scopes.frames ≡ without_first begun.scopes.frames) × (w.scopes.outer ≡ s.outer) × (w.places ≡ begun.places)
 IsBack (saved.Super s) begun w =
-    (length w.scopes.frames ≡ s.replaced.scopes) × (w.scopes.outer ≡ s.replaced.outer) × (w.places ≡ s.places)
+    (w.scopes.frames ≡ without_first begun.scopes.frames) × (w.scopes.outer ≡ s.replaced.outer) × (w.places ≡ s.places)
 IsBack (saved.Macro s) begun w = (w.scopes ≡ s.context) × (w.places ≡ s.lists.places)
 
 -- The run came to an end that leads to the end of the run that waits.

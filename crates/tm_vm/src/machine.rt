@@ -4,8 +4,8 @@ ghost use Rattle.tm_meaning.specs.Inheritance.{names_left};
 ghost use Rattle.tm_meaning.specs.Machine.{audible, base_of, first_run, run_from, running};
 ghost use Rattle.tm_meaning.specs.Steps.{step};
 ghost use Rattle.tm_parts.specs.Halts.{failures_after};
-ghost use Rattle.tm_vm.specs.Answers.{program, Begins, EndsAs, IsAtFirst, ReachesEnd, NoFewer, StaysRun};
-ghost use Rattle.tm_state.specs.Answers.{KeepsFixed, SameStanding};
+ghost use Rattle.tm_vm.specs.Answers.{program, Begins, EndsAs, IsAtFirst, ReachesEnd, NoFewer, SameStanding, StaysRun};
+ghost use Rattle.tm_state.specs.Answers.{KeepsFixed};
 ghost use Rattle.tm_state.specs.State.{callee_of, put_back};
 ghost use Rattle.tm_vm.specs.Nested.{RanNested, StandsOn, WroteBeginning, IsBack, IsWrapped, IsCaptured, base_in, begins_in};
 

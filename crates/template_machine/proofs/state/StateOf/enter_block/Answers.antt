@@ -12,5 +12,5 @@ returns-clause-ok g c =
     λ s x. IsEntered (enter_block (host_of g.O.Parties.stated s.template) x s.world) saved s.world new in
     let ok = c.in_ok-_stream.ensures.ok in
     let inside : StateValue g.row.O.Denot = record { template = c.self.inside.rendering; world = c.self.inside.kept } in
-    let base : Entered inside c.in_ok-name.name = (ok.0, (c.in_ok-_stream._stream, ok.1), c.in_ok-_stream.ensures.deeper.0) in
+    let base : Entered inside c.in_ok-name.name = (ok.0, (c.in_ok-_stream._stream, ok.1), c.in_ok-_stream.ensures.more, c.enter_block.ensures.places) in
     subst (λ s. Entered s c.args.name.now) c.self.view_is (subst (Entered inside) c.in_ok-name.ensures base)

@@ -10,7 +10,8 @@ use Rattle.tm_vm.proofs.Loop.{at_base, fixed_same, fixed_then, stands_first, sta
 use Rattle.tm_parts.specs.declared.halt.Halt.TheVariants as halt
 use Rattle.tm_state.specs.declared.nested.NestedRun.{NestedRun}
 use Rattle.tm_vm.specs.Nested.{IsWrapped}
-use Rattle.tm_vm.proofs.Loop.{as_value, ended_at, first_of, ground_then, in_place, refused_ends, stands_deeper, was_back, wrapped_ends}
+use Rattle.tm_vm.proofs.Ground.{no_fewer_same, over_same}
+use Rattle.tm_vm.proofs.Loop.{as_value, ended_at, first_of, in_place, refused_ends, stands_deeper, was_back, wrapped_ends}
 use Rattle.tm_vm.proofs.Loop.{ended_in, done_at, whole_at, scopes_behind, was_there, above_base, unboxed, deeper}
 use Rattle.tm_vm.proofs.Weight.{less_behind, parents_behind}
 use Rattle.tm_vm.proofs.machine.Machine.+machine.Goals as goal
@@ -19,13 +20,11 @@ pub run-streams-init : goal.run-streams-init
 run-streams-init g t c =
     let p = program (g.H.Host.meaning c.args.host.now) (g.H.Host.code c.args.host.now) in
     let a = c.args.self.now in
-    let all : length a.world.scopes.frames ≡ length a.world.scopes.frames = refl in
     record {
       failures = refl;
       kept = fixed_same a.world;
       names = omega arith;
-      above = omega (arith, all);
-      ground = (refl, refl);
+      no_fewer = no_fewer_same a.world;
       stands = stands_first p (base_of c.args.heard a.captures a.world) a (g.W.Sink.written c.args.writer.now);
     }
 
@@ -34,8 +33,7 @@ run-steps-init g t c = record {
   failures = c.streams.invariant.failures;
   kept = c.streams.invariant.kept;
   names = c.streams.invariant.names;
-  above = c.streams.invariant.above;
-  ground = c.streams.invariant.ground;
+  no_fewer = c.streams.invariant.no_fewer;
   same_stream = refl;
   parents = omega arith;
   stands = c.streams.invariant.stands;
@@ -60,9 +58,8 @@ run-steps-preserved-in-Ok-GoOn g t c =
       failures = step.counted ∙ c.steps.invariant.failures;
       kept = fixed_then c.steps.invariant.kept step.kept;
       names = omega (arith, names, c.steps.invariant.names);
-      above = above_base c.args.heard a.captures a.world c.base-base.result c.steps.self.world c.step.new.self.world
-          c.base-base.ensures c.steps.invariant.above step.depths;
-      ground = ground_then c.steps.invariant.ground step.depths.1;
+      no_fewer = above_base c.args.heard a.captures a.world c.base-base.result c.steps.self.world c.step.new.self.world
+          c.base-base.ensures c.steps.invariant.no_fewer step.depths;
       same_stream = step.same_stream ∙ c.steps.invariant.same_stream;
       parents = omega (arith, parents, c.steps.invariant.parents);
       stands = stands_next c.step.new.self new c.steps.invariant.stands did;
@@ -77,8 +74,9 @@ run-run_nested-requires g t c κs within =
     let stands = stands_deeper limit e c.steps.self.world c.step.new.self.world deep step.names in
     let more = stands.1 in
     let fits = deep.2 in
-    let outer = c.steps.invariant.ground.0 in
-    (omega (arith, c.decreases, more, fits, c.steps.invariant.above, outer), (within.0, (within.1, stands.0)))
+    let above = c.steps.invariant.no_fewer.0 in
+    let outer = c.steps.invariant.no_fewer.1.same_outer in
+    (omega (arith, c.decreases, more, fits, above, outer), (within.0, (within.1, stands.0)))
 
 pub run-returns-in-Err-run_nested-clause-ended : goal.run-returns-in-Err-run_nested-clause-ended
 run-returns-in-Err-run_nested-clause-ended g t c =
@@ -134,8 +132,7 @@ run-returns-in-Err-run_nested-clause-no_fewer g t c =
     let step = rw c.in-Ok-Enter.field-0-is at c.in-Ok-Enter.ensures.performs in
     let deep = deeper limit c.in-Ok-Enter.entry e c.steps.self.world c.step.new.self.world c.into_inner.ensures step.depths in
     let same = scopes_behind limit e c.steps.self.world c.step.new.self.world c.run_nested.new.self.world deep c.in-Err-run_nested.ensures.back in
-    let frames = same.0 in
-    (omega (arith, frames, c.steps.invariant.above), ground_then c.steps.invariant.ground same.1)
+    over_same c.args.self.now.world c.steps.self.world c.run_nested.new.self.world c.steps.invariant.no_fewer same
 
 pub run-steps-smaller : goal.run-steps-smaller
 run-steps-smaller g t c =
@@ -174,13 +171,11 @@ run-steps-preserved g t c =
     let fewer = c.in_default.ensures.names in
     let parents = parents_behind host c.steps.self mid c.run_nested.new.self (paid there.0 first).1 step.names fewer
     c.in_default.ensures.same_run in
-    let frames = same.0 in
     record {
       failures = c.in_default.ensures.failures ∙ step.counted ∙ c.steps.invariant.failures;
       kept = fixed_then c.steps.invariant.kept (fixed_then step.kept c.in_default.ensures.kept);
       names = omega (arith, left, fewer, c.steps.invariant.names);
-      above = omega (arith, frames, c.steps.invariant.above);
-      ground = ground_then c.steps.invariant.ground same.1;
+      no_fewer = over_same c.args.self.now.world c.steps.self.world c.run_nested.new.self.world c.steps.invariant.no_fewer same;
       same_stream = c.in_default.ensures.same_run.0 ∙ step.same_stream ∙ c.steps.invariant.same_stream;
       parents = omega (arith, parents, c.steps.invariant.parents);
       stands = stands_behind e c.step.new.self c.run_nested.new.self at new c.steps.invariant.stands enters went;
@@ -205,9 +200,8 @@ run-streams-preserved g t c =
       failures = step.counted ∙ c.steps.invariant.failures;
       kept = fixed_then c.steps.invariant.kept step.kept;
       names = omega (arith, names, c.steps.invariant.names);
-      above = above_base c.args.heard a.captures a.world c.base-base.result c.steps.self.world c.step.new.self.world
-          c.base-base.ensures c.steps.invariant.above step.depths;
-      ground = ground_then c.steps.invariant.ground step.depths.1;
+      no_fewer = above_base c.args.heard a.captures a.world c.base-base.result c.steps.self.world c.step.new.self.world
+          c.base-base.ensures c.steps.invariant.no_fewer step.depths;
       stands = stands_again c.step.new.self new c.steps.invariant.stands did;
     }
 
@@ -244,17 +238,18 @@ run-returns-in-Ok-Done-clause-names g t c =
 pub run-returns-in-Ok-Done-clause-no_fewer : goal.run-returns-in-Ok-Done-clause-no_fewer
 run-returns-in-Ok-Done-clause-no_fewer g t c =
     let a = c.args.self.now in
-    let step = rw c.in-Ok-Done.field-0-is at c.in-Ok-Done.ensures.performs in (
-      above_base c.args.heard a.captures a.world c.base-base.result c.steps.self.world c.step.new.self.world
-          c.base-base.ensures c.steps.invariant.above step.depths.0,
-      ground_then c.steps.invariant.ground step.depths.0.1,
-    )
+    let step = rw c.in-Ok-Done.field-0-is at c.in-Ok-Done.ensures.performs in
+    above_base c.args.heard a.captures a.world c.base-base.result c.steps.self.world c.step.new.self.world
+    c.base-base.ensures c.steps.invariant.no_fewer step.depths.0
 
 pub run-returns-in-Ok-Done-clause-closed : goal.run-returns-in-Ok-Done-clause-closed
 run-returns-in-Ok-Done-clause-closed g t c =
+    let a = c.args.self.now in
     let step = rw c.in-Ok-Done.field-0-is at c.in-Ok-Done.ensures.performs in
     let base = ap (λ (b : Base). b.scopes) c.base-base.ensures in
-    (sym step.depths.1 ∙ base, ground_then c.steps.invariant.ground step.depths.0.1)
+    let more = above_base c.args.heard a.captures a.world c.base-base.result c.steps.self.world c.step.new.self.world
+    c.base-base.ensures c.steps.invariant.no_fewer step.depths.0 in
+    (sym step.depths.1 ∙ base, more.1)
 
 pub run-returns-in-Err-clause-ended : goal.run-returns-in-Err-clause-ended
 run-returns-in-Err-clause-ended g t c =
@@ -289,11 +284,9 @@ run-returns-in-Err-clause-names g t c =
 
 pub run-returns-in-Err-clause-no_fewer : goal.run-returns-in-Err-clause-no_fewer
 run-returns-in-Err-clause-no_fewer g t c =
-    let a = c.args.self.now in (
-      above_base c.args.heard a.captures a.world c.base-base.result c.steps.self.world c.step.new.self.world
-          c.base-base.ensures c.steps.invariant.above c.in-Err.ensures.performs.depths,
-      ground_then c.steps.invariant.ground c.in-Err.ensures.performs.depths.1,
-    )
+    let a = c.args.self.now in
+    above_base c.args.heard a.captures a.world c.base-base.result c.steps.self.world c.step.new.self.world
+    c.base-base.ensures c.steps.invariant.no_fewer c.in-Err.ensures.performs.depths
 
 pub run_nested-returns-in_default-clause-ran : goal.run_nested-returns-in_default-clause-ran
 run_nested-returns-in_default-clause-ran g t c =

@@ -2,8 +2,8 @@ use Rattle.std.proofs.Common.{◌≡◌, ◌+◌, ◌-◌, ◌*◌, ◌≤◌, l
 use Rattle.tm_meaning.specs.World.{depth}
 use Rattle.tm_meaning.specs.Inheritance.{names_left}
 use Rattle.tm_meaning.specs.Machine.{base_of}
-use Rattle.tm_state.specs.Answers.{KeepsFixed, KeepsGround}
-use Rattle.tm_vm.specs.Answers.{parents_left, weight, program}
+use Rattle.tm_state.specs.Answers.{KeepsFixed}
+use Rattle.tm_vm.specs.Answers.{NoFewer, parents_left, weight, program}
 use Rattle.tm_vm.proofs.Loop.{RunsUpTo}
 use Rattle.tm_vm.proofs.machine.Machine.+machine.Given as goal
 
@@ -18,8 +18,7 @@ invariant-run-streams g l = record {
   failures : g.W.Sink.failures l.writer ≡ g.W.Sink.failures l.initial.writer;
   kept : KeepsFixed l.initial.self.world l.self.world;
   names : names_left (g.H.Host.meaning l.host) l.self.world ≤ names_left (g.H.Host.meaning l.host) l.initial.self.world;
-  above : length l.initial.self.world.scopes.frames ≤ length l.self.world.scopes.frames;
-  ground : KeepsGround l.initial.self.world l.self.world;
+  no_fewer : NoFewer l.initial.self.world l.self.world;
   stands : RunsUpTo (program (g.H.Host.meaning l.host) (g.H.Host.code l.host))
       (base_of l.heard l.initial.self.captures l.initial.self.world) l.initial.self (g.W.Sink.written l.initial.writer)
       (g.W.Sink.written l.writer) l.self;
@@ -33,8 +32,7 @@ invariant-run-steps g l = record {
   failures : g.W.Sink.failures l.writer ≡ g.W.Sink.failures l.fn.writer;
   kept : KeepsFixed l.fn.self.world l.self.world;
   names : names_left (g.H.Host.meaning l.host) l.self.world ≤ names_left (g.H.Host.meaning l.host) l.fn.self.world;
-  above : length l.fn.self.world.scopes.frames ≤ length l.self.world.scopes.frames;
-  ground : KeepsGround l.fn.self.world l.self.world;
+  no_fewer : NoFewer l.fn.self.world l.self.world;
   same_stream : l.self.run.stream ≡ l.initial.self.run.stream;
   parents : parents_left (g.H.Host.meaning l.host) l.self ≤ parents_left (g.H.Host.meaning l.host) l.initial.self;
   stands : RunsUpTo (program (g.H.Host.meaning l.host) (g.H.Host.code l.host))

@@ -1,0 +1,168 @@
+-- The scopes that a run leaves as they were.
+use Rattle.std.proofs.Common.{◌≡◌, ◌≤◌, ◌<◌, ◌+◌, ◌-◌, ℕ, zero, suc, List, [], ◌∷◌, length, drop, refl, sym, ap, ◌∙◌, subst, arith}
+use Rattle.std.proofs.lemmas.List.{length-drop}
+use Rattle.std.proofs.Math.Seq.{drop-nil}
+use Rattle.tm_values.specs.Val.{Val}
+use Rattle.tm_syntax.specs.declared.instruction.LoopFlags.{LoopFlags}
+use Rattle.tm_meaning.specs.World.{Named, Scope, Scopes, World, loop_scope, pop, without_first}
+use Rattle.tm_meaning.specs.Calls.{outermost}
+use Rattle.tm_meaning.specs.declared.base.Base.{Base}
+use Rattle.tm_state.specs.Answers.{StaysInPlace}
+use Rattle.tm_state.specs.State.{with_open_loop}
+use Rattle.tm_vm.specs.Answers.{KeepsBaseScopes, KeepsGround, NoFewer, SameGround, SameStanding}
+
+-- ---------------------------------------------------------------- outermost scopes
+drop_drop : (i j : ℕ) (frames : List Scope) → drop i (drop j frames) ≡ drop (j + i) frames
+drop_drop i zero frames =
+    let none : i ≡ 0 + i = omega arith in
+    ap (λ k. drop k frames) none
+drop_drop i (suc j) [] = drop-nil i ∙ sym (drop-nil (suc j + i))
+drop_drop i (suc j) (s ∷ ss) =
+    let next : suc (j + i) ≡ suc j + i = omega arith in
+    drop_drop i j ss ∙ ap (λ k. drop k (s ∷ ss)) next
+
+outermost_twice : (n m : ℕ) (frames : List Scope) → n ≤ m → m ≤ length frames → outermost n (outermost m frames) ≡ outermost n frames
+outermost_twice n m frames below within =
+    let long = length-drop (length frames - m) frames in
+    drop_drop (length (outermost m frames) - n) (length frames - m) frames
+    ∙ ap (λ k. drop k frames) (omega (arith, long, below, within))
+
+pub outermost_long : (n : ℕ) (frames : List Scope) → n ≤ length frames → length (outermost n frames) ≡ n
+outermost_long n frames h = omega (arith, length-drop (length frames - n) frames, h)
+
+-- below one scope more
+pub outermost_under : (n : ℕ) (s : Scope) (frames : List Scope) → n ≤ length frames → outermost n (s ∷ frames) ≡ outermost n frames
+outermost_under n s frames within =
+    let less : length (s ∷ frames) - n ≡ suc (length frames - n) = omega (arith, within) in
+    ap (λ k. drop k (s ∷ frames)) less
+
+all_of_them : (frames : List Scope) → outermost (length frames) frames ≡ frames
+all_of_them frames =
+    let none : length frames - length frames ≡ 0 = omega arith in
+    ap (λ k. drop k frames) none
+
+-- the very ones from before, below one scope more
+pub under_one : (s : Scope) (frames : List Scope) → outermost (length frames) (s ∷ frames) ≡ frames
+under_one s frames = outermost_under (length frames) s frames (omega arith) ∙ all_of_them frames
+
+-- all but the innermost one
+pub below_first : (frames : List Scope) → 1 ≤ length frames → outermost (length frames - 1) frames ≡ without_first frames
+below_first [] h = absurd (omega (arith, h))
+below_first (s ∷ ss) h =
+    let less : length (s ∷ ss) - 1 ≡ length ss = omega arith in
+    ap (λ k. outermost k (s ∷ ss)) less ∙ under_one s ss
+
+-- whatever the innermost one has become
+pub below_changed : (s t : Scope) (frames : List Scope) →
+    outermost (length (s ∷ frames) - 1) (t ∷ frames) ≡ outermost (length (s ∷ frames) - 1) (s ∷ frames)
+below_changed s t frames =
+    let less : length (s ∷ frames) - 1 ≡ length frames = omega arith in
+    ap (λ k. outermost k (t ∷ frames)) less ∙ under_one t frames ∙ sym (under_one s frames) ∙ ap (λ k. outermost k (s ∷ frames)) (sym less)
+
+-- ---------------------------------------------------------------- the ground
+pub ground_same : (n : ℕ) (w : World) → KeepsGround n w w
+ground_same n w = record { same_below = refl; same_outer = refl; same_places = refl }
+
+pub ground_then : {n : ℕ} {a b c : Scopes} {p q r : Named ℕ} → SameGround n a b p q → SameGround n b c q r → SameGround n a c p r
+ground_then h k = record {
+  same_below = k.same_below ∙ h.same_below;
+  same_outer = k.same_outer ∙ h.same_outer;
+  same_places = k.same_places ∙ h.same_places;
+}
+
+-- what is kept below more scopes is kept below fewer
+ground_below : (n m : ℕ) (old new : World) → n ≤ m → m ≤ length old.scopes.frames → m ≤ length new.scopes.frames →
+    KeepsGround m old new → KeepsGround n old new
+ground_below n m old new fewer there here h = record {
+  same_below = sym (outermost_twice (n - 1) (m - 1) new.scopes.frames (omega (arith, fewer)) (omega (arith, here)))
+      ∙ ap (outermost (n - 1)) h.same_below
+      ∙ outermost_twice (n - 1) (m - 1) old.scopes.frames (omega (arith, fewer)) (omega (arith, there));
+  same_outer = h.same_outer;
+  same_places = h.same_places;
+}
+
+-- ---------------------------------------------------------------- scopes that stay
+-- the very scopes, where they stood
+pub standing : (old new : World) → new.scopes ≡ old.scopes → new.places ≡ old.places → SameStanding old new
+standing old new scopes places = (
+  ap (λ (s : Scopes). length s.frames) scopes,
+  record {
+    same_below = ap (λ (s : Scopes). outermost (length old.scopes.frames - 1) s.frames) scopes;
+    same_outer = ap (λ (s : Scopes). s.outer) scopes;
+    same_places = places;
+  },
+)
+
+pub standing_same : (w : World) → SameStanding w w
+standing_same w = standing w w refl refl
+
+pub same_as_no_fewer : (old new : World) → SameStanding old new → NoFewer old new
+same_as_no_fewer old new same = let long = same.0 in (omega (arith, long), same.1)
+
+pub no_fewer_same : (w : World) → NoFewer w w
+no_fewer_same w = same_as_no_fewer w w (standing_same w)
+
+pub no_fewer_in_place : (old new : World) → StaysInPlace old new → NoFewer old new
+no_fewer_in_place old new stays = same_as_no_fewer old new (standing old new stays.0 stays.4)
+
+pub no_fewer_then : (a b c : World) → NoFewer a b → NoFewer b c → NoFewer a c
+no_fewer_then a b c h k =
+    let more = h.0 in
+    let most = k.0 in (
+      omega (arith, more, most),
+      ground_then h.1 (ground_below (length a.scopes.frames) (length b.scopes.frames) b c more (omega arith) most k.1),
+    )
+
+pub over_same : (a b c : World) → NoFewer a b → SameStanding b c → NoFewer a c
+over_same a b c h same = no_fewer_then a b c h (same_as_no_fewer b c same)
+
+pub stays_over : (f : Base) (old new : World) → NoFewer old new → KeepsBaseScopes f old new
+stays_over f old new more = λ h.
+    let long = more.0 in (
+      omega (arith, h, long),
+      ground_below f.scopes (length old.scopes.frames) old new h (omega arith) long more.1,
+    )
+
+pub stays : (f : Base) (old new : World) → SameStanding old new → KeepsBaseScopes f old new
+stays f old new same = stays_over f old new (same_as_no_fewer old new same)
+
+-- ---------------------------------------------------------------- scopes that are opened and left
+-- one scope more
+pub no_fewer_pushed : (s : Scope) (old new : World) → new.scopes ≡ record { frames = s ∷ old.scopes.frames; outer = old.scopes.outer } →
+    new.places ≡ old.places → NoFewer old new
+no_fewer_pushed s old new scopes places =
+    let long : length new.scopes.frames ≡ length (s ∷ old.scopes.frames) = ap (λ (x : Scopes). length x.frames) scopes in (
+      omega (arith, long),
+      record {
+        same_below = ap (λ (x : Scopes). outermost (length old.scopes.frames - 1) x.frames) scopes
+            ∙ outermost_under (length old.scopes.frames - 1) s old.scopes.frames (omega arith);
+        same_outer = ap (λ (x : Scopes). x.outer) scopes;
+        same_places = places;
+      },
+    )
+
+-- a loop more, in a scope of its own
+pub no_fewer_opened : (items : List Val) (flags : LoopFlags) (number : ℕ) (old new : World) → new ≡ with_open_loop items flags number old →
+    NoFewer old new
+no_fewer_opened items flags number old new is =
+    subst (λ w. NoFewer old w) (sym is)
+    (no_fewer_pushed (loop_scope (record { number = length old.loops; variable = flags.variable })) old
+    (with_open_loop items flags number old) refl refl)
+
+-- one scope of those that a run opened is left
+left_one : (n : ℕ) (frames : List Scope) → n < length frames →
+    (n ≤ length (without_first frames)) × (outermost (n - 1) (without_first frames) ≡ outermost (n - 1) frames)
+left_one n [] h = absurd (omega (arith, h))
+left_one n (s ∷ ss) h = (omega (arith, h), sym (outermost_under (n - 1) s ss (omega (arith, h))))
+
+pub stays_popped : (f : Base) (old new : World) → f.scopes < length old.scopes.frames → new ≡ pop old → KeepsBaseScopes f old new
+stays_popped f old new opened is = λ h.
+    let one = left_one f.scopes old.scopes.frames opened in
+    subst (λ (w : World). (f.scopes ≤ length w.scopes.frames) × KeepsGround f.scopes old w) (sym is)
+    (one.0, record { same_below = one.1; same_outer = refl; same_places = refl })
+
+pub base_then : (f : Base) (a b c : World) → KeepsBaseScopes f a b → SameStanding b c → KeepsBaseScopes f a c
+base_then f a b c h same = λ above.
+    let first = h above in
+    let then = stays f b c same first.0 in
+    (then.0, ground_then first.1 then.1)
