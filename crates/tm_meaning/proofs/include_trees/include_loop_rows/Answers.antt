@@ -1,0 +1,7 @@
+use Rattle.std.proofs.Common.{refl}
+use Rattle.std.specs.Fmt.{digits}
+use Rattle.tm_meaning.proofs.include_trees.include_loop_rows.Goals as goal
+
+pub returns-clause-same : goal.returns-clause-same
+unfolding digits
+returns-clause-same c = (refl, refl)
