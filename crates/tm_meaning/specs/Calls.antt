@@ -25,7 +25,8 @@ use Rattle.tm_meaning.specs.declared.run_text.RunText.{RunText}
 use Rattle.tm_meaning.specs.declared.run_text.RunText.TheVariants as texts
 use Rattle.tm_meaning.specs.Memory.{kind_of_wrapping}
 use Rattle.tm_meaning.specs.declared.function.GlobalFunction.TheVariants as own
-use Rattle.tm_meaning.specs.World.{TemplateId, entry, StreamId, root_of, block_of, template_at, Named, Bindings, find, put, put_each, same_name, Card}
+use Rattle.tm_meaning.specs.World.{TemplateId, entry, StreamId, root_of, block_of, template_at, Named, Bindings, find, put, put_each}
+use Rattle.tm_meaning.specs.World.{same_name, Card}
 use Rattle.tm_meaning.specs.World.{choose, HostValue, Scope, Scopes, Loop, World, Object, Fallback, Function, callers, languages, Res, Good}
 use Rattle.tm_meaning.specs.World.{Bad, bind, bad, answered, same_stream, depth, items_over, innermost, records_of, make_namespace, need, check, card_at, view_of, lookup}
 use Rattle.tm_meaning.specs.World.{context_member, place_of, plain_scope, push, captured_text, owning, own_closure}
@@ -79,7 +80,8 @@ cut_to n outer w = record w { scopes = record { frames = outermost n w.scopes.fr
 abbrev pub block_undone : World → World → World
 block_undone b w = record (cut_to (length b.scopes.frames) b.scopes.outer w) { stream = b.stream; block = b.block; escape = b.escape }
 
--- with these scopes, the stream, the block, the escape, the lists of blocks, their places and the loaded names of a world before, in one behind
+-- these scopes, and of a world before the stream, the block, the escape, the lists of blocks, their places and the loaded names, in one
+-- behind
 abbrev pub run_undone : World → Scopes → World → World
 run_undone b scopes w = record w {
   scopes = scopes;
@@ -99,9 +101,9 @@ scopes_behind before scopes = record {
 }
 
 -- However the run ended, only the scopes stay that stood before it, and stream, block, escape and outer depth are those before it; behind a
--- `super()` so are the places in lists of blocks; behind a macro, which has scopes of its own, and behind an include so are these lists too,
--- their places and the loaded names. An include gives names to the innermost scope, whose closure is put back. Records, kept values and fuel
--- go on.
+-- `super()` so are the places in lists of blocks; behind a macro, which has scopes of its own, and behind an include so are these lists
+-- too, their places and the loaded names. Names that an include gave to the innermost scope stay, whose closure is put back. Records, kept
+-- values and fuel go on.
 abbrev pub undone : Undo → World → World
 undone (of_block b) w = block_undone b w
 undone (of_super b) w = record (block_undone b w) { places = b.places }

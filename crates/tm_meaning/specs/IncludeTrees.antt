@@ -10,8 +10,8 @@ use Rattle.tm_syntax.specs.declared.tree.Application.TheVariants as applications
 use Rattle.tm_syntax.specs.declared.tree.Expr.{Expr, List', Map', end_of-Argument as no_argument, more_of-Argument as argument}
 use Rattle.tm_syntax.specs.declared.tree.Expr.{end_of-Expr as no_expr, end_of-Keyword as no_keyword, end_of-Pair as no_pair}
 use Rattle.tm_syntax.specs.declared.tree.Expr.{end_of-Step as no_step, more_of-Expr as expr, more_of-Step as step}
-use Rattle.tm_syntax.specs.declared.tree.Step.{Step, Attribute, Apply'}
-use Rattle.tm_syntax.specs.declared.tree.AssignmentTarget.{AssignmentTarget, Name as To, Attribute as Member}
+use Rattle.tm_syntax.specs.declared.tree.Step.{Attribute, Apply'}
+use Rattle.tm_syntax.specs.declared.tree.AssignmentTarget.{Name as To, Attribute as Member}
 use Rattle.tm_syntax.specs.declared.tree.Imported.{Imported}
 use Rattle.tm_syntax.specs.declared.tree.Stmt.{Stmt, EmitExpr, EmitBlock, EmitLoop, EmitSuper, AutoEscape', For', With'}
 use Rattle.tm_syntax.specs.declared.tree.Stmt.{Include, Import, FromImport, end_of-Stmt as no_statement, more_of-Stmt as statement}
@@ -21,7 +21,7 @@ use Rattle.tm_meaning.specs.Tree.{Body, TemplateTree, body_of}
 use Rattle.tm_meaning.specs.World.{Named, World, entry}
 use Rattle.tm_meaning.specs.Meaning.{first_world}
 use Rattle.tm_meaning.specs.Rows.{Page, host_of, meant_from, ended_from, said, said_by, raw, named, one, two, literal, literal_number}
-use Rattle.tm_meaning.specs.Rows.{literal_truth, and_one, else_one, if_one, nothing, with_value, x}
+use Rattle.tm_meaning.specs.Rows.{literal_truth, and_one, else_one, if_one, with_value, x}
 use Rattle.tm_meaning.specs.LoopRows.{numbers, alone_in_list, for_x}
 use Rattle.tm_meaning.specs.CallRows.{call_none, with_languages}
 use Rattle.tm_meaning.specs.MacroTrees.{called, macro_one, macro_three, parameter, sets, three, four, with_one, writes}
@@ -92,7 +92,8 @@ files =
     ∷ template (codes "base") (two (raw (codes "B")) (block_one a (raw (codes "x"))))
     ∷ template (codes "child") (two (extends (codes "base")) (block_one a (raw (codes "c"))))
     ∷ template (codes "e") (body_of no_statement)
-    ∷ template (codes "f") (four (macro_three (codes "f") (parameter (codes "x") ∷ []) (raw (codes "<")) (writes (codes "x")) (raw (codes ">")))
+    ∷ template (codes "f")
+    (four (macro_three (codes "f") (parameter (codes "x") ∷ []) (raw (codes "<")) (writes (codes "x")) (raw (codes ">")))
     (sets (codes "_p") (literal_number 1)) (sets_q 2) (raw (codes "text")))
     ∷ template (codes "i") (two (raw (codes "ab")) (EmitExpr (literal_number 1)))
     ∷ template (codes "i2") (one (sets_q 7))
@@ -189,7 +190,9 @@ bad_includes (suc n) chain = BadInclude ∷ bad_includes n chain
 -- b2 is B{% include "k" %}, k is {% extends "b2" %}: {% extends "b2" %}
 abbrev pub extends_what_includes : Page
 extends_what_includes =
-    among (template (codes "b2") (two (raw (codes "B")) (includes_template (codes "k"))) ∷ template (codes "k") (one (extends (codes "b2"))) ∷ [])
+    among
+    (template (codes "b2") (two (raw (codes "B")) (includes_template (codes "k")))
+    ∷ template (codes "k") (one (extends (codes "b2"))) ∷ [])
     (one (extends (codes "b2")))
 
 -- s is {{ super() }}: {% block a %}{% include "s" %}{% endblock %}
@@ -200,8 +203,8 @@ super_of_another = beside (codes "s") (one EmitSuper) (one (block_one a (include
 abbrev pub loop_of_another : Page
 loop_of_another =
     beside (codes "l") (one (EmitLoop no_choices))
-    (one (For' (To (codes "x")) (alone_in_list (literal_number 1)) None true (tt ∷ []) (statement (includes_template (codes "l")) no_statement)
-    no_else))
+    (one (For' (To (codes "x")) (alone_in_list (literal_number 1)) None true (tt ∷ [])
+    (statement (includes_template (codes "l")) no_statement) no_else))
 
 -- {% set q = 1 %}{% macro m() %}{{ q }}{% endmacro %}{% include "i2" %}{{ m() }}, and {% set q = 3 %}{{ m() }} before its end
 abbrev pub closure_apart : Page
@@ -251,7 +254,8 @@ importing name = with_files (two (imports_as_m (literal name)) (EmitExpr m))
 abbrev pub module_members : Page
 module_members =
     with_files (four (imports_as_m (literal (codes "f")))
-    (EmitExpr (and_one m (Apply' applications.Method (codes "f") (tt ∷ []) (argument (plain (literal_number 5)) no_argument) [] no_keyword)))
+    (EmitExpr (and_one m
+    (Apply' applications.Method (codes "f") (tt ∷ []) (argument (plain (literal_number 5)) no_argument) [] no_keyword)))
     (member_of_m (codes "q")) (member_of_m (codes "_p")))
 
 -- c.json: {% import "f" as m %}{{ m }}
@@ -312,7 +316,8 @@ imported_twice =
 -- {% from "f" import q as a, _p as a %}{{ a }}
 abbrev pub imported_over : Page
 imported_over =
-    with_files (two (imports_from (codes "f") (name_for (codes "q") (codes "a") ∷ name_for (codes "_p") (codes "a") ∷ [])) (writes (codes "a")))
+    with_files (two (imports_from (codes "f") (name_for (codes "q") (codes "a") ∷ name_for (codes "_p") (codes "a") ∷ []))
+    (writes (codes "a")))
 
 -- d is {% set q = 1 %}{% block a %}{{ x.y }}{% endblock %}: {% from "d" import q %}[{{ q }}], and {% import "d" as m %}
 abbrev pub beside_d : Body → Page

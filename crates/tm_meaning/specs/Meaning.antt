@@ -124,10 +124,14 @@ value_behind e c o = Good (run_value c.text o.text (undone c.undo o.world)) (und
 abbrev pub capturing : Bool → Run → Run
 capturing heard run = record run { heard = heard; inside = true }
 
--- the text of a loop that was called, as a value
+-- what was heard, where no fault was
+abbrev pub heard_behind : Ending → Outcome → Res (List ℕ)
+heard_behind (fault chain) o = Bad chain o.world
+heard_behind e o = Good o.text o.world
+
+-- and as a value, as of a loop that was called
 abbrev pub text_behind : Ending → Outcome → Res Val
-text_behind (fault chain) o = Bad chain o.world
-text_behind e o = Good (captured_text o.text o.world) o.world
+text_behind e o = bind (heard_behind e o) (λ t w. Good (captured_text t w) w)
 
 abbrev pub value_of : Under → Run → Asked → Res Val
 value_of u run (has v w) = Good v w
@@ -301,11 +305,6 @@ abbrev pub include : Under → Run → Expr → Bool → List ℕ → World → 
 include u run e missing out w =
     use_it (eval u run e w) run out (λ v world1.
     use_it (tick world1) run out (λ _ world2. in_place_of u run out (enter_include u.host v missing world2)))
-
--- what was heard, where no fault was
-abbrev pub heard_behind : Ending → Outcome → Res (List ℕ)
-heard_behind (fault chain) o = Bad chain o.world
-heard_behind e o = Good o.text o.world
 
 -- One that is there runs in a scope of its own, which stays open, and inside a capture: what is heard of it.
 abbrev pub included : Under → Run → Expr → World → Res (List ℕ)

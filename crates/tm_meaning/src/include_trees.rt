@@ -1,22 +1,35 @@
-//! Worked renders of pages that include templates and import what they leave: through the meaning, and
-//! through code and machine.
+//! Worked renders of pages that include templates and import what they leave: through the meaning,
+//! and through code and machine.
 ghost use Rattle.std.specs.Prelude.{[], ◌∷◌, ◌++◌, true, false, codes};
 ghost use Rattle.std.specs.Fmt.{decimal};
-ghost use Rattle.tm_values.specs.declared.error.ErrorKind.TheVariants.{BadInclude, BadSerialization, InvalidOperation, OutOfFuel};
-ghost use Rattle.tm_values.specs.declared.error.ErrorKind.TheVariants.{TemplateNotFound, UndefinedError, UnknownFilter};
-ghost use Rattle.tm_meaning.specs.Rows.{Charges, Fails, Restores, Says, Shows, literal, literal_number, x};
+ghost use Rattle.tm_values.specs.declared.error.ErrorKind.TheVariants.{BadInclude};
+ghost use Rattle.tm_values.specs.declared.error.ErrorKind.TheVariants.{BadSerialization};
+ghost use Rattle.tm_values.specs.declared.error.ErrorKind.TheVariants.{InvalidOperation, OutOfFuel};
+ghost use Rattle.tm_values.specs.declared.error.ErrorKind.TheVariants.{TemplateNotFound};
+ghost use Rattle.tm_values.specs.declared.error.ErrorKind.TheVariants.{UndefinedError};
+ghost use Rattle.tm_values.specs.declared.error.ErrorKind.TheVariants.{UnknownFilter};
+ghost use Rattle.tm_meaning.specs.Rows.{Charges, Fails, Restores, Says, Shows, literal};
+ghost use Rattle.tm_meaning.specs.Rows.{literal_number, x};
 ghost use Rattle.tm_meaning.specs.FilterRows.{with_limit};
 ghost use Rattle.tm_meaning.specs.BlockTrees.{EndsIn, FailsAfter, GivesTwice};
-ghost use Rattle.tm_meaning.specs.IncludeTrees.{ChargesOf, bad_includes, beside_itself, block_heard, block_unheard, blocks_apart};
-ghost use Rattle.tm_meaning.specs.IncludeTrees.{child_twice, closure_again, closure_apart, closure_of_module, escaped_around, escapes_apart};
-ghost use Rattle.tm_meaning.specs.IncludeTrees.{extends_what_includes, fault_in_parent, importing, imported_over, imported_twice, in_library, includes_itself};
-ghost use Rattle.tm_meaning.specs.IncludeTrees.{including, including_by, joined_by, joins_fail, loop_of_another, map_of_i, member_of_namespace};
-ghost use Rattle.tm_meaning.specs.IncludeTrees.{member_of_none, module_as_map, module_in_json, module_members, name_imported, names_imported};
-ghost use Rattle.tm_meaning.specs.IncludeTrees.{no_choices, no_or, nothing_imported, second_imported, sees_argument, sees_no_caller, sees_round};
+ghost use Rattle.tm_meaning.specs.IncludeTrees.{ChargesOf, bad_includes, beside_itself};
+ghost use Rattle.tm_meaning.specs.IncludeTrees.{block_heard, block_unheard, blocks_apart};
+ghost use Rattle.tm_meaning.specs.IncludeTrees.{child_twice, closure_again, closure_apart};
+ghost use Rattle.tm_meaning.specs.IncludeTrees.{closure_of_module, escaped_around, escapes_apart};
+ghost use Rattle.tm_meaning.specs.IncludeTrees.{extends_what_includes, fault_in_parent, importing};
+ghost use Rattle.tm_meaning.specs.IncludeTrees.{imported_over, imported_twice, in_library};
+ghost use Rattle.tm_meaning.specs.IncludeTrees.{includes_itself};
+ghost use Rattle.tm_meaning.specs.IncludeTrees.{including, including_by, joined_by, joins_fail};
+ghost use Rattle.tm_meaning.specs.IncludeTrees.{loop_of_another, map_of_i, member_of_namespace};
+ghost use Rattle.tm_meaning.specs.IncludeTrees.{member_of_none, module_as_map, module_in_json};
+ghost use Rattle.tm_meaning.specs.IncludeTrees.{module_members, name_imported, names_imported};
+ghost use Rattle.tm_meaning.specs.IncludeTrees.{no_choices, no_or, nothing_imported};
+ghost use Rattle.tm_meaning.specs.IncludeTrees.{second_imported, sees_argument, sees_no_caller};
+ghost use Rattle.tm_meaning.specs.IncludeTrees.{sees_round};
 ghost use Rattle.tm_meaning.specs.IncludeTrees.{stores_in_scope, stores_within, super_of_another};
 
-/// A template that is included, with too little fuel and depth, and one whose fault it is; the page's
-/// scopes, name and escape are there behind it.
+/// A template that is included, with too little fuel and depth, and one whose fault it is; the
+/// page's scopes, name and escape are there behind it.
 pub fn include_rows()
     ensures text { Charges (including (codes "i")) (codes "ab" ++ decimal 1) 5 }
     ensures four { Says (including (codes "i")) 4 (codes "ab") 0 (BadInclude ∷ OutOfFuel ∷ []) }
@@ -33,14 +46,16 @@ pub fn include_rows()
 
 /// What names a template: a text, the first of several that is there, and what is none.
 pub fn choice_rows()
-    ensures second { Charges (including_by false (no_or (literal (codes "i")))) (codes "ab" ++ decimal 1) 7 }
+    ensures second { Charges (including_by false (no_or (literal (codes "i"))))
+        (codes "ab" ++ decimal 1) 7 }
     ensures map { Charges (including_by false map_of_i) (codes "ab" ++ decimal 1) 7 }
     ensures missing { FailsAfter (including (codes "no")) [] (TemplateNotFound ∷ []) 2 }
     ensures both_missing { FailsAfter (including_by false (no_or (literal (codes "no2")))) []
         (TemplateNotFound ∷ []) 4 }
     ensures ignored { Shows (including_by true (literal (codes "no"))) [] }
     ensures no_choice { Charges (including_by false no_choices) [] 2 }
-    ensures number { FailsAfter (including_by false (literal_number 1)) [] (InvalidOperation ∷ []) 2 }
+    ensures number { FailsAfter (including_by false (literal_number 1)) []
+        (InvalidOperation ∷ []) 2 }
     ensures undefined { FailsAfter (including_by false x) [] (InvalidOperation ∷ []) 2 }
     ensures no_text { FailsAfter (including_by false (no_or (literal_number 1))) []
         (InvalidOperation ∷ []) 4 }
@@ -51,8 +66,8 @@ pub fn choice_rows()
         (InvalidOperation ∷ []) 4 }
 {}
 
-/// An included template runs in the scope of its tag: it sees and gives names there, but for the closure
-/// that was made in it.
+/// An included template runs in the scope of its tag: it sees and gives names there, but for the
+/// closure that was made in it.
 pub fn include_scope_rows()
     ensures store { Charges stores_in_scope (decimal 7) 6 }
     ensures inner { Charges stores_within (decimal 7 ++ codes "[]") 10 }
@@ -70,7 +85,8 @@ pub fn include_run_rows()
     ensures blocks_apart { Charges blocks_apart (codes "mineBcmine") 11 }
     ensures own_escape { Charges escapes_apart (codes "&lt;<") 6 }
     ensures escape_around { Charges escaped_around (codes "<&lt;") 7 }
-    ensures loaded { FailsAfter extends_what_includes (codes "B") (BadInclude ∷ InvalidOperation ∷ []) 5 }
+    ensures loaded { FailsAfter extends_what_includes (codes "B")
+        (BadInclude ∷ InvalidOperation ∷ []) 5 }
     ensures no_super { Fails super_of_another [] (BadInclude ∷ InvalidOperation ∷ []) }
     ensures no_loop { FailsAfter loop_of_another [] (BadInclude ∷ InvalidOperation ∷ []) 8 }
     ensures shown { Shows fault_in_parent (codes "ok") }
@@ -83,7 +99,8 @@ pub fn include_run_rows()
 pub fn include_loop_rows()
     ensures same { ChargesOf beside_itself (codes "t")
         (codes "(" ++ decimal 1 ++ codes ")<(" ++ decimal 5 ++ codes ")>") 41 }
-    ensures other { Fails beside_itself (codes "(" ++ decimal 1 ++ codes ")<") (BadInclude ∷ InvalidOperation ∷ []) }
+    ensures other { Fails beside_itself (codes "(" ++ decimal 1 ++ codes ")<")
+        (BadInclude ∷ InvalidOperation ∷ []) }
 {}
 
 /// What templates export: their names without a leading underscore, and their text.
