@@ -74,7 +74,8 @@ module _ (setting : Setting) where
 
   -- The template that a value names runs in place.
   pub include_runs : (e : Expr) (missing : Bool) (run : Run) (s : Spot) (l : Labels) (pc : ℕ) (stack : List Val) (w : World)
-      (D L N : Then) → Stands context.base run s → Deep setting run s w → In setting s l pc (expr_code e ⨾ straight (i.Include missing ∷ [])) →
+      (D L N : Then) → Stands context.base run s → Deep setting run s w →
+      In setting s l pc (expr_code e ⨾ straight (i.Include missing ∷ [])) →
       Ends context s.bed (include u (as_at run s) e missing s.out w) D L N →
       ((q : Option TemplateId) (out : List ℕ) (world1 : World) → D q out world1 →
       Go context (later s q out) (beyond pc (expr_code e) + 1) stack world1) → Go context s pc stack w
@@ -120,7 +121,8 @@ module _ (setting : Setting) where
       silent context (told s) _
       (include_runs e false run1 inner l (pc + 1 + 1) stack x D T T fits (deep_within setting run1 inner blank w room (d.0, fits, d.2)) is.1
       (ends_map_kept context inner.bed x o T D T T (include_ends u (nest_ends setting) again_kept run2 e false [] x)
-      (heard_then setting heard s g K o.ending o.parent o.text o.world (include_parent u run2 e false [] x) h1) (λ q out world1 k1 t. (k1, t)))
+      (heard_then setting heard s g K o.ending o.parent o.text o.world (include_parent u run2 e false [] x) h1)
+      (λ q out world1 k1 t. (k1, t)))
       (λ q out world1 t.
       subst (λ p. Go context (later inner p out) (beyond (pc + 1) (included_code e)) stack world1) (sym t.1.0)
       (k out world1 t.0 t.1.1)))))))
@@ -128,7 +130,8 @@ module _ (setting : Setting) where
   -- ---------------------------------------------------------------- imports
   -- the scope of a template that was included is left
   left_then : (s : Spot) (pc : ℕ) (stack : List Val) (w0 w : World) → context.base.scopes ≤ length w0.scopes.frames →
-      Kept (within blank w0) w → slice_get (context.program.code s.run.stream) pc ≡ Some i.PopFrame → Go context s (pc + 1) stack (pop w) → Go context s pc stack w
+      Kept (within blank w0) w → slice_get (context.program.code s.run.stream) pc ≡ Some i.PopFrame → Go context s (pc + 1) stack (pop w) →
+      Go context s pc stack w
   left_then s pc stack w0 w stands k e g = popped_then setting s pc stack w (omega (arith, kept_frames k, stands)) (kept_top k) e g
 
   pub import_runs : (e : Expr) (t : AssignmentTarget) (run : Run) (s : Spot) (l : Labels) (pc : ℕ) (stack : List Val) (w : World) →
