@@ -206,6 +206,13 @@ loop_of_another =
     (one (For' (To (codes "x")) (alone_in_list (literal_number 1)) None true (tt ∷ [])
     (statement (includes_template (codes "l")) no_statement) no_else))
 
+-- w is {% with z = 1 %}{{ y.z }}{% endwith %}: {% include "w" %}
+abbrev pub fault_in_scope : Page
+fault_in_scope =
+    beside (codes "w")
+    (one (With' (record { target = To (codes "z"); value = literal_number 1 } ∷ []) (tt ∷ []) (statement fault no_statement)))
+    (one (includes_template (codes "w")))
+
 -- {% set q = 1 %}{% macro m() %}{{ q }}{% endmacro %}{% include "i2" %}{{ m() }}, and {% set q = 3 %}{{ m() }} before its end
 abbrev pub closure_apart : Page
 closure_apart =

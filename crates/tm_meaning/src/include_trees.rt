@@ -1,32 +1,34 @@
 //! Worked renders of pages that include templates and import what they leave: through the meaning,
 //! and through code and machine.
-ghost use Rattle.std.specs.Prelude.{[], ◌∷◌, ◌++◌, true, false, codes};
+ghost use Rattle.std.specs.Prelude.{◌≡◌, [], ◌∷◌, ◌++◌, true, false, codes};
 ghost use Rattle.std.specs.Fmt.{decimal};
 ghost use Rattle.tm_values.specs.declared.error.ErrorKind.TheVariants.{BadInclude};
-ghost use Rattle.tm_values.specs.declared.error.ErrorKind.TheVariants.{BadSerialization};
+ghost use Rattle.tm_values.specs.declared.error.ErrorKind.TheVariants.{BadSerialization, BadStream};
 ghost use Rattle.tm_values.specs.declared.error.ErrorKind.TheVariants.{InvalidOperation, OutOfFuel};
 ghost use Rattle.tm_values.specs.declared.error.ErrorKind.TheVariants.{TemplateNotFound};
 ghost use Rattle.tm_values.specs.declared.error.ErrorKind.TheVariants.{UndefinedError};
 ghost use Rattle.tm_values.specs.declared.error.ErrorKind.TheVariants.{UnknownFilter};
 ghost use Rattle.tm_meaning.specs.Rows.{Charges, Fails, Restores, Says, Shows, literal};
-ghost use Rattle.tm_meaning.specs.Rows.{literal_number, x};
+ghost use Rattle.tm_meaning.specs.Rows.{literal_number, said, x};
 ghost use Rattle.tm_meaning.specs.FilterRows.{with_limit};
+ghost use Rattle.tm_syntax.specs.declared.instruction.Instruction.TheVariants as i;
+ghost use Rattle.tm_meaning.specs.BlockRows.{one_left, run_before};
 ghost use Rattle.tm_meaning.specs.BlockTrees.{EndsIn, FailsAfter, GivesTwice};
 ghost use Rattle.tm_meaning.specs.IncludeTrees.{ChargesOf, bad_includes, beside_itself};
 ghost use Rattle.tm_meaning.specs.IncludeTrees.{block_heard, block_unheard, blocks_apart};
 ghost use Rattle.tm_meaning.specs.IncludeTrees.{child_twice, closure_again, closure_apart};
 ghost use Rattle.tm_meaning.specs.IncludeTrees.{closure_of_module, escaped_around, escapes_apart};
-ghost use Rattle.tm_meaning.specs.IncludeTrees.{extends_what_includes, fault_in_parent, importing};
-ghost use Rattle.tm_meaning.specs.IncludeTrees.{imported_over, imported_twice, in_library};
-ghost use Rattle.tm_meaning.specs.IncludeTrees.{includes_itself};
-ghost use Rattle.tm_meaning.specs.IncludeTrees.{including, including_by, joined_by, joins_fail};
+ghost use Rattle.tm_meaning.specs.IncludeTrees.{extends_what_includes, fault_in_parent};
+ghost use Rattle.tm_meaning.specs.IncludeTrees.{fault_in_scope, imported_over, imported_twice};
+ghost use Rattle.tm_meaning.specs.IncludeTrees.{importing, in_library, includes_itself, including};
+ghost use Rattle.tm_meaning.specs.IncludeTrees.{including_by, joined_by, joins_fail};
 ghost use Rattle.tm_meaning.specs.IncludeTrees.{loop_of_another, map_of_i, member_of_namespace};
 ghost use Rattle.tm_meaning.specs.IncludeTrees.{member_of_none, module_as_map, module_in_json};
 ghost use Rattle.tm_meaning.specs.IncludeTrees.{module_members, name_imported, names_imported};
 ghost use Rattle.tm_meaning.specs.IncludeTrees.{no_choices, no_or, nothing_imported};
 ghost use Rattle.tm_meaning.specs.IncludeTrees.{second_imported, sees_argument, sees_no_caller};
-ghost use Rattle.tm_meaning.specs.IncludeTrees.{sees_round};
-ghost use Rattle.tm_meaning.specs.IncludeTrees.{stores_in_scope, stores_within, super_of_another};
+ghost use Rattle.tm_meaning.specs.IncludeTrees.{sees_round, stores_in_scope, stores_within};
+ghost use Rattle.tm_meaning.specs.IncludeTrees.{super_of_another};
 
 /// A template that is included, with too little fuel and depth, and one whose fault it is; the
 /// page's scopes, name and escape are there behind it.
@@ -40,6 +42,7 @@ pub fn include_rows()
     ensures not_ignored { FailsAfter (including_by true (literal (codes "bad"))) (codes "a")
         (BadInclude ∷ UndefinedError ∷ []) 5 }
     ensures restores { Restores (including (codes "bad")) }
+    ensures scopes { Restores fault_in_scope }
     ensures name { EndsIn (including (codes "bad")) (codes "page") }
     ensures itself { FailsAfter includes_itself [] (bad_includes 49 (InvalidOperation ∷ [])) 100 }
 {}
@@ -130,6 +133,13 @@ pub fn from_import_rows()
     ensures last_first { Shows imported_over (decimal 2) }
     ensures block { Charges block_unheard (codes "[" ++ decimal 1 ++ codes "]") 12 }
     ensures parent { Charges (name_imported (codes "child") (codes "a")) (codes "[]") 13 }
+{}
+
+/// Instructions without the operand that they take: any name, and a text.
+pub fn include_operand_rows()
+    ensures name { run_before (i.Include false ∷ []) [] ≡ said [] 999 (BadStream ∷ []) }
+    ensures nothing { run_before (i.ExportLocals ∷ []) [] ≡ said [] 1000 (BadStream ∷ []) }
+    ensures number { run_before (one_left (i.ExportLocals ∷ [])) [] ≡ said [] 999 (BadStream ∷ []) }
 {}
 
 /// The name of a template is joined to that of the one that runs.

@@ -37,8 +37,8 @@ pub use guards::{
     view_guards,
 };
 pub use include_trees::{
-    choice_rows, from_import_rows, import_rows, include_loop_rows, include_rows, include_run_rows,
-    include_scope_rows, join_rows,
+    choice_rows, from_import_rows, import_rows, include_loop_rows, include_operand_rows,
+    include_rows, include_run_rows, include_scope_rows, join_rows,
 };
 pub use macro_trees::{call_tag_rows, enclosed_rows, macro_value_rows, parameter_rows};
 pub use macros::{binding_rows, closure_rows, macro_call_rows, macro_part_rows, macro_rows};
