@@ -69,6 +69,15 @@ impl Walker {
             }
             Stmt::Macro(declared) => self.walk_macro(nested, declared),
             Stmt::CallBlock(call) => self.walk_call_block(nested, call),
+            Stmt::Include(name, _) => self.walk_expr(nested, name.get()),
+            Stmt::Import(name, target) => {
+                self.walk_expr(nested, name.get())?;
+                self.walk_target(nested, target)
+            }
+            Stmt::FromImport(name, imports) => {
+                self.walk_expr(nested, name.get())?;
+                self.walk_imports(imports.as_slice())
+            }
         }
     }
 
