@@ -69,13 +69,13 @@ impl Walker {
             }
             Stmt::Macro(declared) => self.walk_macro(nested, declared),
             Stmt::CallBlock(call) => self.walk_call_block(nested, call),
-            Stmt::Include(name, _) => self.walk_expr(nested, name.get()),
-            Stmt::Import(name, target) => {
-                self.walk_expr(nested, name.get())?;
+            Stmt::Include(template, _) => self.walk_expr(nested, template.get()),
+            Stmt::Import(template, target) => {
+                self.walk_expr(nested, template.get())?;
                 self.walk_target(nested, target)
             }
-            Stmt::FromImport(name, imports) => {
-                self.walk_expr(nested, name.get())?;
+            Stmt::FromImport(template, imports) => {
+                self.walk_expr(nested, template.get())?;
                 self.walk_imports(imports.as_slice())
             }
         }
