@@ -170,18 +170,23 @@ impl Loaded {
         Ok(())
     }
 
+    /// The same names, and no lists. Fails by OutOfMemory alone.
+    pub(crate) fn names_alone(&self, alloc: Global) -> Result<Loaded, Error>
+        ensures { OkOrOutOfMemory result (λ copy. copy ≡ record self.now { blocks = [] }) }
+    {
+        let mut loaded = Loaded::new(alloc);
+        for name in self.names.iter() {
+            loaded.add(name.share()?)?;
+        }
+        Ok(loaded)
+    }
+
     /// The same lists and names. Fails by OutOfMemory alone.
     pub(crate) fn copy(&self, alloc: Global) -> Result<Loaded, Error>
         ensures { OkOrOutOfMemory result (λ copy. copy ≡ self.now) }
     {
-        let mut loaded = Loaded {
-            layers: copy_layers(alloc, &self.layers)?,
-            names: Vec::new(alloc),
-            known: NameTable::new(alloc),
-        };
-        for name in self.names.iter() {
-            loaded.add(name.share()?)?;
-        }
+        let mut loaded = self.names_alone(alloc)?;
+        loaded.layers = copy_layers(alloc, &self.layers)?;
         Ok(loaded)
     }
 }
