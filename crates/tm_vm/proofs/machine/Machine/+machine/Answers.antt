@@ -75,7 +75,7 @@ run-run_nested-requires g t c κs within =
     let more = stands.1 in
     let fits = deep.2 in
     let above = c.steps.invariant.no_fewer.0 in
-    let outer = c.steps.invariant.no_fewer.1.same_outer in
+    let outer = c.steps.invariant.no_fewer.1.1 in
     (omega (arith, c.decreases, more, fits, above, outer), (within.0, (within.1, stands.0)))
 
 pub run-returns-in-Err-run_nested-clause-ended : goal.run-returns-in-Err-run_nested-clause-ended
@@ -329,7 +329,7 @@ run_nested-returns-then-value-clause-back g t c =
     let e = c.args.entry in
     let same = c.push_captured.ensures.same_world ∙ ap (λ (x : Config). x.world) c.put_back-2.ensures
     ∙ ap (λ (x : Config). put_back e.saved x.world) c.resume.ensures in
-    was_back e.saved c.args.self.now.world c.begin.new.self.world c.run-result.new.self.world c.put_back-2.new.self.world
+    was_back e.saved c.args.self.now.world c.begin.new.self.world c.run-result.new.self.world c.push_captured.new.self.world
     c.in-Some.ensures.3 c.requires c.in_default-result.ensures.no_fewer same
 
 pub run_nested-returns-clause-ran : goal.run_nested-returns-clause-ran
@@ -348,3 +348,10 @@ run_nested-returns-clause-back g t c =
     let same = ap (λ (x : Config). x.world) c.put_back-2.ensures ∙ ap (λ (x : Config). put_back e.saved x.world) c.resume.ensures in
     was_back e.saved c.args.self.now.world c.begin.new.self.world c.run-result.new.self.world c.put_back-2.new.self.world
     c.in-Some.ensures.3 c.requires c.in_default-result.ensures.no_fewer same
+
+pub run_nested-returns-in_default-clause-back : goal.run_nested-returns-in_default-clause-back
+run_nested-returns-in_default-clause-back g t c =
+    let e = c.args.entry in
+    let old = c.args.self.now.world in
+    let same = ap (λ (x : Config). x.world) c.put_back.ensures ∙ ap (λ (x : Config). put_back e.saved x.world) c.in_default.ensures.1 in
+    was_back e.saved old old old c.put_back.new.self.world refl c.requires (no_fewer_same old) same
