@@ -11,7 +11,7 @@ use Rattle.tm_parts.specs.declared.halt.Halt.TheVariants as halt
 use Rattle.tm_state.specs.declared.nested.NestedRun.{NestedRun}
 use Rattle.tm_vm.specs.Nested.{IsWrapped}
 use Rattle.tm_vm.proofs.Ground.{no_fewer_same, over_same}
-use Rattle.tm_vm.proofs.Loop.{as_value, ended_at, first_of, in_place, refused_ends, stands_deeper, was_back, wrapped_ends}
+use Rattle.tm_vm.proofs.Loop.{as_value, began, ended_at, first_of, in_place, refused_ends, stands_deeper, was_back, wrapped_ends}
 use Rattle.tm_vm.proofs.Loop.{ended_in, done_at, whole_at, scopes_behind, was_there, above_base, unboxed, deeper}
 use Rattle.tm_vm.proofs.Weight.{less_behind, parents_behind}
 use Rattle.tm_vm.proofs.machine.Machine.+machine.Goals as goal
@@ -355,3 +355,11 @@ run_nested-returns-in_default-clause-back g t c =
     let old = c.args.self.now.world in
     let same = ap (λ (x : Config). x.world) c.put_back.ensures ∙ ap (λ (x : Config). put_back e.saved x.world) c.in_default.ensures.1 in
     was_back e.saved old old old c.put_back.new.self.world refl c.requires (no_fewer_same old) same
+
+pub run_nested-returns-in-Err-clause-beginning : goal.run_nested-returns-in-Err-clause-beginning
+run_nested-returns-in-Err-clause-beginning g t c =
+    let p = program (g.H.Host.meaning c.args.host.now) (g.H.Host.code c.args.host.now) in
+    let now = g.W.Sink.written c.args.writer.now in
+    let new = g.W.Sink.written c.run-result.new.writer in
+    began p c.args.entry c.in-Some.waiting c.args.self.now c.begin.new.self c.run-result.new.self now new c.in-Some.ensures
+    c.in-Err.ensures.beginning
