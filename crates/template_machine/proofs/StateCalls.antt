@@ -236,7 +236,7 @@ block_stands s before w left is more places no_fewer = (
   ap (λ (s : SavedBlock). s.stream) is,
   ap (λ (s : SavedBlock). s.block) is,
   ap (λ (s : SavedBlock). s.escape) is,
-  no_fewer.1.same_places ∙ places,
+  no_fewer.1.2 ∙ places,
 )
 
 pub stands_again : (limit : ℕ) (s : Saved) (before w left : World) → OneDeeper limit s before w → NoFewer w left →

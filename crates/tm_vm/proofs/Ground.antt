@@ -4,12 +4,12 @@ use Rattle.std.proofs.lemmas.List.{length-drop}
 use Rattle.std.proofs.Math.Seq.{drop-nil}
 use Rattle.tm_values.specs.Val.{Val}
 use Rattle.tm_syntax.specs.declared.instruction.LoopFlags.{LoopFlags}
-use Rattle.tm_meaning.specs.World.{Named, Scope, Scopes, World, loop_scope, pop, without_first}
+use Rattle.tm_meaning.specs.World.{Scope, Scopes, World, loop_scope, pop, without_first}
 use Rattle.tm_meaning.specs.Calls.{outermost}
 use Rattle.tm_meaning.specs.declared.base.Base.{Base}
 use Rattle.tm_state.specs.Answers.{StaysInPlace}
 use Rattle.tm_state.specs.State.{with_open_loop}
-use Rattle.tm_vm.specs.Answers.{KeepsBaseScopes, KeepsGround, NoFewer, SameGround, SameStanding}
+use Rattle.tm_vm.specs.Answers.{KeepsBaseScopes, KeepsGround, NoFewer, SameStanding}
 
 -- ---------------------------------------------------------------- outermost scopes
 drop_drop : (i j : ℕ) (frames : List Scope) → drop i (drop j frames) ≡ drop (j + i) frames
@@ -61,36 +61,32 @@ below_changed s t frames =
 
 -- ---------------------------------------------------------------- the ground
 pub ground_same : (n : ℕ) (w : World) → KeepsGround n w w
-ground_same n w = record { same_below = refl; same_outer = refl; same_places = refl }
+ground_same n w = (refl, refl, refl)
 
-pub ground_then : {n : ℕ} {a b c : Scopes} {p q r : Named ℕ} → SameGround n a b p q → SameGround n b c q r → SameGround n a c p r
-ground_then h k = record {
-  same_below = k.same_below ∙ h.same_below;
-  same_outer = k.same_outer ∙ h.same_outer;
-  same_places = k.same_places ∙ h.same_places;
-}
+pub ground_then : (n : ℕ) (a b c : World) → KeepsGround n a b → KeepsGround n b c → KeepsGround n a c
+ground_then n a b c h k = (k.0 ∙ h.0, k.1 ∙ h.1, k.2 ∙ h.2)
 
 -- what is kept below more scopes is kept below fewer
 ground_below : (n m : ℕ) (old new : World) → n ≤ m → m ≤ length old.scopes.frames → m ≤ length new.scopes.frames →
     KeepsGround m old new → KeepsGround n old new
-ground_below n m old new fewer there here h = record {
-  same_below = sym (outermost_twice (n - 1) (m - 1) new.scopes.frames (omega (arith, fewer)) (omega (arith, here)))
-      ∙ ap (outermost (n - 1)) h.same_below
-      ∙ outermost_twice (n - 1) (m - 1) old.scopes.frames (omega (arith, fewer)) (omega (arith, there));
-  same_outer = h.same_outer;
-  same_places = h.same_places;
-}
+ground_below n m old new fewer there here h = (
+  sym (outermost_twice (n - 1) (m - 1) new.scopes.frames (omega (arith, fewer)) (omega (arith, here)))
+      ∙ ap (outermost (n - 1)) h.0
+      ∙ outermost_twice (n - 1) (m - 1) old.scopes.frames (omega (arith, fewer)) (omega (arith, there)),
+  h.1,
+  h.2,
+)
 
 -- ---------------------------------------------------------------- scopes that stay
 -- the very scopes, where they stood
 pub standing : (old new : World) → new.scopes ≡ old.scopes → new.places ≡ old.places → SameStanding old new
 standing old new scopes places = (
   ap (λ (s : Scopes). length s.frames) scopes,
-  record {
-    same_below = ap (λ (s : Scopes). outermost (length old.scopes.frames - 1) s.frames) scopes;
-    same_outer = ap (λ (s : Scopes). s.outer) scopes;
-    same_places = places;
-  },
+  (
+    ap (λ (s : Scopes). outermost (length old.scopes.frames - 1) s.frames) scopes,
+    ap (λ (s : Scopes). s.outer) scopes,
+    places,
+  ),
 )
 
 pub standing_same : (w : World) → SameStanding w w
@@ -110,7 +106,8 @@ no_fewer_then a b c h k =
     let more = h.0 in
     let most = k.0 in (
       omega (arith, more, most),
-      ground_then h.1 (ground_below (length a.scopes.frames) (length b.scopes.frames) b c more (omega arith) most k.1),
+      ground_then (length a.scopes.frames) a b c h.1
+          (ground_below (length a.scopes.frames) (length b.scopes.frames) b c more (omega arith) most k.1),
     )
 
 pub over_same : (a b c : World) → NoFewer a b → SameStanding b c → NoFewer a c
@@ -133,12 +130,12 @@ pub no_fewer_pushed : (s : Scope) (old new : World) → new.scopes ≡ record { 
 no_fewer_pushed s old new scopes places =
     let long : length new.scopes.frames ≡ length (s ∷ old.scopes.frames) = ap (λ (x : Scopes). length x.frames) scopes in (
       omega (arith, long),
-      record {
-        same_below = ap (λ (x : Scopes). outermost (length old.scopes.frames - 1) x.frames) scopes
-            ∙ outermost_under (length old.scopes.frames - 1) s old.scopes.frames (omega arith);
-        same_outer = ap (λ (x : Scopes). x.outer) scopes;
-        same_places = places;
-      },
+      (
+        ap (λ (x : Scopes). outermost (length old.scopes.frames - 1) x.frames) scopes
+            ∙ outermost_under (length old.scopes.frames - 1) s old.scopes.frames (omega arith),
+        ap (λ (x : Scopes). x.outer) scopes,
+        places,
+      ),
     )
 
 -- a loop more, in a scope of its own
@@ -159,10 +156,10 @@ pub stays_popped : (f : Base) (old new : World) → f.scopes < length old.scopes
 stays_popped f old new opened is = λ h.
     let one = left_one f.scopes old.scopes.frames opened in
     subst (λ (w : World). (f.scopes ≤ length w.scopes.frames) × KeepsGround f.scopes old w) (sym is)
-    (one.0, record { same_below = one.1; same_outer = refl; same_places = refl })
+    (one.0, (one.1, refl, refl))
 
 pub base_then : (f : Base) (a b c : World) → KeepsBaseScopes f a b → SameStanding b c → KeepsBaseScopes f a c
 base_then f a b c h same = λ above.
     let first = h above in
     let then = stays f b c same first.0 in
-    (then.0, ground_then first.1 then.1)
+    (then.0, ground_then f.scopes a b c first.1 then.1)

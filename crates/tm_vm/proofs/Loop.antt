@@ -336,11 +336,11 @@ pub left_below : (n : ℕ) (begun ran : World) → length begun.scopes.frames �
     outermost n ran.scopes.frames ≡ without_first begun.scopes.frames
 left_below n begun ran stands no_fewer =
     let less : n ≡ length begun.scopes.frames - 1 = omega (arith, stands) in
-    ap (λ k. outermost k ran.scopes.frames) less ∙ no_fewer.1.same_below ∙ below_first begun.scopes.frames (omega (arith, stands))
+    ap (λ k. outermost k ran.scopes.frames) less ∙ no_fewer.1.0 ∙ below_first begun.scopes.frames (omega (arith, stands))
 
 -- the scopes that a run opened are left, and those that were replaced are back
 pub is_back : (s : Saved) (begun ran : World) → StandsOn s begun → NoFewer begun ran → IsBack s begun (put_back s ran)
-is_back (saved.Block s) begun ran stands no_fewer = (left_below s.scopes begun ran stands no_fewer, refl, no_fewer.1.same_places)
+is_back (saved.Block s) begun ran stands no_fewer = (left_below s.scopes begun ran stands no_fewer, refl, no_fewer.1.2)
 is_back (saved.Super s) begun ran stands no_fewer = (left_below s.replaced.scopes begun ran stands no_fewer, refl, refl)
 is_back (saved.Macro s) begun ran stands no_fewer = (refl, refl)
 
@@ -376,7 +376,7 @@ above_base heard ks first f old new e above stays =
     let more = above.0 in
     let then = stays (omega (arith, base, more)) in
     let long = then.0 in
-    (omega (arith, base, long), ground_then above.1 (subst (λ n. KeepsGround n old new) base then.1))
+    (omega (arith, base, long), ground_then (length first.scopes.frames) first old new above.1 (subst (λ n. KeepsGround n old new) base then.1))
 
 -- what a step gives boxed, taken out
 pub unboxed : (p : Program) {n : Next} (b : Box NestedRun) (e : NestedRun) (c : Config) (told now : Option (List ℕ)) → e ≡ b.value →

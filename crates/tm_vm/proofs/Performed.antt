@@ -370,7 +370,7 @@ finished {p = p} {f = f} {old = old} {new = new} (Ok flow.Restart) s =
       counted = refl;
       kept = subst (λ w. KeepsFixed old.world w) (sym world) (record { same_id = refl; same_fuel_set = refl; no_more_fuel = omega arith });
       names = subst (λ w. names_left p.host w ≤ names_left p.host old.world) (sym world) (omega arith);
-      depths = subst (λ w. KeepsBaseScopes f old.world w) (sym world) (λ h. (h, record { same_below = refl; same_outer = refl; same_places = refl }));
+      depths = subst (λ w. KeepsBaseScopes f old.world w) (sym world) (λ h. (h, (refl, refl, refl)));
       same_stream = tt;
     }
 finished (Ok flow.GoOn) s = absurd s

@@ -84,10 +84,8 @@ Did p (Err why) told now c n = HaltsAs why c.world (λ e. n ≡ Over e) × Appen
 
 -- Of so many outermost scopes all below the innermost one are the very ones, where they stood; and the places in lists of blocks are the
 -- same.
-pub record SameGround (n : ℕ) (old new : Scopes) (were are : Named ℕ) : Type 0 where
-  pub same_below : outermost (n - 1) new.frames ≡ outermost (n - 1) old.frames
-  pub same_outer : new.outer ≡ old.outer
-  pub same_places : are ≡ were
+abbrev pub SameGround : ℕ → Scopes → Scopes → Named ℕ → Named ℕ → Type 0
+SameGround n old new were are = (outermost (n - 1) new.frames ≡ outermost (n - 1) old.frames) × (new.outer ≡ old.outer) × (are ≡ were)
 
 abbrev pub KeepsGround : ℕ → World → World → Type 0
 KeepsGround n old new = SameGround n old.scopes new.scopes old.places new.places

@@ -11,7 +11,7 @@ use Rattle.tm_parts.specs.declared.halt.Halt.TheVariants as halt
 use Rattle.tm_state.specs.declared.nested.NestedRun.{NestedRun}
 use Rattle.tm_vm.specs.Nested.{IsWrapped}
 use Rattle.tm_vm.proofs.Ground.{no_fewer_same, over_same}
-use Rattle.tm_vm.proofs.Loop.{as_value, ended_at, first_of, in_place, refused_ends, stands_deeper, was_back, wrapped_ends}
+use Rattle.tm_vm.proofs.Loop.{as_value, began, ended_at, first_of, in_place, refused_ends, stands_deeper, was_back, wrapped_ends}
 use Rattle.tm_vm.proofs.Loop.{ended_in, done_at, whole_at, scopes_behind, was_there, above_base, unboxed, deeper}
 use Rattle.tm_vm.proofs.Weight.{less_behind, parents_behind}
 use Rattle.tm_vm.proofs.machine.Machine.+machine.Goals as goal
@@ -75,7 +75,7 @@ run-run_nested-requires g t c κs within =
     let more = stands.1 in
     let fits = deep.2 in
     let above = c.steps.invariant.no_fewer.0 in
-    let outer = c.steps.invariant.no_fewer.1.same_outer in
+    let outer = c.steps.invariant.no_fewer.1.1 in
     (omega (arith, c.decreases, more, fits, above, outer), (within.0, (within.1, stands.0)))
 
 pub run-returns-in-Err-run_nested-clause-ended : goal.run-returns-in-Err-run_nested-clause-ended
@@ -329,7 +329,7 @@ run_nested-returns-then-value-clause-back g t c =
     let e = c.args.entry in
     let same = c.push_captured.ensures.same_world ∙ ap (λ (x : Config). x.world) c.put_back-2.ensures
     ∙ ap (λ (x : Config). put_back e.saved x.world) c.resume.ensures in
-    was_back e.saved c.args.self.now.world c.begin.new.self.world c.run-result.new.self.world c.put_back-2.new.self.world
+    was_back e.saved c.args.self.now.world c.begin.new.self.world c.run-result.new.self.world c.push_captured.new.self.world
     c.in-Some.ensures.3 c.requires c.in_default-result.ensures.no_fewer same
 
 pub run_nested-returns-clause-ran : goal.run_nested-returns-clause-ran
@@ -348,3 +348,18 @@ run_nested-returns-clause-back g t c =
     let same = ap (λ (x : Config). x.world) c.put_back-2.ensures ∙ ap (λ (x : Config). put_back e.saved x.world) c.resume.ensures in
     was_back e.saved c.args.self.now.world c.begin.new.self.world c.run-result.new.self.world c.put_back-2.new.self.world
     c.in-Some.ensures.3 c.requires c.in_default-result.ensures.no_fewer same
+
+pub run_nested-returns-in_default-clause-back : goal.run_nested-returns-in_default-clause-back
+run_nested-returns-in_default-clause-back g t c =
+    let e = c.args.entry in
+    let old = c.args.self.now.world in
+    let same = ap (λ (x : Config). x.world) c.put_back.ensures ∙ ap (λ (x : Config). put_back e.saved x.world) c.in_default.ensures.1 in
+    was_back e.saved old old old c.put_back.new.self.world refl c.requires (no_fewer_same old) same
+
+pub run_nested-returns-in-Err-clause-beginning : goal.run_nested-returns-in-Err-clause-beginning
+run_nested-returns-in-Err-clause-beginning g t c =
+    let p = program (g.H.Host.meaning c.args.host.now) (g.H.Host.code c.args.host.now) in
+    let now = g.W.Sink.written c.args.writer.now in
+    let new = g.W.Sink.written c.run-result.new.writer in
+    began p c.args.entry c.in-Some.waiting c.args.self.now c.begin.new.self c.run-result.new.self now new c.in-Some.ensures
+    c.in-Err.ensures.beginning
