@@ -2,7 +2,8 @@
 ghost use Rattle.std.specs.Prelude.{◌≡◌, [], MatchResult};
 ghost use Rattle.tm_parser.specs.Parses.{Parses};
 ghost use Rattle.tm_parser.specs.Grammar.{inside, more_items};
-ghost use Rattle.tm_parser.specs.Statements.{given_name, from_tag, import_tag, imported, imports, include_tag, may_be_missing};
+ghost use Rattle.tm_parser.specs.Statements.{from_tag, given_name, import_tag, imported, imports};
+ghost use Rattle.tm_parser.specs.Statements.{include_tag, may_be_missing};
 ghost use Rattle.tm_grammar.specs.Combinators.{one_more};
 ghost use Rattle.tm_syntax.specs.declared.token.Sign.TheVariants as sign;
 
