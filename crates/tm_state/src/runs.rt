@@ -258,11 +258,11 @@ impl StateData {
         let SavedInclude {
             replaced,
             closure,
-            lists,
+            lists: before,
         } = saved;
         self.leave_block(replaced);
         self.context.set_own_closure(closure);
-        self.lists = lists;
+        self.lists = before;
     }
 
     /// Room for a run's operands, of which there are none.
