@@ -20,6 +20,7 @@ mod locals;
 mod loops;
 mod name_table;
 mod objects;
+mod path_join;
 mod plain;
 mod view;
 
@@ -39,5 +40,6 @@ pub use lists::Lists;
 pub use loops::{LoopState, following_at, position_at, previous_at};
 pub use name_table::{NO_PLACE, NameTable};
 pub use objects::{Objects, Parties};
+pub use path_join::PathJoin;
 pub use plain::{Answering, Plain};
 pub use view::View;
