@@ -15,7 +15,7 @@ pub use state::{Captured, CapturedOf, State, StateOf};
 pub use template::{Template, TemplateOf};
 pub use tm_compiler::{
     Application, Argument, BinaryOperator, CallBlock, Comparison, Condition, Expr, ForLoop,
-    Instruction, Keyword, Macro, Name, NameMap, Pair, Parameter, RawText, Step, Stmt, Streams,
+    Imported, Instruction, Keyword, Macro, Name, NameMap, Pair, Parameter, RawText, Step, Stmt, Streams,
     SyntaxConfig, SyntaxConfigBuilder, Tree, UnaryOperator, generate, parse,
 };
 pub use tm_meaning::{Call, GlobalFunction, Reply};

@@ -16,7 +16,7 @@ use tm_state::StateData;
 use tm_syntax::{Code, Name, NameMap};
 use tm_tables::{BlockNames, CallableAnswer, Called, Host, Parties, View};
 use tm_templates::CompiledTemplate;
-use tm_values::{Error, ErrorKind, UndefinedBehavior, Value};
+use tm_values::{AutoEscape, Error, ErrorKind, UndefinedBehavior, Value};
 use tm_vm::Machine;
 
 /// The environment and the template that is rendered: the machine's one party.
@@ -135,6 +135,10 @@ impl<O: Parties> Host for Rendering<'_, O> {
 
     fn template_name(&self, template: &TemplateId) -> &str {
         self.template(template).name()
+    }
+
+    fn template_escape(&self, template: &TemplateId) -> AutoEscape {
+        self.template(template).escape()
     }
 
     fn is_required(&self, stream: &StreamId) -> bool {

@@ -8,7 +8,7 @@ ghost use Rattle.tm_meaning.specs.World.{emitted, find_name, fuel_levels, name_o
 ghost use Rattle.tm_tables.specs.Known.{AreFound, NamingFails};
 ghost use Rattle.tm_meaning.specs.Calls.{apply_filter, enter_block, perform_test, refused};
 ghost use Rattle.tm_meaning.specs.Memory.{is_want_of_memory};
-ghost use Rattle.tm_state.specs.Answers.{Becomes, CallLies, IsEmitted, KeepsFixed, NeedsRun, OneDeeper, StaysInPlace};
+ghost use Rattle.tm_state.specs.Answers.{Becomes, CallDeeper, CallLies, IsEmitted, KeepsFixed, NeedsRun, StaysInPlace};
 ghost use Rattle.tm_state.specs.State.{callee_of, exported};
 ghost use Rattle.template_machine.specs.Environment.{host_of};
 ghost use Rattle.template_machine.specs.Renders.{as_text, block_meaning, call_by_name, called_value, callee_run, with_temp, with_world};
@@ -295,7 +295,7 @@ impl<'env, O: Parties> StateOf<'env, O> {
         ensures called { (asked : _) → NeedsRun run asked self.old.world →
             IsCalled result (called_value O.stated self.old.template asked) self.new.world }
         ensures template { self.new.template ≡ self.old.template }
-        ensures stays { (limit : _) (before : _) → OneDeeper limit run.saved before self.old.world →
+        ensures stays { (limit : _) (before : _) → CallDeeper limit run.saved before self.old.world →
             StaysInPlace before self.new.world }
         ensures kept { KeepsFixed self.old.world self.new.world }
     {
