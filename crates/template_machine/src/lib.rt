@@ -26,7 +26,7 @@ pub use tm_printing as printing;
 pub use tm_syntax::{Assignment, AssignmentTarget, CaptureMode, CaptureUse, Code};
 pub use tm_tables::{
     Answering, Callable, CallableAnswer, Called, EscapeRule, Formatter, FuelTracker,
-    MethodFallback, Objects, Parties, Plain, View,
+    MethodFallback, Objects, Parties, PathJoin, Plain, View,
 };
 pub use tm_templates::{
     CompiledTemplate, EscapeSetting, Source, TemplateConfig, default_auto_escape_callback,

@@ -71,6 +71,13 @@ impl<'env, O: Drop> Rendering<'env, O> {
         self.environment.allocator()
     }
 
+    /// The environment.
+    pub(crate) fn environment(&self) -> &'env EnvironmentOf<'env, O>
+        ensures { result.now ≡ self.now.environment }
+    {
+        self.environment
+    }
+
     /// The template that is meant.
     fn template(&self, template: &TemplateId) -> &'env CompiledTemplate<'env>
         ensures { result.now ≡ meant self.now template.now }
@@ -145,8 +152,8 @@ impl<O: Parties> Host for Rendering<'_, O> {
         self.template(&stream.template).is_required(&stream.block)
     }
 
-    fn joined_name(&self, alloc: Global, name: &str, _running: &str) -> Result<Name, Error> {
-        Ok(Name::new(alloc, name)?)
+    fn joined_name(&self, alloc: Global, name: &str, running: &str) -> Result<Name, Error> {
+        self.environment.objects().join(alloc, name, running)
     }
 
     fn blocks_of(&self, name: &str) -> Option<&Rc<BlockNames>> {
