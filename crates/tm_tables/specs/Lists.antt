@@ -20,6 +20,11 @@ pub record LoadedValue : Type 0 where
 abbrev pub nothing_loaded : LoadedValue
 nothing_loaded = record { blocks = []; names = [] }
 
+-- the names that are shared, where any are
+abbrev pub names_in : Option (Rc (List (List ℕ)) Global) → List (List ℕ)
+names_in None = []
+names_in (Some shared) = shared.value
+
 -- what is shared, where anything is loaded
 abbrev pub loaded_in : Option (Rc LoadedValue Global) → LoadedValue
 loaded_in None = nothing_loaded

@@ -16,6 +16,7 @@ mod language;
 mod layer;
 mod lists;
 mod loaded;
+mod loaded_names;
 mod locals;
 mod loops;
 mod name_table;

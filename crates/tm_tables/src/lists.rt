@@ -176,11 +176,11 @@ impl Lists {
     {
         if let Some(loaded) = &mut self.loaded {
             if let Some(own) = Rc::get_mut(loaded) {
-                return own.add(name);
+                return own.add(alloc, name);
             }
         }
         let mut own = self.copy_loaded(alloc)?;
-        own.add(name)?;
+        own.add(alloc, name)?;
         self.loaded = Some(shared(alloc, own)?);
         Ok(())
     }
