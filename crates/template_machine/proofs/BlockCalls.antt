@@ -1,5 +1,5 @@
 -- What the block means that a state is asked for, and what its run answers.
-use Rattle.std.proofs.Common.{◌≡◌, ◌∙◌, ℕ, List, [], ◌∷◌, Option, Result, Ok, Err, Bool, true, false}
+use Rattle.std.proofs.Common.{◌≡◌, ◌∙◌, ◌+◌, ℕ, List, [], ◌∷◌, Option, Result, Ok, Err, Bool, true, false}
 use Rattle.std.proofs.Common.{refl, sym, ap, subst}
 use Rattle.std.specs.Io.KnownBytes.{Appends}
 use Rattle.tm_values.specs.declared.error.ErrorKind.{ErrorKind}
@@ -124,7 +124,7 @@ module _ {O : Type 0} (stated : O → StatedObjects) (t : TemplateValue O) (b : 
   pub block_ran : (s : SavedBlock) (mid : World) (result : Result (List Capture) Halt) (put : World) →
       IsEntered (enter_block (host_of stated t) b w) s w mid → Ran (meaning_from stated t mid) result left old told now failures count →
       put ≡ behind_block s left → Came result put
-  block_ran s mid result put (same, (stream, asked), more) ran is =
+  block_ran s mid result put (same, (stream, asked), more, places) ran is =
       let o = meaning_from stated t mid in
       subst (λ x. Came result x) (undone_is (saved.Block s) w left same ∙ sym is)
       (subst (λ x. Ran x result (undone (block_call stream w).undo left) old told now failures count)

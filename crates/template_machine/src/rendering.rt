@@ -1,9 +1,10 @@
 //! What a render runs under.
-ghost use Rattle.std.specs.Prelude.{◌≡◌, ◌≤◌, length};
+ghost use Rattle.std.specs.Prelude.{◌≡◌};
 ghost use Rattle.tm_state.specs.Answers.{KeepsFixed};
 ghost use Rattle.template_machine.specs.Environment.{meant};
 ghost use Rattle.template_machine.specs.Renders.{meaning_from, IsFresh, Ran};
 ghost use Rattle.template_machine.specs.TemplateRef.{entry_id};
+ghost use Rattle.tm_vm.specs.Answers.{NoFewer};
 
 use crate::environment::EnvironmentOf;
 use std::alloc::Global;
