@@ -1,6 +1,6 @@
 #!/usr/bin/env bash
-# Renders each example by ./mj, with the JSON file and the names that it has (.json, .names), and compares the output with its .expected
-# file. The code in README.md must be that of the test in crates/render_tests/src/readme.rt, blanks aside.
+# Renders each example by ./mj, with the JSON file, the names and the other templates that it has (.json, .names, .others), and compares the
+# output with its .expected file. The code in README.md must be that of the test in crates/render_tests/src/readme.rt, blanks aside.
 set -euo pipefail
 cd "$(dirname "${BASH_SOURCE[0]}")"
 
@@ -13,7 +13,7 @@ fi
 
 passed=0
 failed=0
-for input in hello.txt mail.txt server.conf page.html notice.txt table.html menu.html; do
+for input in hello.txt mail.txt server.conf page.html notice.txt table.html menu.html about.html; do
     base=${input%.*}
     words=()
     if [[ -f $base.json ]]; then
@@ -24,7 +24,13 @@ for input in hello.txt mail.txt server.conf page.html notice.txt table.html menu
             words+=(-D "$line")
         done <"$base.names"
     fi
-    if ../mj "${words[@]}" "$input" | cmp - "$base.expected"; then
+    words+=("$input")
+    if [[ -f $base.others ]]; then
+        while IFS= read -r line; do
+            words+=("$line")
+        done <"$base.others"
+    fi
+    if ../mj "${words[@]}" | cmp - "$base.expected"; then
         passed=$((passed + 1))
     else
         echo "$input: failed" >&2

@@ -33,11 +33,17 @@ const ITEMS_JSON: &str = "{
 }";
 
 /// The files that hold text.
-static FILES: [(&str, &str); 17] = [
+static FILES: [(&str, &str); 20] = [
     ("hello.txt", "Hello {{ name }}!\n"),
     ("tag.txt", "a{% x %}"),
     ("call.txt", "a{{ nope() }}b"),
     ("block.txt", "a{% block x %}b{% endblock %}"),
+    ("layout.txt", "<{% block x %}b{% endblock %}>"),
+    (
+        "child.txt",
+        "{% extends 'layout.txt' %}{% block x %}{{ who }}{% endblock %}",
+    ),
+    ("over.txt", "{% extends '-' %}"),
     ("-x", "never read"),
     ("main.txt", "Hi {{ who }}!"),
     ("c.json", "{\"who\":\"A\"}"),
@@ -71,6 +77,10 @@ impl Texts for Shelf {
         }
         if path == "vast.txt" {
             return Err(io::Error::from(io::ErrorKind::OutOfMemory));
+        }
+        if path == "turn.txt" {
+            let turn = if self.reads == 1 { "first" } else { "later" };
+            return Ok(turn.as_bytes().to_vec(self.alloc)?);
         }
         match text_of(path) {
             Some(text) => Ok(text.as_bytes().to_vec(self.alloc)?),
@@ -147,8 +157,28 @@ const ROWS: &str = r#"Words and files.
 - 2 0 0 --other hello.txt =>  => usage
 - 2 0 0 -x =>  => usage
 - 2 0 0 -- hello.txt =>  => usage
-- 2 0 0 hello.txt hello.txt =>  => usage
+- 0 2 1 -Dwho=A child.txt layout.txt => <A> => -
+- 0 2 1 -Dwho=A layout.txt child.txt => <b> => -
+- 0 3 1 -Dwho=A child.txt main.txt layout.txt => <A> => -
+- 0 2 1 -Dname=A over.txt - => Hello A! => -
+- 0 2 1 -Dname=A - over.txt => Hello A! => -
+- 0 3 1 --json - over.txt - => Hello ! => -
+- 0 2 1 -Dname=A hello.txt hello.txt => Hello A! => -
+- 0 3 1 -Dwho=A child.txt layout.txt child.txt => <A> => -
+- 0 1 1 turn.txt => first => -
+- 0 2 1 turn.txt turn.txt => later => -
+- 1 1 1 child.txt =>  => TemplateNotFound
+- 1 2 1 child.txt main.txt =>  => TemplateNotFound
+- 1 2 1 hello.txt tag.txt =>  => SyntaxError
+- 1 2 1 tag.txt hello.txt =>  => SyntaxError
+- 1 2 1 --fuel 1 hello.txt tag.txt =>  => SyntaxError
+- 1 2 0 hello.txt vast.txt =>  => OutOfMemory
 - 2 0 0 - - =>  => usage
+- 2 0 0 hello.txt - main.txt - =>  => usage
+- 2 0 0 hello.txt -x =>  => usage
+- 2 2 0 hello.txt missing.txt tag.txt =>  => usage
+- 2 2 0 tag.txt bytes.bin =>  => usage
+- 2 3 0 --json list.json hello.txt tag.txt =>  => usage
 - 2 0 0 hello.txt -D name=World =>  => usage
 - 2 0 0 -D x hello.txt =>  => usage
 - 2 0 0 -Dx hello.txt =>  => usage

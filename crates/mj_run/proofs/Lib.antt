@@ -1,2 +1,4 @@
+pub mod Added
 pub mod Files
+pub mod Lists
 pub mod Rendered

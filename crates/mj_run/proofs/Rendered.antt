@@ -1,42 +1,32 @@
--- What the program renders is what the words and the source mean.
-use Rattle.std.proofs.Common.{◌≡◌, ℕ, inl, inr, List, [], ◌∷◌, Option, None, Some, Result, Ok, Err, min, IsErrAnd, MatchResult, is_eq, ◌<◌}
-use Rattle.std.proofs.Common.{arith, refl, sym, ap, subst, ◌∙◌}
-use Rattle.std.specs.Prelude.{cond, true}
+-- What the program renders is what the words and the sources mean.
+use Rattle.std.proofs.Common.{◌≡◌, ℕ, inl, inr, List, [], ◌∷◌, Option, None, Some, Result, Ok, Err, min, ◌<◌}
+use Rattle.std.proofs.Common.{arith, refl, ap, subst, ◌∙◌}
 use Rattle.std.specs.Io.KnownBytes.{Keeps, Appends}
-use Rattle.std.proofs.lemmas.Cmp.{nat_list_cmp_total, tied_itself}
 use Rattle.tm_values.specs.Val.{Val}
 use Rattle.tm_meaning.specs.Memory.{is_want_of_memory}
 use Rattle.tm_values.specs.declared.error.ErrorKind.{ErrorKind}
 use Rattle.tm_values.specs.declared.escape.AutoEscape.{AutoEscape}
 use Rattle.tm_values.specs.declared.error.ErrorKind.TheVariants.{WriteFailure, OutOfMemory}
 use Rattle.tm_delimiters.specs.Syntax.{Syntax, default_syntax}
-use Rattle.tm_syntax.specs.declared.tree.Tree.{Tree}
-use Rattle.tm_syntax.specs.Named.{Named, find, put}
-use Rattle.tm_compiler.specs.Spells.{Spells, SpellsNone}
+use Rattle.tm_syntax.specs.Named.{Named, find}
+use Rattle.tm_values.specs.Answer.{Refused}
 use Rattle.tm_meaning.specs.World.{Object, Fallback, Format, World}
-use Rattle.tm_meaning.specs.Meaning.{Ending, done, leave, next, fault, Outcome, chain_in, chain_of}
-use Rattle.tm_output.specs.Counts.{Tally, AppendsBeginning}
+use Rattle.tm_meaning.specs.Meaning.{Ending, done, leave, next, fault, Outcome, chain_in}
+use Rattle.tm_output.specs.Counts.{Tally}
 use Rattle.tm_templates.specs.Defaults.{escape_by_name, escape_of}
 use Rattle.tm_templates.specs.declared.defaults.EscapeSetting.{EscapeSetting}
 use Rattle.tm_templates.specs.declared.defaults.EscapeSetting.TheVariants as setting
 use Rattle.tm_tables.specs.Stated.{Table, StatedObjects, language_functions, stated_of}
-use Rattle.tm_templates.specs.Templates.{Compiled, IsRefused}
+use Rattle.tm_templates.specs.Templates.{Compiled}
 use Rattle.tm_meaning.specs.declared.stream.TemplateId.{TemplateId}
 use Rattle.tm_meaning.specs.declared.stream.TemplateId.TheVariants.{Entry}
-use Rattle.template_machine.specs.Environment.{EnvironmentValue, TemplateValue, IsTemplateOf, IsEntryOf, expected_environment}
+use Rattle.template_machine.specs.Environment.{EnvironmentValue, TemplateValue, IsEntryOf, expected_environment}
 use Rattle.template_machine.specs.Environment.{new_environment, greatest_limit}
 use Rattle.template_machine.specs.Renders.{CapturedValue, StateValue, answer_by, greatest, meaning, Rendered, as_meant, by_writer}
 use Rattle.template_machine.specs.Renders.{by_memory}
 use Rattle.mj_words.specs.CommandLine.{Text, ArgumentsValue}
-use Rattle.mj_run.specs.Program.{Input, context_of, limit_of, template_in, meaning_of, IsMeant, IsRendered, IsBegun, IsFault, no_memory}
+use Rattle.mj_run.specs.Program.{Input, context_of, limit_of, Means, IsMeant, IsRendered, IsBegun, IsFault, no_memory, AreAdded, SpellNone}
 use Rattle.mj_run.specs.Program.{own_objects, write_failed, flush_failed, no_tree, meant}
-
-found_there : (name : Text) (t : Compiled) → find name (put name t []) ≡ Some t
-found_there name t = ap (λ o. cond (is_eq o) (Some t) None) (tied_itself nat_list_cmp_total name)
-
--- the one template that was put is the one that is found
-found_is_put : (name : Text) (t u : Compiled) → find name (put name t []) ≡ Some u → t ≡ u
-found_is_put name t u e = let there : find name (put name t []) ≡ Some t = found_there name t in cc
 
 -- Objects of which nothing but this is stated: a template means what it means where there are none.
 abbrev template_over : {O : Type 0} → O → Text → Named Compiled → Option ℕ → ℕ → Compiled → TemplateValue O
@@ -62,13 +52,6 @@ pub none_of : {C M F R : Type 0} (answers : C → Object) (falls : M → Fallbac
     stated_of answers falls formats (escape_of rules) objects ≡ own_objects
 none_of answers falls formats rules objects none = ap (stated_of answers falls formats (escape_of rules)) none
 
-compiled_is : (t : Compiled) (name source : Text) (escape : AutoEscape) → t.name ≡ name → t.source ≡ source → t.escape ≡ escape →
-    t ≡ record { name = name; source = source; escape = escape; tree = t.tree }
-compiled_is t name source escape named from escaped =
-    ap (λ (x : Text). let u : Compiled = record t { name = x } in u) named
-    ∙ ap (λ (x : Text). let u : Compiled = record t { name = name; source = x } in u) from
-    ∙ ap (λ (x : AutoEscape). let u : Compiled = record { name = name; source = source; escape = x; tree = t.tree } in u) escaped
-
 abbrev Parts : Type 0 → Type 0 → Type 0 → Type 0 → Type 0
 Parts C M F R = Table C M F (EscapeSetting R)
 
@@ -88,74 +71,56 @@ module _ {C M F R : Type 0} where
       ∙ ap (λ (e : EnvironmentValue (Parts C M F R)). record e { fuel = a.fuel }) start)
       ∙ ap (λ n. record empty { fuel = a.fuel; limit = n }) same)
 
-  -- another template of the environment in which one was put alone
-  abbrev put_there_as : ArgumentsValue → Compiled → Compiled → TemplateValue (Parts C M F R)
-  put_there_as a t u = template_over first_objects a.file (put a.file t []) a.fuel (limit_of a.limit) u
+  -- a template of the environment with these templates
+  abbrev among : ArgumentsValue → Named Compiled → Compiled → TemplateValue (Parts C M F R)
+  among a templates t = template_over first_objects a.file templates a.fuel (limit_of a.limit) t
 
-  -- a template that was put alone
-  abbrev put_alone : ArgumentsValue → Compiled → TemplateValue (Parts C M F R)
-  put_alone a t = put_there_as a t t
-
-  -- The template that is found means what the words and a tree of the source mean.
-  is_meant : (fs gs : StatedObjects) (i : Input) (set added : EnvironmentValue (Parts C M F R)) (t : Compiled)
+  -- The template that is found means what the input means.
+  is_meant : (fs gs : StatedObjects) (i : Input) (set added : EnvironmentValue (Parts C M F R)) (templates : Named Compiled)
       (found : TemplateValue (Parts C M F R)) (context : Val) →
       (found.environment.objects ≡ first_objects → fs ≡ own_objects) → (set.objects ≡ first_objects → gs ≡ own_objects) →
-      set ≡ settled i.asked → IsTemplateOf (λ _. gs) set i.asked.file i.source t →
-      added ≡ record set { templates = put i.asked.file t set.templates } →
+      set ≡ settled i.asked → AreAdded set.syntax gs.escapes i.sources set.templates templates →
+      added ≡ record set { templates = templates } →
       IsEntryOf added i.asked.file found → context ≡ context_of i.members i.asked.texts →
       IsMeant (λ _. fs) found context i
-  is_meant fs gs i set added t found context none none_set start is put_there (same, id, there) given =
+  is_meant fs gs i set added templates found context none none_set start all put_there (same, id, there) given =
       let a = i.asked in
-      let source = i.source in
-      let whole : added ≡ record (settled a) { templates = put a.file t [] } =
-      put_there ∙ ap (λ (e : EnvironmentValue (Parts C M F R)). record e { templates = put a.file t e.templates }) start in
-      let template : t ≡ found.template = found_is_put a.file t found.template
-      (subst (λ (e : EnvironmentValue (Parts C M F R)). find a.file e.templates ≡ Some found.template) whole there) in
-      let alone : found ≡ put_alone a t =
+      let whole : added ≡ record (settled a) { templates = templates } =
+      put_there ∙ ap (λ (e : EnvironmentValue (Parts C M F R)). record e { templates = templates }) start in
+      let alone : found ≡ among a templates found.template =
       ap (λ (e : EnvironmentValue (Parts C M F R)). let v : TemplateValue
       (Parts C M F R) = record { environment = e; id = found.id; template = found.template } in v) (same ∙ whole)
       ∙ ap (λ (x : TemplateId). let v : TemplateValue
-      (Parts C M F R) = record { environment = record (settled a) { templates = put a.file t [] }; id = x; template = found.template } in v)
-      id
-      ∙ ap (λ (u : Compiled). put_there_as a t u) (sym template) in
+      (Parts C M F R) = record { environment = record (settled a) { templates = templates }; id = x; template = found.template } in v)
+      id in
       let objects : found.environment.objects ≡ first_objects =
       ap (λ (e : EnvironmentValue (Parts C M F R)). e.objects) (same ∙ whole) in
-      let escaped : t.escape ≡ escape_by_name a.file = is.escape_is
-      ∙ ap (λ (hs : StatedObjects). hs.escapes a.file)
-      (none_set (ap (λ (e : EnvironmentValue (Parts C M F R)). e.objects) start)) in
-      let named : t ≡ record { name = a.file; source = source; escape = escape_by_name a.file; tree = t.tree } =
-      compiled_is t a.file source (escape_by_name a.file) is.name_is is.source_is escaped in (
-        t.tree,
-        subst (λ (e : EnvironmentValue (Parts C M F R)). Spells e.syntax source t.tree) start is.spelled,
+      let escaped : gs.escapes ≡ escape_by_name =
+      ap (λ (hs : StatedObjects). hs.escapes) (none_set (ap (λ (e : EnvironmentValue (Parts C M F R)). e.objects) start)) in (
+        templates,
+        found.template,
+        subst (λ (e : EnvironmentValue (Parts C M F R)). AreAdded e.syntax escape_by_name i.sources e.templates templates) start
+            (subst (λ (escapes : Text → AutoEscape). AreAdded set.syntax escapes i.sources set.templates templates) escaped all),
+        subst (λ (e : EnvironmentValue (Parts C M F R)). find a.file e.templates ≡ Some found.template) whole there,
         ap (λ (v : TemplateValue (Parts C M F R)). meaning (λ _. fs) v 0 context) alone
-            ∙ (ap (λ v. meaning (λ _. fs) (put_alone a t) 0 v) given
-            ∙ (means_same {O = Parts C M F R} {P = StatedObjects} fs own_objects first_objects own_objects a.file
-            (put a.file t []) a.fuel (limit_of a.limit) t 0 (context_of i.members a.texts) (none objects)
-            ∙ ap (λ (u : Compiled). meaning (λ fs. fs) (template_in a u) 0 (context_of i.members a.texts)) named)),
+            ∙ (ap (λ v. meaning (λ _. fs) (among a templates found.template) 0 v) given
+            ∙ means_same {O = Parts C M F R} {P = StatedObjects} fs own_objects first_objects own_objects a.file
+            templates a.fuel (limit_of a.limit) found.template 0 (context_of i.members a.texts) (none objects)),
       )
 
   -- The same of what the objects of the environment state.
   pub is_meant_by : (answers : C → Object) (falls : M → Fallback) (formats : F → Format) (rules : R → List ℕ → AutoEscape)
-      (i : Input) (set added : EnvironmentValue (Parts C M F R)) (t : Compiled) (found : TemplateValue (Parts C M F R)) (context : Val) →
-      set ≡ settled i.asked → IsTemplateOf (stated_of answers falls formats (escape_of rules)) set i.asked.file i.source t →
-      added ≡ record set { templates = put i.asked.file t set.templates } →
+      (i : Input) (set added : EnvironmentValue (Parts C M F R)) (templates : Named Compiled) (found : TemplateValue (Parts C M F R))
+      (context : Val) → set ≡ settled i.asked →
+      AreAdded set.syntax (stated_of answers falls formats (escape_of rules) set.objects).escapes i.sources set.templates templates →
+      added ≡ record set { templates = templates } →
       IsEntryOf added i.asked.file found → context ≡ context_of i.members i.asked.texts →
       IsMeant (stated_of answers falls formats (escape_of rules)) found context i
-  is_meant_by answers falls formats rules i set added t found context start is put_there entry given =
+  is_meant_by answers falls formats rules i set added templates found context start all put_there entry given =
       let stated = stated_of answers falls formats (escape_of rules) in
-      is_meant (stated found.environment.objects) (stated set.objects) i set added t found context
+      is_meant (stated found.environment.objects) (stated set.objects) i set added templates found context
       (λ e. none_of answers falls formats rules found.environment.objects e) (λ e. none_of answers falls formats rules set.objects e)
-      start is put_there entry given
-
-  -- The template is found: it was put.
-  pub is_found : {X : Type 0} (name : Text) (set added : EnvironmentValue (Parts C M F R)) (t : Compiled) → set.templates ≡ [] →
-      added ≡ record set { templates = put name t set.templates } →
-      find name added.templates ≡ None → X
-  is_found name set added t start put_there none =
-      let there : find name added.templates ≡ Some t =
-      ap (λ (e : EnvironmentValue (Parts C M F R)). find name e.templates) put_there ∙ ap (λ es. find name (put name t es)) start
-      ∙ found_there name t in
-      absurd (cc)
+      start all put_there entry given
 
 -- a render as the first state of a counter
 pub at_first : {P : Type 0} (stated : P → StatedObjects) (t : TemplateValue P) (context : Val) (id : ℕ) (r : Result (CapturedValue (StateValue P)) (List ErrorKind))
@@ -164,11 +129,6 @@ pub at_first : {P : Type 0} (stated : P → StatedObjects) (t : TemplateValue P)
     Rendered t (meaning stated t 0 context) r told now failures count
 at_first stated t context id r told now failures count e rendered =
     subst (λ n. Rendered t (meaning stated t n context) r told now failures count) e (rendered (omega (arith, e)))
-
--- an error that was passed on
-pub passed : {T E : Type 0} (r : Result T E) (P : T → Type 0) (Q : E → Type 0) (e : E) → IsErrAnd r (λ x. x ≡ e) → Q e → MatchResult r P Q
-passed (Ok x) P Q e p q = absurd p
-passed (Err y) P Q e p q = subst Q (sym p) q
 
 pub keeps_same : (told : Option Text) → Keeps told told
 keeps_same None = tt
@@ -194,46 +154,26 @@ module _ {W : Type 0} (contents : W → Option Text) where
 
   -- a source that was refused
   pub is_refused : (i : Input) (syntax : Syntax) (chain : List ErrorKind) (old : Tally W) → syntax ≡ default_syntax →
-      IsRefused syntax i.source chain →
+      Refused chain (SpellNone syntax i.sources) →
       IsFault contents i chain old old
   is_refused i syntax chain old e (inl memory) = is_memory i chain old memory
   is_refused i syntax chain old e (inr (kind, none)) =
-      no_tree kind refl (keeps_same (contents old.writer)) (subst (λ s. SpellsNone s i.source) e none)
+      no_tree kind refl (keeps_same (contents old.writer)) (subst (λ s. SpellNone s i.sources) e none)
 
-  -- What was answered of a template is what was answered of the words and the source.
-  module _ {O : Type 0} (t : TemplateValue O) (i : Input) (m : Outcome) (old new : Tally W) (means : (tree : Tree)
-      × Spells default_syntax i.source tree × (m ≡ meaning_of i tree)) where
+  -- What was answered of a template is what was answered of the input.
+  module _ {O : Type 0} (t : TemplateValue O) (i : Input) (m : Outcome) (old new : Tally W) (means : Means i m) where
     abbrev Ended : Result (CapturedValue (StateValue O)) (List ErrorKind) → Type 0
     Ended r = Rendered t m r (contents old.writer) (contents new.writer) old.failures new.failures
 
-    whole : Appends (contents old.writer) (contents new.writer) m.text →
-        Appends (contents old.writer) (contents new.writer) (meaning_of i means.0).text
-    whole appended = subst (λ (o : Outcome). Appends (contents old.writer) (contents new.writer) o.text) means.2 appended
-
-    part : AppendsBeginning (contents old.writer) (contents new.writer) m.text → IsBegun i (contents old.writer) (contents new.writer)
-    part begun = (
-      means.0,
-      means.1,
-      subst (λ (o : Outcome). AppendsBeginning (contents old.writer) (contents new.writer) o.text) means.2 begun,
-    )
-
     pub is_done : (c : CapturedValue (StateValue O)) → Ended (Ok c) → IsRendered contents i old new
-    is_done c (as_meant is appended same) = (
-      means.0,
-      means.1,
-      sym (ap chain_of means.2)
-          ∙ done_chain m.ending m.world c.state.world is.2,
-      whole appended,
-      same,
-    )
+    is_done c (as_meant is appended same) = (m, means, done_chain m.ending m.world c.state.world is.2, appended, same)
     is_done c (by_writer e begun more) = absurd (cc)
     is_done c (by_memory memory begun same) = absurd memory
 
     pub is_fault : (chain : List ErrorKind) → Ended (Err chain) → IsFault contents i chain old new
-    is_fault chain (as_meant is appended same) = meant means.0 means.1 (sym (ap chain_of means.2)
-        ∙ fault_chain m.ending m.world chain is) same (whole appended)
-    is_fault chain (by_writer e begun more) = write_failed (let same : chain ≡ WriteFailure ∷ [] = cc in same) more (part begun)
-    is_fault chain (by_memory memory begun same) = no_memory memory same (inr (part begun))
+    is_fault chain (as_meant is appended same) = meant m means (fault_chain m.ending m.world chain is) same appended
+    is_fault chain (by_writer e begun more) = write_failed (let same : chain ≡ WriteFailure ∷ [] = cc in same) more (m, means, begun)
+    is_fault chain (by_memory memory begun same) = no_memory memory same (inr (m, means, begun))
 
 flushed : (old mid new : Option Text) (text : Text) → Appends old mid text → Keeps mid new → Appends old new text
 flushed None mid new text a k = tt
@@ -248,13 +188,13 @@ keeps_then (Some xs) (Some ys) None h k = absurd k
 keeps_then (Some xs) (Some ys) (Some zs) h k = k ∙ h
 
 begun_flushed : (i : Input) (old mid new : Option Text) → IsBegun i old mid → Keeps mid new → IsBegun i old new
-begun_flushed i old mid new (tree, spelled, (n, appended)) k = (tree, spelled, (n, flushed old mid new _ appended k))
+begun_flushed i old mid new (outcome, means, (n, appended)) k = (outcome, means, (n, flushed old mid new _ appended k))
 
 -- a flush adds nothing, and is no write that failed
 module _ {W : Type 0} (contents : W → Option Text) (i : Input) (old mid new : Tally W) where
   pub rendered_flushed : IsRendered contents i old mid → Keeps (contents mid.writer) (contents new.writer) → new.failures ≡ mid.failures →
       IsRendered contents i old new
-  rendered_flushed (tree, spelled, none, appended, same) k count = (tree, spelled, none, flushed _ _ _ _ appended k, count ∙ same)
+  rendered_flushed (outcome, means, none, appended, same) k count = (outcome, means, none, flushed _ _ _ _ appended k, count ∙ same)
 
   pub fault_flushed : (chain : List ErrorKind) → IsFault contents i chain old mid → Keeps (contents mid.writer) (contents new.writer) →
       new.failures ≡ mid.failures →
@@ -264,7 +204,7 @@ module _ {W : Type 0} (contents : W → Option Text) (i : Input) (old mid new : 
   fault_flushed chain (write_failed e rose begun) k count = write_failed e (count ∙ rose) (begun_flushed i _ _ _ begun k)
   fault_flushed chain (flush_failed e rendered) k count = flush_failed e (rendered_flushed rendered k count)
   fault_flushed chain (no_tree e same kept none) k count = no_tree e (count ∙ same) (keeps_then _ _ _ kept k) none
-  fault_flushed chain (meant tree spelled e same appended) k count = meant tree spelled e (count ∙ same) (flushed _ _ _ _ appended k)
+  fault_flushed chain (meant outcome means e same appended) k count = meant outcome means e (count ∙ same) (flushed _ _ _ _ appended k)
 
   -- the flush failed, and the render had not
   pub unflushed : (chain : List ErrorKind) → chain ≡ WriteFailure ∷ [] → IsRendered contents i old mid →

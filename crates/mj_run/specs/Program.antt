@@ -1,25 +1,29 @@
 -- What the program gives to a template, what its render means, and how the program ends.
-use Rattle.std.specs.Prelude.{◌≡◌, ◌⊎◌, ℕ, List, [], ◌∷◌, ◌++◌, map as each, codes, min, Option, None, Some, Bool, true, false}
+use Rattle.std.specs.Prelude.{◌≡◌, ◌⊎◌, ℕ, List, [], ◌∷◌, ◌++◌, map as each, min, Option, None, Some, Bool, true, false, string_bytes}
+use Rattle.std.specs.Borrow.{Bor}
+use Rattle.std.specs.List.{Any}
+use Rattle.std.specs.declared.alloc.Global.{Global}
+use Rattle.std.specs.declared.string.String.{String}
 use Rattle.std.specs.Io.KnownBytes.{Keeps, Appends}
-use Rattle.std.specs.Str.{bytes_eq, IsUtf8}
+use Rattle.std.specs.Str.{IsUtf8}
 use Rattle.tm_values.specs.Val.{Val, text, map, pairs_of}
 use Rattle.tm_meaning.specs.Memory.{is_want_of_memory}
 use Rattle.tm_values.specs.Map.{put_all}
 use Rattle.tm_values.specs.declared.error.ErrorKind.{ErrorKind}
 use Rattle.tm_values.specs.declared.error.ErrorKind.TheVariants.{SyntaxError, WriteFailure}
-use Rattle.tm_delimiters.specs.Syntax.{default_syntax}
-use Rattle.tm_syntax.specs.declared.tree.Tree.{Tree}
-use Rattle.tm_syntax.specs.Named.{put}
-use Rattle.tm_compiler.specs.Spells.{Spells, SpellsNone}
+use Rattle.tm_values.specs.declared.escape.AutoEscape.{AutoEscape}
+use Rattle.tm_delimiters.specs.Syntax.{Syntax, default_syntax}
+use Rattle.tm_syntax.specs.Named.{Named, find, put}
+use Rattle.tm_compiler.specs.Spells.{SpellsNone}
 use Rattle.tm_meaning.specs.Meaning.{Outcome, chain_of}
 use Rattle.tm_output.specs.Counts.{Tally, saturating_increment, AppendsBeginning}
 use Rattle.tm_templates.specs.Defaults.{escape_by_name}
-use Rattle.tm_templates.specs.Templates.{Compiled}
+use Rattle.tm_templates.specs.Templates.{Compiled, IsTemplate}
 use Rattle.tm_meaning.specs.declared.stream.TemplateId.TheVariants.{Entry}
 use Rattle.template_machine.specs.Environment.{TemplateValue, expected_environment, greatest_limit}
 use Rattle.tm_tables.specs.Stated.{StatedObjects, language_alone}
 use Rattle.template_machine.specs.Renders.{meaning}
-use Rattle.mj_words.specs.CommandLine.{Text, ArgumentsValue, asked, asked_of}
+use Rattle.mj_words.specs.CommandLine.{Text, ArgumentsValue, asked, asked_of, is_input}
 use Rattle.mj_words.specs.declared.arguments.Arguments.{Arguments}
 use Rattle.mj_json.specs.Json.{members_read}
 
@@ -31,14 +35,18 @@ pair_of t = (text t.0 false, text t.1 false)
 abbrev pub context_of : List (Val × Val) → List (Text × Text) → Val
 context_of members ts = map (pairs_of (put_all (members ++ each pair_of ts)))
 
--- what a render is made of: what the words ask for, the members of the JSON object, and the template's source
+-- what a render is made of: what the words ask for, the members of the JSON object, and the files in their order with their sources
 pub record Input : Type 0 where
   pub asked : ArgumentsValue
   pub members : List (Val × Val)
-  pub source : Text
+  pub sources : List (Text × Text)
 
-abbrev pub input_of : Arguments → List (Val × Val) → Text → Input
-input_of arguments members source = record { asked = asked_of arguments; members = members; source = source }
+abbrev pub input_of : Arguments → List (Val × Val) → List (Text × Text) → Input
+input_of arguments members sources = record { asked = asked_of arguments; members = members; sources = sources }
+
+-- a file with its source as plain data
+abbrev pub named : Bor Text × String Global → Text × Text
+named p = (p.0.now, string_bytes p.1)
 
 -- how deep scopes may lie, where the words say so
 abbrev pub limit_of : Option ℕ → ℕ
@@ -49,40 +57,71 @@ limit_of (Some n) = min n greatest_limit
 abbrev pub own_objects : StatedObjects
 own_objects = language_alone escape_by_name
 
--- the one template of a new environment, which has the functions of the language, with the fuel and the limit of the words
-abbrev pub template_in : ArgumentsValue → Compiled → TemplateValue StatedObjects
-template_in a t = record {
+-- The sources, compiled with this syntax and the escapes of their names, and put at their names one after the other, make of the first
+-- templates the second.
+abbrev pub AreAdded : Syntax → (Text → AutoEscape) → List (Text × Text) → Named Compiled → Named Compiled → Type 0
+AreAdded syntax escapes [] before after = before ≡ after
+AreAdded syntax escapes (s ∷ more) before after = (t : Compiled) × IsTemplate syntax (escapes s.0) s.0 s.1 t
+    × AreAdded syntax escapes more (put s.0 t before) after
+
+-- A source spells no tree.
+abbrev pub SpellNone : Syntax → List (Text × Text) → Type 0
+SpellNone syntax sources = Any (λ (s : Text × Text). SpellsNone syntax s.1) sources
+
+-- A file is the first of these.
+abbrev pub BeginWith : Text → List (Text × Text) → Type 0
+BeginWith file [] = ⊥
+BeginWith file (s ∷ more) = s.0 ≡ file
+
+-- a template at the name of the first file, in a new environment with these templates, which has the functions of the language, with the
+-- fuel and the limit of the words
+abbrev pub template_in : ArgumentsValue → Named Compiled → Compiled → TemplateValue StatedObjects
+template_in a templates t = record {
   environment = record (expected_environment own_objects)
-      { templates = put a.file t []; fuel = a.fuel; limit = limit_of a.limit };
+      { templates = templates; fuel = a.fuel; limit = limit_of a.limit };
   id = Entry a.file;
   template = t;
 }
 
--- the template that a source and its tree are under the name of the file, which says how it is escaped
-abbrev pub template_of : ArgumentsValue → Text → Tree → TemplateValue StatedObjects
-template_of a source tree = template_in a (record { name = a.file; source = source; escape = escape_by_name a.file; tree = tree })
-
--- what a render of this tree means, as the first state: over the context, with the fuel of the words
-abbrev pub meaning_of : Input → Tree → Outcome
-meaning_of input tree = meaning (λ stated. stated) (template_of input.asked input.source tree) 0
+-- what a render of it means, as the first state: over the context, with the fuel of the words
+abbrev pub meaning_of : Input → Named Compiled → Compiled → Outcome
+meaning_of input templates t = meaning (λ stated. stated) (template_in input.asked templates t) 0
     (context_of input.members input.asked.texts)
 
--- A template over a context means, as the first state, what a tree of the source means over the context that is given.
+-- The input means this: all its sources are templates under the names of their files, which say how each is escaped, and the one that is at
+-- the name of the first file is rendered.
+abbrev pub Means : Input → Outcome → Type 0
+Means input outcome = (templates : Named Compiled) × (t : Compiled)
+    × AreAdded default_syntax escape_by_name input.sources [] templates
+    × (find input.asked.file templates ≡ Some t)
+    × (outcome ≡ meaning_of input templates t)
+
+-- A template over a context means, as the first state, what the input means.
 abbrev pub IsMeant : {P : Type 0} → (P → StatedObjects) → TemplateValue P → Val → Input → Type 0
-IsMeant stated t context input = (tree : Tree) × Spells default_syntax input.source tree
-    × (meaning stated t 0 context ≡ meaning_of input tree)
+IsMeant stated t context input = Means input (meaning stated t 0 context)
 
 -- What may be read of a file later may be read of it before.
 abbrev pub FilesStay : {T : Type 0} → (T → Text → Option Text → Type 0) → T → T → Type 0
 FilesStay of_file old new = (file : Text) → (read : Option Text) → of_file new file read → of_file old file read
 
-abbrev either : Bool → Type 0 → Type 0 → Type 0
+-- The same of standard input.
+abbrev pub InputStays : {T : Type 0} → (T → Option Text → Type 0) → T → T → Type 0
+InputStays of_input old new = (read : Option Text) → of_input new read → of_input old read
+
+abbrev pub either : Bool → Type 0 → Type 0 → Type 0
 either true A B = A
 either false A B = B
 
 -- what is read of a file, or of standard input, which is `-`: bytes, or none
 abbrev pub IsRead : {T : Type 0} → (T → Text → Option Text → Type 0) → (T → Option Text → Type 0) → T → Text → Option Text → Type 0
-IsRead of_file of_input texts file read = either (bytes_eq file (codes "-")) (of_input texts read) (of_file texts file read)
+IsRead of_file of_input texts file read = either (is_input file) (of_input texts read) (of_file texts file read)
+
+-- The sources are what is read of the files.
+abbrev pub AreRead : {T : Type 0} → (T → Text → Option Text → Type 0) → (T → Option Text → Type 0) → T → List Text → List (Text × Text) → Type 0
+AreRead of_file of_input texts [] sources = sources ≡ []
+AreRead of_file of_input texts (file ∷ files) [] = ⊥
+AreRead of_file of_input texts (file ∷ files) (s ∷ more) =
+    (s.0 ≡ file) × IsRead of_file of_input texts file (Some s.1) × AreRead of_file of_input texts files more
 
 -- The members are those of the object that the JSON file holds; without a JSON file there are none.
 abbrev pub IsMembers : {T : Type 0} → (T → Text → Option Text → Type 0) → T → Option Text → List (Val × Val) → Type 0
@@ -90,11 +129,15 @@ IsMembers of_file texts None members = members ≡ []
 IsMembers of_file texts (Some file) members = (bytes : Text) × of_file texts file (Some bytes) × IsUtf8 bytes
     × (members_read bytes ≡ Some members)
 
--- The words ask for this, the source is what is read of their file, and the members are those of their JSON file.
+-- the files of the words in their order
+abbrev pub files_asked : ArgumentsValue → List Text
+files_asked a = a.file ∷ a.others
+
+-- The words ask for this, the sources are what is read of their files, and the members are those of their JSON file.
 abbrev pub IsInput : {T : Type 0} → (T → Text → Option Text → Type 0) → (T → Option Text → Type 0) → T → List Text → Input → Type 0
 IsInput of_file of_input texts words input =
     (asked [] None None None words ≡ Some input.asked)
-    × IsRead of_file of_input texts input.asked.file (Some input.source)
+    × AreRead of_file of_input texts (files_asked input.asked) input.sources
     × IsMembers of_file texts input.asked.json input.members
 
 -- Nothing is read of the file, or no text.
@@ -102,17 +145,21 @@ abbrev pub IsUnread : {T : Type 0} → (T → Text → Option Text → Type 0) �
 IsUnread {T = T} of_file of_input texts file =
     IsRead of_file of_input texts file None ⊎ ((bytes : Text) × IsRead of_file of_input texts file (Some bytes) × (IsUtf8 bytes → ⊥))
 
+-- There is such a file among these.
+abbrev pub HaveUnread : {T : Type 0} → (T → Text → Option Text → Type 0) → (T → Option Text → Type 0) → T → List Text → Type 0
+HaveUnread of_file of_input texts files = Any (IsUnread of_file of_input texts) files
+
 -- Nothing is read of the JSON file, or no object without floats.
 abbrev pub IsNoObject : {T : Type 0} → (T → Text → Option Text → Type 0) → T → Option Text → Type 0
 IsNoObject of_file texts None = ⊥
 IsNoObject of_file texts (Some file) = of_file texts file None ⊎ ((bytes : Text) × of_file texts file (Some bytes)
     × (IsUtf8 bytes → members_read bytes ≡ None))
 
--- The files of the words don't serve: the template's gives no text, or it gives one and the JSON file gives no object.
+-- The files of the words don't serve: a template's gives no text, or each gives one and the JSON file gives no object.
 abbrev pub IsUseless : {T : Type 0} → (T → Text → Option Text → Type 0) → (T → Option Text → Type 0) → T → ArgumentsValue → Type 0
 IsUseless of_file of_input texts a =
-    IsUnread of_file of_input texts a.file ⊎ ((source : Text) × IsRead of_file of_input texts a.file (Some source)
-    × IsNoObject of_file texts a.json)
+    HaveUnread of_file of_input texts (files_asked a)
+    ⊎ ((sources : List (Text × Text)) × AreRead of_file of_input texts (files_asked a) sources × IsNoObject of_file texts a.json)
 
 -- The words ask for nothing, or for files that don't serve.
 abbrev pub IsWrongUse : {T : Type 0} → (T → Text → Option Text → Type 0) → (T → Option Text → Type 0) → T → List Text → Type 0
@@ -120,15 +167,15 @@ IsWrongUse of_file of_input texts words =
     (asked [] None None None words ≡ None) ⊎ ((a : ArgumentsValue) × (asked [] None None None words ≡ Some a)
     × IsUseless of_file of_input texts a)
 
--- The source spells a tree whose render is done, and the writer got its text without a fault.
+-- The input means a render that is done, and the writer got its text without a fault.
 abbrev pub IsRendered : {W : Type 0} → (W → Option Text) → Input → Tally W → Tally W → Type 0
 IsRendered contents input old new =
-    (tree : Tree) × Spells default_syntax input.source tree × (chain_of (meaning_of input tree) ≡ [])
-    × Appends (contents old.writer) (contents new.writer) (meaning_of input tree).text × (new.failures ≡ old.failures)
+    (outcome : Outcome) × Means input outcome × (chain_of outcome ≡ [])
+    × Appends (contents old.writer) (contents new.writer) outcome.text × (new.failures ≡ old.failures)
 
--- The source spells a tree, and the writer got a beginning of the text that it means.
+-- The writer got a beginning of the text that the input means.
 abbrev pub IsBegun : Input → Option Text → Option Text → Type 0
-IsBegun input old new = (tree : Tree) × Spells default_syntax input.source tree × AppendsBeginning old new (meaning_of input tree).text
+IsBegun input old new = (outcome : Outcome) × Means input outcome × AppendsBeginning old new outcome.text
 
 -- A render ends with this error, and the writer holds what that error leaves. Its count of failures rose where a write failed, and only
 -- there.
@@ -143,10 +190,10 @@ pub data IsFault {W : Type 0} (contents : W → Option Text) (input : Input) (ch
       IsFault contents input chain old new
   -- the flush failed, behind the whole text
   flush_failed : chain ≡ WriteFailure ∷ [] → IsRendered contents input old new → IsFault contents input chain old new
-  -- the source spells no tree
+  -- a source spells no tree
   no_tree : chain ≡ SyntaxError ∷ [] → new.failures ≡ old.failures → Keeps (contents old.writer) (contents new.writer) →
-      SpellsNone default_syntax input.source →
+      SpellNone default_syntax input.sources →
       IsFault contents input chain old new
   -- the fault is the one that was meant, behind all text that was heard before it
-  meant : (tree : Tree) → Spells default_syntax input.source tree → chain_of (meaning_of input tree) ≡ chain → new.failures ≡ old.failures →
-      Appends (contents old.writer) (contents new.writer) (meaning_of input tree).text → IsFault contents input chain old new
+  meant : (outcome : Outcome) → Means input outcome → chain_of outcome ≡ chain → new.failures ≡ old.failures →
+      Appends (contents old.writer) (contents new.writer) outcome.text → IsFault contents input chain old new

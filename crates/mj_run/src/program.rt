@@ -1,15 +1,16 @@
 //! The program over words, files and streams that it is given.
-ghost use Rattle.std.specs.Prelude.{◌≡◌, ◌≢◌, ◌≤◌, ◌⊎◌, List, [], ◌∷◌, ⊤, true, Option, None, Some, map, option_map, string_bytes};
+ghost use Rattle.std.specs.Prelude.{◌≡◌, ◌≢◌, ◌≤◌, ◌⊎◌, List, [], ◌∷◌, ⊤, true, false, Option, None, Some, map, option_map, string_bytes};
 ghost use Rattle.std.specs.Prelude.{MatchResult};
 ghost use Rattle.tm_values.specs.declared.error.ErrorKind.{ErrorKind as Kind};
 ghost use Rattle.tm_meaning.specs.Memory.{is_want_of_memory};
-ghost use Rattle.mj_words.specs.CommandLine.{Text, asked};
-ghost use Rattle.mj_run.specs.Program.{Input, IsRead, IsInput, IsUnread, IsMembers, IsNoObject, IsWrongUse, IsRendered, IsFault, FilesStay};
+ghost use Rattle.mj_words.specs.CommandLine.{Text, are_files, asked, files_of, is_input};
+ghost use Rattle.mj_run.specs.Program.{Input, IsRead, IsInput, IsUnread, IsMembers, IsNoObject, IsWrongUse, IsRendered, IsFault};
+ghost use Rattle.mj_run.specs.Program.{AreRead, FilesStay, HaveUnread, InputStays, named};
 ghost use Rattle.mj_words.specs.Told.{IsTold, message, usage};
 
 use crate::render::render;
 use mj_json::members;
-use mj_words::{Refusal, parse, tell_error, tell_refusal};
+use mj_words::{Arguments, Refusal, parse, tell_error, tell_refusal};
 use std::alloc::Global;
 use std::io::{self, Write};
 use tm_parts::Counted;
@@ -26,11 +27,12 @@ pub trait Texts {
     // The same of standard input.
     ghost of_input: { Self → Option Text → Type 0 } = { λ _ _. ⊤ };
 
-    /// The bytes of a file.
+    /// The bytes of a file. What may be read of standard input is left.
     fn file(&mut self, path: &str) -> io::Result<Vec<u8>>
         ensures read { MatchResult result (λ bytes. of_file self.old path.now (Some bytes.items))
             (λ _. of_file self.old path.now None) }
-        ensures stay { FilesStay of_file self.old self.new };
+        ensures stay { FilesStay of_file self.old self.new }
+        ensures left { InputStays of_input self.old self.new };
 
     /// The bytes of standard input.
     fn standard_input(&mut self) -> io::Result<Vec<u8>>
@@ -39,8 +41,9 @@ pub trait Texts {
         ensures stay { FilesStay of_file self.old self.new };
 }
 
-/// Renders what the words ask for to `out` as it goes, tells faults to `err`, and gives the exit
-/// status: 0 where all was written, 1 behind a fault, 2 where the words or the files do not serve.
+/// Renders the first file of the words to `out` as it goes, with all of them as templates, tells
+/// faults to `err`, and gives the exit status: 0 where all was written, 1 behind a fault, 2 where
+/// the words or the files do not serve.
 pub fn run<T: Texts, O: Write + Drop, E: Write + Drop>(
     alloc: Global,
     words: &[String],
@@ -68,15 +71,15 @@ pub fn run<T: Texts, O: Write + Drop, E: Write + Drop>(
         Ok(arguments) => arguments,
         Err(refusal) => return tell_refusal(err, refusal),
     };
-    let source = match read_source(texts, arguments.file) {
-        Ok(source) => source,
+    let sources = match read_sources(alloc, texts, &arguments) {
+        Ok(sources) => sources,
         Err(refusal) => return tell_refusal(err, refusal),
     };
     let members = match read_members(alloc, texts, arguments.json) {
         Ok(members) => members,
         Err(refusal) => return tell_refusal(err, refusal),
     };
-    match render(alloc, &arguments, members, source, out) {
+    match render(alloc, &arguments, members, sources, out) {
         Ok(()) => SUCCESS,
         Err(error) => tell_error(err, &error),
     }
@@ -102,6 +105,30 @@ fn read_members<T: Texts>(
     }
 }
 
+/// The files of the words with their sources. OutOfMemory where no memory is found, and else Usage
+/// where nothing is read of a file, or no UTF-8.
+fn read_sources<'a, T: Texts>(
+    alloc: Global,
+    texts: &mut T,
+    arguments: &Arguments<'a>,
+) -> Result<Vec<(&'a str, String)>, Refusal>
+    requires { are_files false (files_of arguments.now) ≡ true }
+    ensures read { MatchResult result
+        (λ sources. AreRead T.of_file T.of_input texts.old (files_of arguments.now)
+        (map named sources.items))
+        (λ e. (e ≡ Refusal.OutOfMemory)
+        ⊎ HaveUnread T.of_file T.of_input texts.old (files_of arguments.now)) }
+    ensures stay { FilesStay T.of_file texts.old texts.new }
+{
+    let mut sources = Vec::new(alloc);
+    sources.push((arguments.file, read_source(texts, arguments.file)?))?;
+    for file in arguments.others {
+        let source = read_source(texts, file)?;
+        sources.push((file.as_str(), source))?;
+    }
+    Ok(sources)
+}
+
 /// The source of a template. OutOfMemory where a read finds no memory, and else Usage where nothing
 /// is read, or no UTF-8.
 fn read_source<T: Texts>(texts: &mut T, file: &str) -> Result<String, Refusal>
@@ -109,6 +136,7 @@ fn read_source<T: Texts>(texts: &mut T, file: &str) -> Result<String, Refusal>
         (λ source. IsRead T.of_file T.of_input texts.old file.now (Some (string_bytes source)))
         (λ _. IsUnread T.of_file T.of_input texts.old file.now) }
     ensures stay { FilesStay T.of_file texts.old texts.new }
+    ensures left { is_input file.now ≡ false → InputStays T.of_input texts.old texts.new }
 {
     match read_bytes(texts, file) {
         Ok(bytes) => match String::from_utf8(bytes) {
@@ -125,6 +153,7 @@ fn read_bytes<T: Texts>(texts: &mut T, file: &str) -> io::Result<Vec<u8>>
         (λ bytes. IsRead T.of_file T.of_input texts.old file.now (Some bytes.items))
         (λ _. IsRead T.of_file T.of_input texts.old file.now None) }
     ensures stay { FilesStay T.of_file texts.old texts.new }
+    ensures left { is_input file.now ≡ false → InputStays T.of_input texts.old texts.new }
 {
     if file == "-" {
         texts.standard_input()

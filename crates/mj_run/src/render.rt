@@ -1,33 +1,40 @@
 //! The render that the words ask for.
-ghost use Rattle.std.specs.Prelude.{◌≡◌, List, [], ◌∷◌, map, min, string_bytes, MatchResult};
+ghost use Rattle.std.specs.Prelude.{◌≡◌, List, [], ◌∷◌, map, min, MatchResult, OnOk, IfErr};
 ghost use Rattle.tm_values.specs.Val.{Val};
 ghost use Rattle.mj_words.specs.CommandLine.{plain};
 ghost use Rattle.template_machine.specs.Environment.{greatest_limit, new_environment};
-ghost use Rattle.mj_run.specs.Program.{Input, input_of, context_of, limit_of, IsMeant, IsRendered, IsFault};
+ghost use Rattle.tm_syntax.specs.Named.{Named};
+ghost use Rattle.tm_templates.specs.Templates.{Compiled};
+ghost use Rattle.tm_values.specs.Answer.{Refused};
+ghost use Rattle.mj_run.specs.Program.{Input, input_of, context_of, limit_of, named, IsMeant, IsRendered, IsFault};
+ghost use Rattle.mj_run.specs.Program.{AreAdded, BeginWith, SpellNone};
 
 use mj_words::Arguments;
 use std::alloc::Global;
 use std::io::Write;
 use std::mem;
-use template_machine::{Environment, Parties, StateIds, TemplateOf};
+use template_machine::{Environment, EnvironmentOf, Parties, StateIds, TemplateOf};
 use tm_parts::Counted;
 use tm_values::{Error, ErrorKind, Value, ValueMap};
 
-/// Renders the source and flushes, also after a render that failed, whose error is the one that
-/// counts. SyntaxError where the source spells no template, WriteFailure where a write or the flush
-/// fails, OutOfMemory where there is no memory; else the fault that was meant.
+/// Renders the first of the sources, with all of them as templates, and flushes, also after a render
+/// that failed, whose error is the one that counts. SyntaxError where a source spells no template,
+/// WriteFailure where a write or the flush fails, OutOfMemory where there is no memory; else the
+/// fault that was meant.
 pub fn render<O: Write + Drop>(
     alloc: Global,
     arguments: &Arguments<'_>,
     members: Vec<(Value, Value)>,
-    source: String,
+    sources: Vec<(&str, String)>,
     out: &mut Counted<O>,
 ) -> Result<(), Error>
-    ensures { let input = input_of arguments.now members.items (string_bytes source) in MatchResult result
+    requires { BeginWith arguments.now.file.now (map named sources.items) }
+    ensures { let input = input_of arguments.now members.items (map named sources.entry.items) in
+        MatchResult result
         (λ _. IsRendered O.contents input out.old out.new)
         (λ e. IsFault O.contents input e out.old out.new) }
 {
-    let rendered = render_unflushed(alloc, arguments, members, source, out);
+    let rendered = render_unflushed(alloc, arguments, members, sources, out);
     let flushed = out.flush();
     rendered?;
     match flushed {
@@ -36,15 +43,17 @@ pub fn render<O: Write + Drop>(
     }
 }
 
-/// Renders the source, whose end may still be in a buffer of the writer.
+/// Renders the first of the sources, whose end may still be in a buffer of the writer.
 fn render_unflushed<O: Write + Drop>(
     alloc: Global,
     arguments: &Arguments<'_>,
     members: Vec<(Value, Value)>,
-    source: String,
+    sources: Vec<(&str, String)>,
     out: &mut Counted<O>,
 ) -> Result<(), Error>
-    ensures { let input = input_of arguments.now members.items (string_bytes source) in MatchResult result
+    requires { BeginWith arguments.now.file.now (map named sources.items) }
+    ensures { let input = input_of arguments.now members.items (map named sources.entry.items) in
+        MatchResult result
         (λ _. IsRendered O.contents input out.old out.new)
         (λ e. IsFault O.contents input e out.old out.new) }
 {
@@ -52,31 +61,53 @@ fn render_unflushed<O: Write + Drop>(
     // The process ends after the render, so neither the context nor the environment is freed.
     mem::forget(context.share()?);
     let mut environment = Environment::new(alloc)?;
-    let rendered = render_in(&mut environment, arguments, source, context, out);
+    let rendered = render_in(&mut environment, arguments, sources, context, out);
     mem::forget(environment);
     rendered
 }
 
-/// Renders the source in a new environment, over the context of the words and any members.
+/// Renders the first of the sources in a new environment, over the context of the words and any
+/// members.
 fn render_in<O: Write + Drop>(
     environment: &mut Environment<'_>,
     arguments: &Arguments<'_>,
-    source: String,
+    sources: Vec<(&str, String)>,
     context: Value,
     out: &mut Counted<O>,
 ) -> Result<(), Error>
     requires new { environment.now ≡ new_environment }
+    requires first { BeginWith arguments.now.file.now (map named sources.items) }
     ensures { (members : List (Val × Val)) →
         context ≡ context_of members (map plain arguments.now.texts.items) →
-        let input = input_of arguments.now members (string_bytes source) in MatchResult result
+        let input = input_of arguments.now members (map named sources.entry.items) in
+        MatchResult result
         (λ _. IsRendered O.contents input out.old out.new)
         (λ e. IsFault O.contents input e out.old out.new) }
 {
     environment.set_fuel(arguments.fuel);
     environment.set_recursion_limit(limit(arguments.limit));
-    environment.add_template_owned(arguments.file, source)?;
+    add_templates(environment, sources)?;
     let template = environment.get_template(arguments.file)?;
     render_template(&template, context, out)
+}
+
+/// Makes each source the template of its file's name, one after the other, in place of an earlier
+/// one.
+fn add_templates<P: Parties>(
+    environment: &mut EnvironmentOf<'_, P>,
+    sources: Vec<(&str, String)>,
+) -> Result<(), Error>
+    ensures ok { OnOk result ((after : Named Compiled)
+        × AreAdded environment.old.syntax (P.stated environment.old.objects).escapes
+        (map named sources.entry.items) environment.old.templates after
+        × (environment.new ≡ record environment.old { templates = after })) }
+    ensures refused { IfErr result (λ e.
+        Refused e (SpellNone environment.old.syntax (map named sources.entry.items))) }
+{
+    for (file, source) in sources {
+        environment.add_template_owned(file, source)?;
+    }
+    Ok(())
 }
 
 /// Renders the template as the first state: as any input that it means.

@@ -1,6 +1,6 @@
 -- What the words of a command line ask for.
-use Rattle.std.specs.Prelude.{ℕ, ◌^◌, List, codes, [], ◌∷◌, ◌++◌, length, map, drop, slice_index, Option, None, Some, option_map, Bool}
-use Rattle.std.specs.Prelude.{◌&&◌, ◌==◌, nat_lt, if◌then◌else◌}
+use Rattle.std.specs.Prelude.{ℕ, ◌^◌, List, codes, [], ◌∷◌, ◌++◌, length, map, drop, slice_index, Option, None, Some, option_map, Bool, true, false}
+use Rattle.std.specs.Prelude.{◌&&◌, ◌==◌, nat_lt, if◌then◌else◌, string_bytes}
 use Rattle.std.specs.Borrow.{Bor}
 use Rattle.std.specs.List.{before_first, after_first, position_or_len}
 use Rattle.std.specs.Str.{all_ascii_digits, bytes_eq}
@@ -10,17 +10,31 @@ use Rattle.mj_words.specs.declared.arguments.Arguments.{Arguments}
 abbrev pub Text : Type 0
 Text = List ℕ
 
--- the texts by name in their order, the JSON file of the context, the fuel, how deep scopes may lie, and the template's file
+-- the texts by name in their order, the JSON file of the context, the fuel, how deep scopes may lie, the file of the template that is
+-- rendered, and those of the others in their order
 pub record ArgumentsValue : Type 0 where
   pub texts : List (Text × Text)
   pub json : Option Text
   pub fuel : Option ℕ
   pub limit : Option ℕ
   pub file : Text
+  pub others : List Text
 
 -- a word that begins with `-`, and is not `-` alone
 abbrev pub is_option : Text → Bool
 is_option word = nat_lt 1 (length word) && (slice_index word 0 == 45)
+
+-- standard input as a file
+abbrev pub is_input : Text → Bool
+is_input word = bytes_eq word (codes "-")
+
+-- no word is an option, and standard input is named once at most, counting whether it was named before them
+abbrev pub are_files : Bool → List Text → Bool
+are_files named [] = true
+are_files named (word ∷ words) =
+    if is_option word then false
+    else if is_input word then (if named then false else are_files true words)
+    else are_files named words
 
 -- a word that begins with `-D`
 abbrev pub begins_definition : Text → Bool
@@ -46,7 +60,7 @@ abbrev pub with_text : Option (Text × Text) → (Text × Text → Option Argume
 with_text None go_on = None
 with_text (Some p) go_on = go_on p
 
--- what words ask for, behind others that gave these texts, this JSON file, this fuel and this limit: options, and then one file
+-- what words ask for, behind others that gave these texts, this JSON file, this fuel and this limit: options, and then files
 abbrev mutual
   pub asked : List (Text × Text) → Option Text → Option ℕ → Option ℕ → List Text → Option ArgumentsValue
   asked texts json fuel limit [] = None
@@ -58,7 +72,8 @@ abbrev mutual
       else if bytes_eq word (codes "-D") then asked_text texts json fuel limit words
       else if begins_definition word then with_text (definition (drop 2 word)) (λ p. asked (texts ++ (p ∷ [])) json fuel limit words)
       else None)
-      else if length words == 0 then Some (record { texts = texts; json = json; fuel = fuel; limit = limit; file = word })
+      else if are_files false (word ∷ words)
+      then Some (record { texts = texts; json = json; fuel = fuel; limit = limit; file = word; others = words })
       else None
 
   -- the same behind `--json`, whose file stands in place of an earlier one, whatever its name is
@@ -93,7 +108,12 @@ asked_of a = record {
   fuel = a.fuel;
   limit = a.limit;
   file = a.file.now;
+  others = map string_bytes a.others.now;
 }
+
+-- the files of the words in their order
+abbrev pub files_of : Arguments → List Text
+files_of a = a.file.now ∷ map string_bytes a.others.now
 
 -- what the words behind these arguments ask for
 abbrev pub asked_behind : Arguments → List Text → Option ArgumentsValue

@@ -1,6 +1,6 @@
 //! The words of a command line.
 ghost use Rattle.std.specs.Prelude.{◌≡◌, ◌<◌, ◌≤◌, ◌⊎◌, ◌↔◌, [], ◌∷◌, None, Some, false, true, drop, length, map, string_bytes};
-ghost use Rattle.std.specs.Prelude.{MatchOption, MatchResult};
+ghost use Rattle.std.specs.Prelude.{IfOk, MatchOption, MatchResult};
 ghost use Rattle.std.specs.IoError.{error_kind};
 ghost use Rattle.mj_words.specs.CommandLine as spec;
 
@@ -18,8 +18,10 @@ pub struct Arguments<'a> {
     pub fuel: Option<u64>,
     /// How deep scopes may lie, where that is said.
     pub limit: Option<u64>,
-    /// The file of the template; `-` is standard input.
+    /// The file of the template that is rendered; `-` is standard input.
     pub file: &'a str,
+    /// The files of other templates.
+    pub others: &'a [String],
 }
 
 /// Why there is nothing to run.
@@ -67,12 +69,14 @@ impl<T: Drop> From<AllocFailed<T>> for Refusal {
     }
 }
 
-/// Reads the words after the program's name: options, and then one file.
+/// Reads the words after the program's name: options, and then files, among which standard input is
+/// named once at most.
 pub fn parse(alloc: Global, words: &[String]) -> Result<Arguments<'_>, Refusal>
-    ensures { let asked = spec.asked [] None None None (map string_bytes words.now) in
+    ensures asked { let asked = spec.asked [] None None None (map string_bytes words.now) in
         MatchResult result
         (λ a. asked ≡ Some (spec.asked_of a))
         (λ e. (e ≡ Refusal.OutOfMemory) ⊎ ((e ≡ Refusal.Usage) × (asked ≡ None))) }
+    ensures files { IfOk result (λ a. spec.are_files false (spec.files_of a) ≡ true) }
 {
     let mut arguments = Arguments {
         texts: Vec::new(alloc),
@@ -80,13 +84,15 @@ pub fn parse(alloc: Global, words: &[String]) -> Result<Arguments<'_>, Refusal>
         fuel: None,
         limit: None,
         file: "",
+        others: &[],
     };
     let mut rest = words;
     while let Some((word, after)) = first(rest) {
         if is_option(word) {
             rest = take_option(&mut arguments, word, after)?;
-        } else if after.is_empty() {
+        } else if are_files(rest) {
             arguments.file = word;
+            arguments.others = after;
             return Ok(arguments);
         } else {
             return Err(Refusal::Usage);
@@ -142,6 +148,25 @@ fn first(words: &[String]) -> Option<(&str, &[String])>
         Some((word, after)) => Some((word.as_str(), after)),
         None => None,
     }
+}
+
+/// Whether no word is an option, and standard input is named once at most.
+fn are_files(words: &[String]) -> bool
+    ensures { result ≡ spec.are_files false (map string_bytes words.now) }
+{
+    let mut named = false;
+    for word in words {
+        if is_option(word) {
+            return false;
+        }
+        if word.as_str() == "-" {
+            if named {
+                return false;
+            }
+            named = true;
+        }
+    }
+    true
 }
 
 /// Whether a word is no file.

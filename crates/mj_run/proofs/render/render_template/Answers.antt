@@ -1,4 +1,5 @@
-use Rattle.mj_run.proofs.Rendered.{is_done, is_fault, at_first, passed}
+use Rattle.mj_run.proofs.Rendered.{is_done, is_fault, at_first}
+use Rattle.mj_run.proofs.Lists.{passed}
 use Rattle.mj_run.proofs.render.render_template.Goals as goal
 
 pub returns : goal.returns

@@ -1,6 +1,7 @@
-use Rattle.std.specs.Prelude.{string_bytes}
-use Rattle.mj_run.specs.Program.{input_of}
-use Rattle.mj_run.proofs.Rendered.{is_memory, passed}
+use Rattle.std.specs.Prelude.{map}
+use Rattle.mj_run.specs.Program.{input_of, named}
+use Rattle.mj_run.proofs.Rendered.{is_memory}
+use Rattle.mj_run.proofs.Lists.{passed}
 use Rattle.mj_run.proofs.render.render_unflushed.Goals as goal
 
 -- no memory for the names and texts
@@ -8,5 +9,5 @@ pub returns-in_err-context : goal.returns-in_err-context
 returns-in_err-context g c =
     let r = c.in_err-context in
     passed c.from_residual.result _ _ r.field-0.0 c.from_residual.ensures.1
-    (is_memory g.O.Write.contents (input_of c.args.arguments.now c.args.members.items (string_bytes c.args.source)) r.field-0.0
+    (is_memory g.O.Write.contents (input_of c.args.arguments.now c.args.members.items (map named c.args.sources.items)) r.field-0.0
     c.args.out.now r.ensures)
