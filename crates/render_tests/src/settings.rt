@@ -1,6 +1,6 @@
 //! Tables of rows, with settings between them.
 
-use crate::callbacks::{method_of, rule_of, style_of};
+use crate::callbacks::{folder_of, method_of, rule_of, style_of};
 use crate::party::{Party, Rows, add_objects};
 use crate::renders::{Given, Setup, are, expect_row, fault_of, row_of, template_of, usual};
 use crate::{blocks, bounds, loops, macros, rows, values};
@@ -102,6 +102,7 @@ fn set(environment: &mut Rows<'_>, word: &str, rest: &str) -> bool {
         "remove" => environment.remove_global(rest),
         "methods" => environment.set_unknown_method_callback(method_of(rest)),
         "formatter" => environment.set_formatter(style_of(rest)),
+        "joins" => environment.set_path_join_callback(folder_of(rest)),
         "rule" => environment.set_auto_escape_callback(rule_of(rest)),
         "set" => return is_set(environment, rest),
         _ => return false,
@@ -237,9 +238,10 @@ fn long_sources_render(rt: HostRuntime) -> Result<(), Fail> {
     bounds::expect_long(rt.alloc(), &environment)
 }
 
-/// Asks an environment without functions, and gives it a method object and formatters.
+/// Asks an environment without functions, and gives it what joins names, a method object and formatters.
 fn expect_empty(alloc: Global, environment: &mut Rows<'_>) -> Result<(), Fail> {
     expect_table(alloc, environment, EMPTY)?;
+    expect_table(alloc, environment, blocks::JOINED)?;
     expect_table(alloc, environment, RULES)?;
     expect_table(alloc, environment, METHODS)?;
     expect_table(alloc, environment, FORMATTERS)
