@@ -1,5 +1,5 @@
 -- A template that is included.
-use Rattle.std.proofs.Common.{◌≡◌, ◌+◌, ◌-◌, ◌≤◌, ◌∙◌, ◌||◌, ℕ, List, [], ◌∷◌, length, drop, Option, Some, None, Bool, true, false, nat_lt, not}
+use Rattle.std.proofs.Common.{◌≡◌, ◌+◌, ◌-◌, ◌≤◌, ◌∙◌, ◌||◌, ℕ, List, [], ◌∷◌, length, drop, Option, Some, None, Bool, false, nat_lt, not}
 use Rattle.std.proofs.Common.{Result, Ok, Err, refl, sym, ap, subst, arith}
 use Rattle.std.proofs.lemmas.Bool.Decides.{nat_tests}
 use Rattle.std.specs.Borrow.{Bor}
@@ -21,9 +21,8 @@ use Rattle.tm_meaning.specs.declared.stream.TemplateId.{TemplateId}
 use Rattle.tm_meaning.specs.declared.stream.TemplateId.TheVariants.{Entry}
 use Rattle.tm_meaning.specs.declared.wrapping.Wrapping.TheVariants.{BadInclude}
 use Rattle.tm_tables.specs.Lists.{AreBlocksOf, ListsValue, alone_in}
-use Rattle.tm_state.specs.Answers.{NeedsSuper, OneDeeper, StandsDeeper}
+use Rattle.tm_state.specs.Answers.{NeedsSuper, OneDeeper}
 use Rattle.tm_state.specs.State.{put_back, saved_include}
-use Rattle.tm_state.specs.declared.nested.NestedRun.{NestedRun}
 use Rattle.tm_state.specs.declared.nested.RunOf.TheVariants as run_of
 use Rattle.tm_state.specs.declared.saved.Saved.TheVariants as saved
 use Rattle.tm_state.specs.declared.saved.SavedInclude.{SavedInclude}

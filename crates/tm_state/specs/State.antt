@@ -4,7 +4,7 @@ use Rattle.std.specs.Prelude.{option_and_then}
 use Rattle.tm_syntax.specs.Named.{find}
 use Rattle.tm_values.specs.Val.{MacroData, Val, undefined}
 use Rattle.tm_values.specs.declared.escape.AutoEscape.{AutoEscape}
-use Rattle.tm_meaning.specs.World.{Named, World, Loop, loop_scope, new_loop, root_of, block_of, plain_scope, with_frames}
+use Rattle.tm_meaning.specs.World.{World, Loop, loop_scope, new_loop, root_of, block_of, plain_scope, with_frames}
 use Rattle.tm_meaning.specs.World.{own_closure, owning}
 use Rattle.tm_meaning.specs.Calls.{Asked, runs, cut_to, block_call, macro_call, Undo, of_block, of_super, of_macro, of_include, Callee, whole}
 use Rattle.tm_meaning.specs.Calls.{macro_of, outermost}

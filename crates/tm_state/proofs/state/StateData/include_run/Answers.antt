@@ -1,4 +1,4 @@
-use Rattle.std.proofs.Common.{rules, ◌≡◌, ◌∙◌, ◌||◌, Some}
+use Rattle.std.proofs.Common.{rules, ◌∙◌, ◌||◌, Some}
 use Rattle.tm_meaning.specs.Calls.{enter_include, no_values}
 use Rattle.tm_meaning.specs.declared.stream.TemplateId.TheVariants.{Entry}
 use Rattle.tm_state.proofs.Included.{chosen, refused_on}

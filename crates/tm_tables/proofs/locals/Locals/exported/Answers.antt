@@ -1,10 +1,9 @@
-use Rattle.std.proofs.Common.{◌≡◌, ◌∙◌, ◌++◌, ◌∷◌, [], ap, sym, subst, reverse, arith, length, ◌≤◌, take}
+use Rattle.std.proofs.Common.{◌≡◌, ◌∙◌, ◌++◌, ◌∷◌, [], ap, sym, subst, reverse, arith, length, ◌≤◌}
 use Rattle.std.proofs.lemmas.List.{append-nil}
 use Rattle.std.proofs.lemmas.List.{take_all}
 use Rattle.tm_values.specs.Map.{put_all}
 use Rattle.tm_values.specs.Answer.{OkOrOutOfMemory}
 use Rattle.tm_meaning.specs.World.{exported}
-use Rattle.tm_tables.specs.Locals.{in_order}
 use Rattle.tm_tables.proofs.Exported.{exported-append, exported-more, exported_map}
 use Rattle.tm_tables.proofs.locals.Locals.exported.Goals as goal
 
