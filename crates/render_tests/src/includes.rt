@@ -170,6 +170,7 @@ const INCLUDES: &str = r#"Templates that others include.
 
 /// Templates that others import.
 const IMPORTS: &str = r#"Templates that others import.
+- @undefined-names
 - @template f {% macro f(x) %}<{{ x }}>{% endmacro %}{% set _p = 1 %}{% set q = 2 %}text
 - {% import "f" as m %}{{ m.f(5) }}{{ m.q }}{{ m._p }} => <5>2 => 28
 - {% import "f" as m %}{{ m }} => text => 15
