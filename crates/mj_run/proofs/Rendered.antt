@@ -19,7 +19,7 @@ use Rattle.tm_output.specs.Counts.{Tally, AppendsBeginning}
 use Rattle.tm_templates.specs.Defaults.{escape_by_name, escape_of}
 use Rattle.tm_templates.specs.declared.defaults.EscapeSetting.{EscapeSetting}
 use Rattle.tm_templates.specs.declared.defaults.EscapeSetting.TheVariants as setting
-use Rattle.tm_tables.specs.Stated.{Table, StatedObjects, language_functions, stated_of}
+use Rattle.tm_tables.specs.Stated.{Join, Table, StatedObjects, language_functions, stated_of}
 use Rattle.tm_templates.specs.Templates.{Compiled, IsRefused}
 use Rattle.tm_meaning.specs.declared.stream.TemplateId.{TemplateId}
 use Rattle.tm_meaning.specs.declared.stream.TemplateId.TheVariants.{Entry}
@@ -54,13 +54,13 @@ means_same fs gs o p name templates fuel limit t id context same =
     ap (λ (hs : StatedObjects). meaning (λ x. x) (template_over hs name templates fuel limit t) id context) same
 
 -- without objects there are the functions of the language
-abbrev first_objects : {C M F R : Type 0} → Table C M F (EscapeSetting R)
+abbrev first_objects : {C M F R J : Type 0} → Table C M F (EscapeSetting R) J
 first_objects = language_functions setting.ByName
 
-pub none_of : {C M F R : Type 0} (answers : C → Object) (falls : M → Fallback) (formats : F → Format) (rules : R → List ℕ → AutoEscape)
-    (objects : Table C M F (EscapeSetting R)) → objects ≡ first_objects →
-    stated_of answers falls formats (escape_of rules) objects ≡ own_objects
-none_of answers falls formats rules objects none = ap (stated_of answers falls formats (escape_of rules)) none
+pub none_of : {C M F R J : Type 0} (answers : C → Object) (falls : M → Fallback) (formats : F → Format) (rules : R → List ℕ → AutoEscape)
+    (joins : J → Join) (objects : Table C M F (EscapeSetting R) J) → objects ≡ first_objects →
+    stated_of answers falls formats (escape_of rules) joins objects ≡ own_objects
+none_of answers falls formats rules joins objects none = ap (stated_of answers falls formats (escape_of rules) joins) none
 
 compiled_is : (t : Compiled) (name source : Text) (escape : AutoEscape) → t.name ≡ name → t.source ≡ source → t.escape ≡ escape →
     t ≡ record { name = name; source = source; escape = escape; tree = t.tree }
@@ -69,36 +69,36 @@ compiled_is t name source escape named from escaped =
     ∙ ap (λ (x : Text). let u : Compiled = record t { name = name; source = x } in u) from
     ∙ ap (λ (x : AutoEscape). let u : Compiled = record { name = name; source = source; escape = x; tree = t.tree } in u) escaped
 
-abbrev Parts : Type 0 → Type 0 → Type 0 → Type 0 → Type 0
-Parts C M F R = Table C M F (EscapeSetting R)
+abbrev Parts : Type 0 → Type 0 → Type 0 → Type 0 → Type 0 → Type 0
+Parts C M F R J = Table C M F (EscapeSetting R) J
 
-module _ {C M F R : Type 0} where
-  abbrev empty : EnvironmentValue (Parts C M F R)
+module _ {C M F R J : Type 0} where
+  abbrev empty : EnvironmentValue (Parts C M F R J)
   empty = new_environment
 
-  abbrev settled : ArgumentsValue → EnvironmentValue (Parts C M F R)
+  abbrev settled : ArgumentsValue → EnvironmentValue (Parts C M F R J)
   settled a = record empty { fuel = a.fuel; limit = limit_of a.limit }
 
   -- what an environment is behind its settings
-  pub started : (a : ArgumentsValue) (limit : ℕ) (first fuelled set : EnvironmentValue (Parts C M F R)) → first ≡ empty →
+  pub started : (a : ArgumentsValue) (limit : ℕ) (first fuelled set : EnvironmentValue (Parts C M F R J)) → first ≡ empty →
       fuelled ≡ record first { fuel = a.fuel } →
       set ≡ record fuelled { limit = min limit greatest_limit } → min limit greatest_limit ≡ limit_of a.limit → set ≡ settled a
   started a limit first fuelled set start fuel limited same =
-      limited ∙ (ap (λ (e : EnvironmentValue (Parts C M F R)). record e { limit = min limit greatest_limit }) (fuel
-      ∙ ap (λ (e : EnvironmentValue (Parts C M F R)). record e { fuel = a.fuel }) start)
+      limited ∙ (ap (λ (e : EnvironmentValue (Parts C M F R J)). record e { limit = min limit greatest_limit }) (fuel
+      ∙ ap (λ (e : EnvironmentValue (Parts C M F R J)). record e { fuel = a.fuel }) start)
       ∙ ap (λ n. record empty { fuel = a.fuel; limit = n }) same)
 
   -- another template of the environment in which one was put alone
-  abbrev put_there_as : ArgumentsValue → Compiled → Compiled → TemplateValue (Parts C M F R)
+  abbrev put_there_as : ArgumentsValue → Compiled → Compiled → TemplateValue (Parts C M F R J)
   put_there_as a t u = template_over first_objects a.file (put a.file t []) a.fuel (limit_of a.limit) u
 
   -- a template that was put alone
-  abbrev put_alone : ArgumentsValue → Compiled → TemplateValue (Parts C M F R)
+  abbrev put_alone : ArgumentsValue → Compiled → TemplateValue (Parts C M F R J)
   put_alone a t = put_there_as a t t
 
   -- The template that is found means what the words and a tree of the source mean.
-  is_meant : (fs gs : StatedObjects) (i : Input) (set added : EnvironmentValue (Parts C M F R)) (t : Compiled)
-      (found : TemplateValue (Parts C M F R)) (context : Val) →
+  is_meant : (fs gs : StatedObjects) (i : Input) (set added : EnvironmentValue (Parts C M F R J)) (t : Compiled)
+      (found : TemplateValue (Parts C M F R J)) (context : Val) →
       (found.environment.objects ≡ first_objects → fs ≡ own_objects) → (set.objects ≡ first_objects → gs ≡ own_objects) →
       set ≡ settled i.asked → IsTemplateOf (λ _. gs) set i.asked.file i.source t →
       added ≡ record set { templates = put i.asked.file t set.templates } →
@@ -108,52 +108,53 @@ module _ {C M F R : Type 0} where
       let a = i.asked in
       let source = i.source in
       let whole : added ≡ record (settled a) { templates = put a.file t [] } =
-      put_there ∙ ap (λ (e : EnvironmentValue (Parts C M F R)). record e { templates = put a.file t e.templates }) start in
+      put_there ∙ ap (λ (e : EnvironmentValue (Parts C M F R J)). record e { templates = put a.file t e.templates }) start in
       let template : t ≡ found.template = found_is_put a.file t found.template
-      (subst (λ (e : EnvironmentValue (Parts C M F R)). find a.file e.templates ≡ Some found.template) whole there) in
+      (subst (λ (e : EnvironmentValue (Parts C M F R J)). find a.file e.templates ≡ Some found.template) whole there) in
       let alone : found ≡ put_alone a t =
-      ap (λ (e : EnvironmentValue (Parts C M F R)). let v : TemplateValue
-      (Parts C M F R) = record { environment = e; id = found.id; template = found.template } in v) (same ∙ whole)
+      ap (λ (e : EnvironmentValue (Parts C M F R J)). let v : TemplateValue
+      (Parts C M F R J) = record { environment = e; id = found.id; template = found.template } in v) (same ∙ whole)
       ∙ ap (λ (x : TemplateId). let v : TemplateValue
-      (Parts C M F R) = record { environment = record (settled a) { templates = put a.file t [] }; id = x; template = found.template } in v)
+      (Parts C M F R J) = record { environment = record (settled a) { templates = put a.file t [] }; id = x; template = found.template } in v)
       id
       ∙ ap (λ (u : Compiled). put_there_as a t u) (sym template) in
       let objects : found.environment.objects ≡ first_objects =
-      ap (λ (e : EnvironmentValue (Parts C M F R)). e.objects) (same ∙ whole) in
+      ap (λ (e : EnvironmentValue (Parts C M F R J)). e.objects) (same ∙ whole) in
       let escaped : t.escape ≡ escape_by_name a.file = is.escape_is
       ∙ ap (λ (hs : StatedObjects). hs.escapes a.file)
-      (none_set (ap (λ (e : EnvironmentValue (Parts C M F R)). e.objects) start)) in
+      (none_set (ap (λ (e : EnvironmentValue (Parts C M F R J)). e.objects) start)) in
       let named : t ≡ record { name = a.file; source = source; escape = escape_by_name a.file; tree = t.tree } =
       compiled_is t a.file source (escape_by_name a.file) is.name_is is.source_is escaped in (
         t.tree,
-        subst (λ (e : EnvironmentValue (Parts C M F R)). Spells e.syntax source t.tree) start is.spelled,
-        ap (λ (v : TemplateValue (Parts C M F R)). meaning (λ _. fs) v 0 context) alone
+        subst (λ (e : EnvironmentValue (Parts C M F R J)). Spells e.syntax source t.tree) start is.spelled,
+        ap (λ (v : TemplateValue (Parts C M F R J)). meaning (λ _. fs) v 0 context) alone
             ∙ (ap (λ v. meaning (λ _. fs) (put_alone a t) 0 v) given
-            ∙ (means_same {O = Parts C M F R} {P = StatedObjects} fs own_objects first_objects own_objects a.file
+            ∙ (means_same {O = Parts C M F R J} {P = StatedObjects} fs own_objects first_objects own_objects a.file
             (put a.file t []) a.fuel (limit_of a.limit) t 0 (context_of i.members a.texts) (none objects)
             ∙ ap (λ (u : Compiled). meaning (λ fs. fs) (template_in a u) 0 (context_of i.members a.texts)) named)),
       )
 
   -- The same of what the objects of the environment state.
   pub is_meant_by : (answers : C → Object) (falls : M → Fallback) (formats : F → Format) (rules : R → List ℕ → AutoEscape)
-      (i : Input) (set added : EnvironmentValue (Parts C M F R)) (t : Compiled) (found : TemplateValue (Parts C M F R)) (context : Val) →
-      set ≡ settled i.asked → IsTemplateOf (stated_of answers falls formats (escape_of rules)) set i.asked.file i.source t →
+      (joins : J → Join) (i : Input) (set added : EnvironmentValue (Parts C M F R J)) (t : Compiled)
+      (found : TemplateValue (Parts C M F R J)) (context : Val) →
+      set ≡ settled i.asked → IsTemplateOf (stated_of answers falls formats (escape_of rules) joins) set i.asked.file i.source t →
       added ≡ record set { templates = put i.asked.file t set.templates } →
       IsEntryOf added i.asked.file found → context ≡ context_of i.members i.asked.texts →
-      IsMeant (stated_of answers falls formats (escape_of rules)) found context i
-  is_meant_by answers falls formats rules i set added t found context start is put_there entry given =
-      let stated = stated_of answers falls formats (escape_of rules) in
+      IsMeant (stated_of answers falls formats (escape_of rules) joins) found context i
+  is_meant_by answers falls formats rules joins i set added t found context start is put_there entry given =
+      let stated = stated_of answers falls formats (escape_of rules) joins in
       is_meant (stated found.environment.objects) (stated set.objects) i set added t found context
-      (λ e. none_of answers falls formats rules found.environment.objects e) (λ e. none_of answers falls formats rules set.objects e)
-      start is put_there entry given
+      (λ e. none_of answers falls formats rules joins found.environment.objects e)
+      (λ e. none_of answers falls formats rules joins set.objects e) start is put_there entry given
 
   -- The template is found: it was put.
-  pub is_found : {X : Type 0} (name : Text) (set added : EnvironmentValue (Parts C M F R)) (t : Compiled) → set.templates ≡ [] →
+  pub is_found : {X : Type 0} (name : Text) (set added : EnvironmentValue (Parts C M F R J)) (t : Compiled) → set.templates ≡ [] →
       added ≡ record set { templates = put name t set.templates } →
       find name added.templates ≡ None → X
   is_found name set added t start put_there none =
       let there : find name added.templates ≡ Some t =
-      ap (λ (e : EnvironmentValue (Parts C M F R)). find name e.templates) put_there ∙ ap (λ es. find name (put name t es)) start
+      ap (λ (e : EnvironmentValue (Parts C M F R J)). find name e.templates) put_there ∙ ap (λ es. find name (put name t es)) start
       ∙ found_there name t in
       absurd (cc)
 

@@ -3,6 +3,7 @@ use Rattle.std.specs.Prelude.{ℕ, List, [], ◌∷◌, ◌++◌, Ok, Err, None,
 use Rattle.std.specs.Ordering.{is_eq}
 use Rattle.tm_values.specs.Order.{val_cmp}
 use Rattle.tm_values.specs.Val.{Val, undefined, none, number, text}
+use Rattle.tm_values.specs.Answer.{Answer}
 use Rattle.tm_values.specs.declared.error.ErrorKind.{ErrorKind}
 use Rattle.tm_values.specs.declared.error.ErrorKind.TheVariants.{MissingArgument}
 use Rattle.tm_values.specs.declared.escape.AutoEscape.{AutoEscape}
@@ -40,18 +41,18 @@ swapped v view = if is_eq (val_cmp v none) then formatted None (undefined false)
 abbrev pub escape_of_t : AutoEscape → List ℕ → AutoEscape
 escape_of_t escape name = if same_name name (codes "t") then escape else escapes.None
 
--- the name in a folder
-abbrev pub in_folder : List ℕ → List ℕ → List ℕ
-in_folder folder name = (folder ++ codes "/") ++ name
+-- the name of what lies in a folder
+abbrev pub in_folder : List ℕ → List ℕ → Answer (List ℕ)
+in_folder folder name = Ok (folder ++ codes "/" ++ name)
 
--- in `lib`, whichever template runs
+-- in lib
 abbrev pub in_lib : Join
-in_lib name parent = Ok (in_folder (codes "lib") name)
+in_lib name parent = in_folder (codes "lib") name
 
--- in the folder that the template's name is
-abbrev pub below : Join
-below name parent = Ok (in_folder parent name)
+-- in what the running template's name names
+abbrev pub in_parent : Join
+in_parent name parent = in_folder parent name
 
 -- a fault of this kind
-abbrev pub no_name : ErrorKind → Join
-no_name kind name parent = Err (kind ∷ [])
+abbrev pub nowhere : ErrorKind → Join
+nowhere kind name parent = Err (kind ∷ [])

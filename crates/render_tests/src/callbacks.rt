@@ -1,11 +1,11 @@
-//! The method objects, the formatters, the escape rules and what joins names of the rows.
-ghost use Rattle.std.specs.Prelude.{[], ◌∷◌, ◌≡◌};
-ghost use Rattle.tm_values.specs.Answer.{OkOrOutOfMemory};
+//! The method objects, the formatters, the escape rules and what joins names in the rows.
+ghost use Rattle.std.specs.Prelude.{[], ◌∷◌};
+ghost use Rattle.tm_values.specs.Answer.{IsAnswer};
 ghost use Rattle.render_tests.specs.Asked.{named, keeps, faulty, marked, no_zero, swapped, escape_of_t};
-ghost use Rattle.render_tests.specs.Asked.{below, in_folder, in_lib, no_name};
+ghost use Rattle.render_tests.specs.Asked.{in_folder, in_lib, in_parent, nowhere};
 ghost use Rattle.render_tests.specs.declared.callbacks.Method.TheVariants.{Named, Keeper, Lost};
 ghost use Rattle.render_tests.specs.declared.callbacks.Style.TheVariants.{Marked, NoZero, Swapped};
-ghost use Rattle.render_tests.specs.declared.callbacks.Folder.TheVariants.{Below, Lib, Nowhere};
+ghost use Rattle.render_tests.specs.declared.callbacks.Folder.TheVariants.{InLib, InParent, Nowhere};
 
 use std::alloc::Global;
 use template_machine::*;
@@ -98,45 +98,45 @@ impl EscapeRule for OfT {
     }
 }
 
-/// What joins the names of the rows' templates.
+/// What joins names in the rows.
 #[derive(Clone, Copy)]
 pub(crate) enum Folder {
-    /// `lib/` and the name.
-    Lib,
-    /// The name of the template that runs, `/` and the name.
-    Below,
+    /// A name lies in `lib`.
+    InLib,
+    /// It lies in what the running template's name names.
+    InParent,
     /// Answers a fault.
     Nowhere(ErrorKind),
 }
 
+/// The name of what lies in a folder.
+fn in_folder(alloc: Global, folder: &str, name: &str) -> Result<Name, Error>
+    ensures { IsAnswer result (in_folder folder.now name.now) }
+{
+    let mut text = String::from_str(alloc, folder)?;
+    text.push_str("/")?;
+    text.push_str(name)?;
+    Ok(Name::new(alloc, text.as_str())?)
+}
+
 impl PathJoin for Folder {
-    ghost joins = { elim [ Lib ↦ in_lib | Below ↦ below | Nowhere kind ↦ no_name kind ] };
+    ghost joins = { elim [ InLib ↦ in_lib | InParent ↦ in_parent | Nowhere kind ↦ nowhere kind ] };
 
     fn join(&self, alloc: Global, name: &str, parent: &str) -> Result<Name, Error> {
         match self {
-            Folder::Lib => name_in(alloc, "lib", name),
-            Folder::Below => name_in(alloc, parent, name),
+            Folder::InLib => in_folder(alloc, "lib", name),
+            Folder::InParent => in_folder(alloc, parent, name),
             Folder::Nowhere(kind) => Err(Error::from(*kind)),
         }
     }
 }
 
-/// The name of a template in a folder. Fails by OutOfMemory alone.
-fn name_in(alloc: Global, folder: &str, name: &str) -> Result<Name, Error>
-    ensures { OkOrOutOfMemory result (λ joined. joined ≡ in_folder folder.now name.now) }
-{
-    let mut joined = String::from_str(alloc, folder)?;
-    joined.push_str("/")?;
-    joined.push_str(name)?;
-    Ok(Name::new(alloc, joined.as_str())?)
-}
-
 /// What joins names, of a word.
 pub(crate) fn folder_of(word: &str) -> Folder {
     match word {
-        "lib" => Folder::Lib,
-        "below" => Folder::Below,
-        _ => Folder::Nowhere(ErrorKind::MissingArgument),
+        "parent" => Folder::InParent,
+        "missing" => Folder::Nowhere(ErrorKind::MissingArgument),
+        _ => Folder::InLib,
     }
 }
 

@@ -243,39 +243,38 @@ const IMPORTS: &str = r#"Templates that others import.
 - {% from "f" import q as n.q %} =>  => SyntaxError
 - {% from "f" %} =>  => SyntaxError"#;
 
-/// What joins names.
-const JOINED: &str = r#"What joins names.
+/// What templates include and import where an object joins names.
+const JOINED: &str = r#"What templates include and import where an object joins names.
 - @template lib/i ok
 - @template lib/j [{% include "i" %}]
 - @template lib/base B{% block a %}{% include "i" %}{% endblock %}
-- {% include "lib/i" %} => ok => 3
-- @join lib
-- {% include "i" %} => ok => 3
+- {% include "lib/i" %} => ok => 3 => gets i i
+- @joins lib
+- {% include "i" %} => ok => 3 => gets i lib/i
 - {% include "j" %} => [ok] => 7
 - {% include ["no", "i"] %} => ok => 5
 - {% include "lib/i" %} =>  => TemplateNotFound
 - {% extends "base" %} => Bok => ok => name lib/base
 - {% import "i" as m %}{{ m }} => ok => ok
 - {% from "i" import q %}[{{ q }}] => [] => ok
-- @join missing
+- @joins missing
 - a{% include "i" %} => a => MissingArgument
 - {% include "i" ignore missing %} =>  => MissingArgument
 - {% include ["no", "i"] ignore missing %} =>  => MissingArgument
 - {% import "i" as m %} =>  => MissingArgument
 - {% from "i" import m %} =>  => MissingArgument
-- {% extends "i" %} =>  => MissingArgument
-- {% include [] %} =>  => ok
+- {% include [] %} =>  => 2 => gets i MissingArgument
 - {% include 1 %} =>  => InvalidOperation
-- @join below
+- @joins parent
 - @template t/i ({% include "j" %})
 - @template t/i/j {{ title() }}
+- @template t/j T
 - @template t/base [{% block a %}{% endblock %}{% include "j" %}]
 - @template t/base/j J
-- @template t/j T
 - @name t
-- {% include "i" %} => (t/i/j) => ok => name t
+- {% include "i" %} => (t/i/j) => ok => gets i/j t/i/j
 - {% import "i" as m %}{{ m }} => (t/i/j) => ok => name t
-- {% extends "base" %}{% block a %}{% include "j" %}{% endblock %} => [TJ] => ok => name t/base"#;
+- {% extends "base" %}{% block a %}{% include "j" %}{% endblock %} => [TJ] => ok => gets j t/base/j"#;
 
 /// Templates for states, each behind its name.
 static PARTS: [(&str, &str); 4] = [
@@ -334,15 +333,15 @@ fn gives(environment: &Rows<'_>, name: &str, text: &str) -> Result<bool, Error> 
 
 /// Adds 200 templates: c0 is `x`, and each one behind includes the one before it.
 fn add_chain(alloc: Global, environment: &mut Rows<'_>) -> Result<(), Error> {
+    let mut before = String::from_str(alloc, "c0")?;
     environment.add_template("c0", "x")?;
     for number in 1..200_usize {
-        let before = number - 1;
         let name = format!(in alloc; "c{number}")?;
-        let mut source = String::from_str(alloc, "{% include 'c")?;
-        let place = format!(in alloc; "{before}")?;
-        source.push_str(place.as_str())?;
+        let mut source = String::from_str(alloc, "{% include '")?;
+        source.push_str(before.as_str())?;
         source.push_str("' %}")?;
         environment.add_template_owned(name.as_str(), source)?;
+        before = name;
     }
     Ok(())
 }
@@ -395,62 +394,6 @@ fn is_called(alloc: Global, environment: &Rows<'_>) -> Result<bool, Error> {
     )
 }
 
-/// Whether a state gives a template with this name and source.
-fn leads(state: &Left<'_>, word: &str, name: &str, source: &str) -> bool {
-    match state.get_template(word) {
-        Ok(template) => template.name() == name && template.source() == source,
-        Err(_) => false,
-    }
-}
-
-/// Whether it has none, with this kind.
-fn lacks(state: &Left<'_>, word: &str, kind: ErrorKind) -> bool {
-    match state.get_template(word) {
-        Ok(_) => false,
-        Err(error) => error.kind() == kind && error.cause().is_none(),
-    }
-}
-
-/// Whether the state of a render finds these templates by `word`: none where no name is given.
-fn finds(
-    environment: &Rows<'_>,
-    word: &str,
-    name: &str,
-    source: &str,
-    kind: ErrorKind,
-) -> Result<bool, Error> {
-    let template = environment.template_from_named_str("t", "x")?;
-    let mut ids = StateIds::new();
-    let captured = template.render_captured_to(&mut ids, Value::undefined(), &mut NullWriter)?;
-    let state = captured.state();
-    Ok((name.is_empty() || leads(state, word, name, source)) && lacks(state, "no", kind))
-}
-
-/// Asks states for templates, by names that nothing joins and that an object does.
-fn expect_templates(alloc: Global, environment: &mut Rows<'_>) -> Result<(), Fail> {
-    let none = ErrorKind::TemplateNotFound;
-    expect(
-        finds(environment, "i", "i", "ab{{ 1 }}", none)?,
-        "the template of a state",
-    )?;
-    expect_table(alloc, environment, JOINED)?;
-    expect(
-        finds(environment, "base/j", "t/base/j", "J", none)?,
-        "a template below",
-    )?;
-    expect_table(alloc, environment, "\n- @join lib")?;
-    expect(
-        finds(environment, "i", "lib/i", "ok", none)?,
-        "a template of a folder",
-    )?;
-    expect_table(alloc, environment, "\n- @join missing")?;
-    let missing = ErrorKind::MissingArgument;
-    expect(
-        finds(environment, "", "", "", missing)?,
-        "a name that isn't joined",
-    )
-}
-
 /// Adds the templates for states.
 fn add_parts(environment: &mut Rows<'_>) -> Result<(), Error> {
     for (name, source) in PARTS {
@@ -469,7 +412,7 @@ fn expect_includes(alloc: Global, environment: &mut Rows<'_>) -> Result<(), Fail
     expect_states(environment, STATES)?;
     expect(is_called(alloc, environment)?, "a macro that was imported")?;
     expect_chain(alloc, environment)?;
-    expect_templates(alloc, environment)
+    expect_table(alloc, environment, JOINED)
 }
 
 #[test]

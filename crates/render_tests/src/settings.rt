@@ -102,8 +102,8 @@ fn set(environment: &mut Rows<'_>, word: &str, rest: &str) -> bool {
         "remove" => environment.remove_global(rest),
         "methods" => environment.set_unknown_method_callback(method_of(rest)),
         "formatter" => environment.set_formatter(style_of(rest)),
+        "joins" => environment.set_path_join_callback(folder_of(rest)),
         "rule" => environment.set_auto_escape_callback(rule_of(rest)),
-        "join" => environment.set_path_join_callback(folder_of(rest)),
         "set" => return is_set(environment, rest),
         _ => return false,
     }
@@ -239,9 +239,10 @@ fn long_sources_render(rt: HostRuntime) -> Result<(), Fail> {
     bounds::expect_long(rt.alloc(), &environment)
 }
 
-/// Asks an environment without functions, and gives it a method object and formatters.
+/// Asks an environment without functions, and gives it what joins names, a method object and formatters.
 fn expect_empty(alloc: Global, environment: &mut Rows<'_>) -> Result<(), Fail> {
     expect_table(alloc, environment, EMPTY)?;
+    expect_table(alloc, environment, blocks::JOINED)?;
     expect_table(alloc, environment, RULES)?;
     expect_table(alloc, environment, METHODS)?;
     expect_table(alloc, environment, FORMATTERS)
