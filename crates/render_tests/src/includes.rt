@@ -312,7 +312,7 @@ fn is_refused(error: &Error, includes: usize) -> bool {
     fault.kind() == ErrorKind::InvalidOperation && fault.cause().is_none()
 }
 
-/// Whether the render of a template is refused behind so many includes, with this text before.
+/// Whether the render of a template is refused behind so many includes, with nothing written.
 fn ends(alloc: Global, environment: &Rows<'_>, name: &str, includes: usize) -> Result<bool, Error> {
     let mut writer = Counted::new(Vec::new(alloc));
     let template = environment.get_template(name)?;
