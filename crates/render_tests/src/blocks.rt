@@ -169,7 +169,7 @@ pub(crate) const JOINED: &str =
 /// A source; the name of the template that the state of its render stands in; the names that it
 /// exports; and calls of its blocks, each with a text behind `:` or with the kinds of a fault
 /// behind `!`.
-static STATES: [&str; 11] = [
+pub(crate) const STATES: &[&str] = &[
     "{% if false %}{% block b %}{% for x in [1] %}{{ y.z }}{% endfor %}{% endblock %}{% endif %}ok => <string> =>  => b!UndefinedError b!UndefinedError no!UnknownBlock",
     "{% set v = 1 %}{% if false %}{% block b %}{% for x in [1] %}{% set w = 3 %}{{ y.z }}{% endfor %}{% endblock %}{% block c %}{% set w = 2 %}{{ v }}{{ w }}{% endblock %}{% endif %} => <string> => v => c:12 b!UndefinedError c:12 no!UnknownBlock b!UndefinedError c:12",
     r#"{% extends "mid" %}{% block a %}c{{ super() }}{% endblock %} => base =>  => a:cmx a:cmx"#,
@@ -236,8 +236,8 @@ fn is_state(environment: &Rows<'_>, row: &Row<'_>) -> Result<bool, Error> {
 }
 
 /// Asks states for their blocks.
-pub(crate) fn expect_states(environment: &Rows<'_>) -> Result<(), Fail> {
-    for line in STATES {
+pub(crate) fn expect_states(environment: &Rows<'_>, lines: &[&str]) -> Result<(), Fail> {
+    for &line in lines {
         let row = row_of(line);
         if !is_state(environment, &row)? {
             return Err(Fail::new(row.source));
@@ -359,7 +359,7 @@ fn is_too_deep(environment: &Rows<'_>, blocks: usize) -> bool {
 }
 
 /// A failure of this name, where something isn't so.
-fn expect(holds: bool, name: &str) -> Result<(), Fail> {
+pub(crate) fn expect(holds: bool, name: &str) -> Result<(), Fail> {
     if holds {
         return Ok(());
     }

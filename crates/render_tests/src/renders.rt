@@ -177,12 +177,17 @@ pub(crate) fn is_chain(error: &Error, kinds: &str) -> bool {
     rest.is_none()
 }
 
-/// How many runs of blocks an error came through, and what it was inside them.
+/// Whether a kind says that a fault came through a run.
+fn is_wrapping(kind: ErrorKind) -> bool {
+    kind == ErrorKind::EvalBlock || kind == ErrorKind::BadInclude
+}
+
+/// How many runs of blocks and of templates that were included an error came through, and what it was inside them.
 pub(crate) fn fault_of(error: &Error) -> (usize, &Error) {
     let mut fault = error;
     for depth in 0..usize::MAX {
         match fault.cause() {
-            Some(cause) if fault.kind() == ErrorKind::EvalBlock => fault = cause,
+            Some(cause) if is_wrapping(fault.kind()) => fault = cause,
             _ => return (depth, fault),
         }
     }

@@ -84,7 +84,7 @@ fn rendered<'source>(environment: &Rows<'source>, source: &'source str) -> Resul
     template.render(&mut StateIds::new(), Value::undefined())
 }
 
-/// Whether it does, be it in a block that another one runs.
+/// Whether it does, be it in a block or a template that another one runs.
 fn runs_out<'source>(environment: &Rows<'source>, source: &'source str) -> bool {
     match rendered(environment, source) {
         Ok(_) => false,
@@ -120,6 +120,7 @@ fn add<'source>(
     let (name, source) = rest.split_once(' ').unwrap_or((rest, ""));
     match word {
         "global" => environment.add_global(name, Value::number(source.parse().unwrap_or(0))),
+        "text" => environment.add_global(name, Value::text(alloc, source)?),
         "second" => environment.add_function(rest, Party::Second),
         "template" => environment.add_template(name, source),
         "owned" => environment.add_template_owned(name, String::from_str(alloc, source)?),
@@ -135,7 +136,7 @@ fn change<'source>(
     rest: &'source str,
 ) -> Result<bool, Error> {
     match word {
-        "global" | "second" | "template" | "owned" | "angles" => {
+        "global" | "text" | "second" | "template" | "owned" | "angles" => {
             add(alloc, environment, word, rest)?;
             Ok(true)
         }
@@ -161,7 +162,7 @@ fn change_setup<'source>(setup: &mut Setup<'source>, word: &str, rest: &'source 
 }
 
 /// Renders a table's rows behind its heading. A row that begins with `@` is a setting.
-fn expect_table<'source>(
+pub(crate) fn expect_table<'source>(
     alloc: Global,
     environment: &mut Rows<'source>,
     table: &'source str,
@@ -215,7 +216,7 @@ static TABLES: [&str; 26] = [
 fn expect_tables(alloc: Global, environment: &mut Rows<'_>) -> Result<(), Fail> {
     add_objects(environment)?;
     blocks::add_layouts(environment)?;
-    blocks::expect_states(environment)?;
+    blocks::expect_states(environment, blocks::STATES)?;
     blocks::expect_written(alloc, environment)?;
     blocks::expect_chains(alloc, environment)?;
     for table in TABLES {
