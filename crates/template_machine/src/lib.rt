@@ -15,8 +15,8 @@ pub use state::{Captured, CapturedOf, State, StateOf};
 pub use template::{Template, TemplateOf};
 pub use tm_compiler::{
     Application, Argument, BinaryOperator, CallBlock, Comparison, Condition, Expr, ForLoop,
-    Imported, Instruction, Keyword, Macro, Name, NameMap, Pair, Parameter, RawText, Step, Stmt, Streams,
-    SyntaxConfig, SyntaxConfigBuilder, Tree, UnaryOperator, generate, parse,
+    Imported, Instruction, Keyword, Macro, Name, NameMap, Pair, Parameter, RawText, Step, Stmt,
+    Streams, SyntaxConfig, SyntaxConfigBuilder, Tree, UnaryOperator, generate, parse,
 };
 pub use tm_meaning::{Call, GlobalFunction, Reply};
 pub use tm_operations as operations;

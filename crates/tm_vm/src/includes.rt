@@ -30,9 +30,7 @@ impl Machine {
         let Some(value) = self.run.pop() else {
             return Err(Halt::Stuck);
         };
-        let entry = self
-            .state
-            .include_run(alloc, host, &value, missing, heard)?;
+        let entry = self.state.include_run(alloc, host, &value, missing, heard)?;
         self.run.advance();
         match entry {
             Some(entry) => Ok(Flow::Enter(entry)),
