@@ -13,7 +13,7 @@ fi
 
 passed=0
 failed=0
-for input in hello.txt mail.txt server.conf page.html notice.txt table.html menu.html about.html; do
+for input in hello.txt mail.txt server.conf page.html notice.txt table.html menu.html about.html shop.html letter.txt; do
     base=${input%.*}
     words=()
     if [[ -f $base.json ]]; then

@@ -1,5 +1,5 @@
 //! Renders standard input over one name and one filter, so that bench/instructions can count what a filter costs, and what
-//! blocks cost. The input is one template, or several, each behind a line `=== NAME` with its name: then the first is
+//! blocks and includes cost. The input is one template, or several, each behind a line `=== NAME` with its name: then the first is
 //! rendered. A number behind the program's name says how often.
 #![tactic(auto)]
 

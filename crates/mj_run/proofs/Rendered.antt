@@ -16,7 +16,7 @@ use Rattle.tm_output.specs.Counts.{Tally}
 use Rattle.tm_templates.specs.Defaults.{escape_by_name, escape_of}
 use Rattle.tm_templates.specs.declared.defaults.EscapeSetting.{EscapeSetting}
 use Rattle.tm_templates.specs.declared.defaults.EscapeSetting.TheVariants as setting
-use Rattle.tm_tables.specs.Stated.{Table, StatedObjects, language_functions, stated_of}
+use Rattle.tm_tables.specs.Stated.{Join, Table, StatedObjects, language_functions, stated_of}
 use Rattle.tm_templates.specs.Templates.{Compiled}
 use Rattle.tm_meaning.specs.declared.stream.TemplateId.{TemplateId}
 use Rattle.tm_meaning.specs.declared.stream.TemplateId.TheVariants.{Entry}
@@ -44,40 +44,40 @@ means_same fs gs o p name templates fuel limit t id context same =
     ap (λ (hs : StatedObjects). meaning (λ x. x) (template_over hs name templates fuel limit t) id context) same
 
 -- without objects there are the functions of the language
-abbrev first_objects : {C M F R : Type 0} → Table C M F (EscapeSetting R)
+abbrev first_objects : {C M F R J : Type 0} → Table C M F (EscapeSetting R) J
 first_objects = language_functions setting.ByName
 
-pub none_of : {C M F R : Type 0} (answers : C → Object) (falls : M → Fallback) (formats : F → Format) (rules : R → List ℕ → AutoEscape)
-    (objects : Table C M F (EscapeSetting R)) → objects ≡ first_objects →
-    stated_of answers falls formats (escape_of rules) objects ≡ own_objects
-none_of answers falls formats rules objects none = ap (stated_of answers falls formats (escape_of rules)) none
+pub none_of : {C M F R J : Type 0} (answers : C → Object) (falls : M → Fallback) (formats : F → Format) (rules : R → List ℕ → AutoEscape)
+    (joins : J → Join) (objects : Table C M F (EscapeSetting R) J) → objects ≡ first_objects →
+    stated_of answers falls formats (escape_of rules) joins objects ≡ own_objects
+none_of answers falls formats rules joins objects none = ap (stated_of answers falls formats (escape_of rules) joins) none
 
-abbrev Parts : Type 0 → Type 0 → Type 0 → Type 0 → Type 0
-Parts C M F R = Table C M F (EscapeSetting R)
+abbrev Parts : Type 0 → Type 0 → Type 0 → Type 0 → Type 0 → Type 0
+Parts C M F R J = Table C M F (EscapeSetting R) J
 
-module _ {C M F R : Type 0} where
-  abbrev empty : EnvironmentValue (Parts C M F R)
+module _ {C M F R J : Type 0} where
+  abbrev empty : EnvironmentValue (Parts C M F R J)
   empty = new_environment
 
-  abbrev settled : ArgumentsValue → EnvironmentValue (Parts C M F R)
+  abbrev settled : ArgumentsValue → EnvironmentValue (Parts C M F R J)
   settled a = record empty { fuel = a.fuel; limit = limit_of a.limit }
 
   -- what an environment is behind its settings
-  pub started : (a : ArgumentsValue) (limit : ℕ) (first fuelled set : EnvironmentValue (Parts C M F R)) → first ≡ empty →
+  pub started : (a : ArgumentsValue) (limit : ℕ) (first fuelled set : EnvironmentValue (Parts C M F R J)) → first ≡ empty →
       fuelled ≡ record first { fuel = a.fuel } →
       set ≡ record fuelled { limit = min limit greatest_limit } → min limit greatest_limit ≡ limit_of a.limit → set ≡ settled a
   started a limit first fuelled set start fuel limited same =
-      limited ∙ (ap (λ (e : EnvironmentValue (Parts C M F R)). record e { limit = min limit greatest_limit }) (fuel
-      ∙ ap (λ (e : EnvironmentValue (Parts C M F R)). record e { fuel = a.fuel }) start)
+      limited ∙ (ap (λ (e : EnvironmentValue (Parts C M F R J)). record e { limit = min limit greatest_limit }) (fuel
+      ∙ ap (λ (e : EnvironmentValue (Parts C M F R J)). record e { fuel = a.fuel }) start)
       ∙ ap (λ n. record empty { fuel = a.fuel; limit = n }) same)
 
   -- a template of the environment with these templates
-  abbrev among : ArgumentsValue → Named Compiled → Compiled → TemplateValue (Parts C M F R)
+  abbrev among : ArgumentsValue → Named Compiled → Compiled → TemplateValue (Parts C M F R J)
   among a templates t = template_over first_objects a.file templates a.fuel (limit_of a.limit) t
 
   -- The template that is found means what the input means.
-  is_meant : (fs gs : StatedObjects) (i : Input) (set added : EnvironmentValue (Parts C M F R)) (templates : Named Compiled)
-      (found : TemplateValue (Parts C M F R)) (context : Val) →
+  is_meant : (fs gs : StatedObjects) (i : Input) (set added : EnvironmentValue (Parts C M F R J)) (templates : Named Compiled)
+      (found : TemplateValue (Parts C M F R J)) (context : Val) →
       (found.environment.objects ≡ first_objects → fs ≡ own_objects) → (set.objects ≡ first_objects → gs ≡ own_objects) →
       set ≡ settled i.asked → AreAdded set.syntax gs.escapes i.sources set.templates templates →
       added ≡ record set { templates = templates } →
@@ -86,40 +86,40 @@ module _ {C M F R : Type 0} where
   is_meant fs gs i set added templates found context none none_set start all put_there (same, id, there) given =
       let a = i.asked in
       let whole : added ≡ record (settled a) { templates = templates } =
-      put_there ∙ ap (λ (e : EnvironmentValue (Parts C M F R)). record e { templates = templates }) start in
+      put_there ∙ ap (λ (e : EnvironmentValue (Parts C M F R J)). record e { templates = templates }) start in
       let alone : found ≡ among a templates found.template =
-      ap (λ (e : EnvironmentValue (Parts C M F R)). let v : TemplateValue
-      (Parts C M F R) = record { environment = e; id = found.id; template = found.template } in v) (same ∙ whole)
+      ap (λ (e : EnvironmentValue (Parts C M F R J)). let v : TemplateValue
+      (Parts C M F R J) = record { environment = e; id = found.id; template = found.template } in v) (same ∙ whole)
       ∙ ap (λ (x : TemplateId). let v : TemplateValue
-      (Parts C M F R) = record { environment = record (settled a) { templates = templates }; id = x; template = found.template } in v)
+      (Parts C M F R J) = record { environment = record (settled a) { templates = templates }; id = x; template = found.template } in v)
       id in
       let objects : found.environment.objects ≡ first_objects =
-      ap (λ (e : EnvironmentValue (Parts C M F R)). e.objects) (same ∙ whole) in
+      ap (λ (e : EnvironmentValue (Parts C M F R J)). e.objects) (same ∙ whole) in
       let escaped : gs.escapes ≡ escape_by_name =
-      ap (λ (hs : StatedObjects). hs.escapes) (none_set (ap (λ (e : EnvironmentValue (Parts C M F R)). e.objects) start)) in (
+      ap (λ (hs : StatedObjects). hs.escapes) (none_set (ap (λ (e : EnvironmentValue (Parts C M F R J)). e.objects) start)) in (
         templates,
         found.template,
-        subst (λ (e : EnvironmentValue (Parts C M F R)). AreAdded e.syntax escape_by_name i.sources e.templates templates) start
+        subst (λ (e : EnvironmentValue (Parts C M F R J)). AreAdded e.syntax escape_by_name i.sources e.templates templates) start
             (subst (λ (escapes : Text → AutoEscape). AreAdded set.syntax escapes i.sources set.templates templates) escaped all),
-        subst (λ (e : EnvironmentValue (Parts C M F R)). find a.file e.templates ≡ Some found.template) whole there,
-        ap (λ (v : TemplateValue (Parts C M F R)). meaning (λ _. fs) v 0 context) alone
+        subst (λ (e : EnvironmentValue (Parts C M F R J)). find a.file e.templates ≡ Some found.template) whole there,
+        ap (λ (v : TemplateValue (Parts C M F R J)). meaning (λ _. fs) v 0 context) alone
             ∙ (ap (λ v. meaning (λ _. fs) (among a templates found.template) 0 v) given
-            ∙ means_same {O = Parts C M F R} {P = StatedObjects} fs own_objects first_objects own_objects a.file
+            ∙ means_same {O = Parts C M F R J} {P = StatedObjects} fs own_objects first_objects own_objects a.file
             templates a.fuel (limit_of a.limit) found.template 0 (context_of i.members a.texts) (none objects)),
       )
 
   -- The same of what the objects of the environment state.
   pub is_meant_by : (answers : C → Object) (falls : M → Fallback) (formats : F → Format) (rules : R → List ℕ → AutoEscape)
-      (i : Input) (set added : EnvironmentValue (Parts C M F R)) (templates : Named Compiled) (found : TemplateValue (Parts C M F R))
+      (joins : J → Join) (i : Input) (set added : EnvironmentValue (Parts C M F R J)) (templates : Named Compiled) (found : TemplateValue (Parts C M F R J))
       (context : Val) → set ≡ settled i.asked →
-      AreAdded set.syntax (stated_of answers falls formats (escape_of rules) set.objects).escapes i.sources set.templates templates →
+      AreAdded set.syntax (stated_of answers falls formats (escape_of rules) joins set.objects).escapes i.sources set.templates templates →
       added ≡ record set { templates = templates } →
       IsEntryOf added i.asked.file found → context ≡ context_of i.members i.asked.texts →
-      IsMeant (stated_of answers falls formats (escape_of rules)) found context i
-  is_meant_by answers falls formats rules i set added templates found context start all put_there entry given =
-      let stated = stated_of answers falls formats (escape_of rules) in
+      IsMeant (stated_of answers falls formats (escape_of rules) joins) found context i
+  is_meant_by answers falls formats rules joins i set added templates found context start all put_there entry given =
+      let stated = stated_of answers falls formats (escape_of rules) joins in
       is_meant (stated found.environment.objects) (stated set.objects) i set added templates found context
-      (λ e. none_of answers falls formats rules found.environment.objects e) (λ e. none_of answers falls formats rules set.objects e)
+      (λ e. none_of answers falls formats rules joins found.environment.objects e) (λ e. none_of answers falls formats rules joins set.objects e)
       start all put_there entry given
 
 -- a render as the first state of a counter

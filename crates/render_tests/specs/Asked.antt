@@ -1,8 +1,9 @@
--- What the tests' method objects, formatters and escape rules state.
-use Rattle.std.specs.Prelude.{ℕ, List, [], ◌∷◌, Ok, Err, None, false, codes, pos, if◌then◌else◌}
+-- What the tests' method objects, formatters, escape rules and what joins names state.
+use Rattle.std.specs.Prelude.{ℕ, List, [], ◌∷◌, ◌++◌, Ok, Err, None, false, codes, pos, if◌then◌else◌}
 use Rattle.std.specs.Ordering.{is_eq}
 use Rattle.tm_values.specs.Order.{val_cmp}
 use Rattle.tm_values.specs.Val.{Val, undefined, none, number, text}
+use Rattle.tm_values.specs.Answer.{Answer}
 use Rattle.tm_values.specs.declared.error.ErrorKind.{ErrorKind}
 use Rattle.tm_values.specs.declared.error.ErrorKind.TheVariants.{MissingArgument}
 use Rattle.tm_values.specs.declared.escape.AutoEscape.{AutoEscape}
@@ -10,7 +11,7 @@ use Rattle.tm_values.specs.declared.escape.AutoEscape.TheVariants as escapes
 use Rattle.tm_syntax.specs.Named.{same_name}
 use Rattle.tm_meaning.specs.World.{Fallback, Format, formatted}
 use Rattle.tm_meaning.specs.declared.reply.Reply.TheVariants.{Value as gives, Fault as faults}
-use Rattle.tm_tables.specs.Stated.{just, keeping}
+use Rattle.tm_tables.specs.Stated.{Join, just, keeping}
 
 -- the method's name
 abbrev pub named : Fallback
@@ -39,3 +40,19 @@ swapped v view = if is_eq (val_cmp v none) then formatted None (undefined false)
 -- this escape for the template t alone
 abbrev pub escape_of_t : AutoEscape → List ℕ → AutoEscape
 escape_of_t escape name = if same_name name (codes "t") then escape else escapes.None
+
+-- the name of what lies in a folder
+abbrev pub in_folder : List ℕ → List ℕ → Answer (List ℕ)
+in_folder folder name = Ok (folder ++ codes "/" ++ name)
+
+-- in lib
+abbrev pub in_lib : Join
+in_lib name parent = in_folder (codes "lib") name
+
+-- in what the running template's name names
+abbrev pub in_parent : Join
+in_parent name parent = in_folder parent name
+
+-- a fault of this kind
+abbrev pub nowhere : ErrorKind → Join
+nowhere kind name parent = Err (kind ∷ [])

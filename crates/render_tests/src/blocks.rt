@@ -138,10 +138,38 @@ pub(crate) const BLOCKS: &str = r#"Blocks, and templates that extend others.
 - {% for x in [[1]] recursive %}{% block b %}{{ loop(x) }}{% endblock %}{% endfor %} =>  => InvalidOperation
 - {% if false %}{% block b %}{% for x in [1] %}{{ y.z }}{% endfor %}{% endblock %}{% endif %}ok => ok => ok"#;
 
+/// Names of templates, as they are written and joined to the running template's.
+pub(crate) const JOINED: &str =
+    r#"Names of templates, as they are written and joined to the running template's.
+- @template base B
+- @template lib/base L:{% block a %}x{% endblock %}
+- @template lib/mid {% extends "base" %}{% block a %}m{{ super() }}{% endblock %}
+- @template lib/own {% extends "own" %}
+- @template lib/base/base P
+- {% extends "base" %} => B => ok => gets lib/base lib/base
+- {% extends "lib/own" %} =>  => TemplateNotFound
+- a => a => ok => gets own TemplateNotFound
+- @joins lib
+- {% extends "base" %}{% block a %}c{% endblock %} => L:c => ok => name lib/base
+- {% extends "mid" %}{% block a %}c{{ super() }}{% endblock %} => L:cmx => ok => gets own lib/own
+- {% extends "lib/base" %} =>  => TemplateNotFound
+- a => a => ok => gets lib/own TemplateNotFound
+- &lib/own =>  => InvalidOperation
+- {% extends "own" %} =>  => InvalidOperation
+- @joins parent
+- @name lib
+- {% extends "base" %} => L:x => ok => gets base lib/base/base
+- {% extends "mid" %} =>  => TemplateNotFound
+- @name <string>
+- {% extends "base" %} =>  => TemplateNotFound
+- @joins missing
+- a{% extends "base" %} => a => MissingArgument
+- a => a => ok => gets base MissingArgument"#;
+
 /// A source; the name of the template that the state of its render stands in; the names that it
 /// exports; and calls of its blocks, each with a text behind `:` or with the kinds of a fault
 /// behind `!`.
-static STATES: [&str; 11] = [
+pub(crate) const STATES: &[&str] = &[
     "{% if false %}{% block b %}{% for x in [1] %}{{ y.z }}{% endfor %}{% endblock %}{% endif %}ok => <string> =>  => b!UndefinedError b!UndefinedError no!UnknownBlock",
     "{% set v = 1 %}{% if false %}{% block b %}{% for x in [1] %}{% set w = 3 %}{{ y.z }}{% endfor %}{% endblock %}{% block c %}{% set w = 2 %}{{ v }}{{ w }}{% endblock %}{% endif %} => <string> => v => c:12 b!UndefinedError c:12 no!UnknownBlock b!UndefinedError c:12",
     r#"{% extends "mid" %}{% block a %}c{{ super() }}{% endblock %} => base =>  => a:cmx a:cmx"#,
@@ -208,8 +236,8 @@ fn is_state(environment: &Rows<'_>, row: &Row<'_>) -> Result<bool, Error> {
 }
 
 /// Asks states for their blocks.
-pub(crate) fn expect_states(environment: &Rows<'_>) -> Result<(), Fail> {
-    for line in STATES {
+pub(crate) fn expect_states(environment: &Rows<'_>, lines: &[&str]) -> Result<(), Fail> {
+    for &line in lines {
         let row = row_of(line);
         if !is_state(environment, &row)? {
             return Err(Fail::new(row.source));
@@ -331,7 +359,7 @@ fn is_too_deep(environment: &Rows<'_>, blocks: usize) -> bool {
 }
 
 /// A failure of this name, where something isn't so.
-fn expect(holds: bool, name: &str) -> Result<(), Fail> {
+pub(crate) fn expect(holds: bool, name: &str) -> Result<(), Fail> {
     if holds {
         return Ok(());
     }

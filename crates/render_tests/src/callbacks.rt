@@ -1,8 +1,11 @@
-//! The method objects, the formatters and the escape rules of the rows.
+//! The method objects, the formatters, the escape rules and what joins names in the rows.
 ghost use Rattle.std.specs.Prelude.{[], ◌∷◌};
+ghost use Rattle.tm_values.specs.Answer.{IsAnswer};
 ghost use Rattle.render_tests.specs.Asked.{named, keeps, faulty, marked, no_zero, swapped, escape_of_t};
+ghost use Rattle.render_tests.specs.Asked.{in_folder, in_lib, in_parent, nowhere};
 ghost use Rattle.render_tests.specs.declared.callbacks.Method.TheVariants.{Named, Keeper, Lost};
 ghost use Rattle.render_tests.specs.declared.callbacks.Style.TheVariants.{Marked, NoZero, Swapped};
+ghost use Rattle.render_tests.specs.declared.callbacks.Folder.TheVariants.{InLib, InParent, Nowhere};
 
 use std::alloc::Global;
 use template_machine::*;
@@ -92,6 +95,48 @@ impl EscapeRule for OfT {
         } else {
             AutoEscape::None
         }
+    }
+}
+
+/// What joins names in the rows.
+#[derive(Clone, Copy)]
+pub(crate) enum Folder {
+    /// A name lies in `lib`.
+    InLib,
+    /// It lies in what the running template's name names.
+    InParent,
+    /// Answers a fault.
+    Nowhere(ErrorKind),
+}
+
+/// The name of what lies in a folder.
+fn in_folder(alloc: Global, folder: &str, name: &str) -> Result<Name, Error>
+    ensures { IsAnswer result (in_folder folder.now name.now) }
+{
+    let mut text = String::from_str(alloc, folder)?;
+    text.push_str("/")?;
+    text.push_str(name)?;
+    Ok(Name::new(alloc, text.as_str())?)
+}
+
+impl PathJoin for Folder {
+    ghost joins = { elim [ InLib ↦ in_lib | InParent ↦ in_parent | Nowhere kind ↦ nowhere kind ] };
+
+    fn join(&self, alloc: Global, name: &str, parent: &str) -> Result<Name, Error> {
+        match self {
+            Folder::InLib => in_folder(alloc, "lib", name),
+            Folder::InParent => in_folder(alloc, parent, name),
+            Folder::Nowhere(kind) => Err(Error::from(*kind)),
+        }
+    }
+}
+
+/// What joins names, of a word.
+pub(crate) fn folder_of(word: &str) -> Folder {
+    match word {
+        "parent" => Folder::InParent,
+        "missing" => Folder::Nowhere(ErrorKind::MissingArgument),
+        _ => Folder::InLib,
     }
 }
 

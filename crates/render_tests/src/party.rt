@@ -19,7 +19,7 @@ ghost use Rattle.tm_values.specs.Val.{none, text_in};
 ghost use Rattle.tm_values.specs.declared.undefined.UndefinedBehavior.TheVariants.{Lenient};
 ghost use Rattle.tm_definitions.specs.Slices.{sliced};
 
-use crate::callbacks::{Method, OfT, Style};
+use crate::callbacks::{Folder, Method, OfT, Style};
 use std::alloc::Global;
 use template_machine::*;
 
@@ -318,7 +318,7 @@ fn block_named(alloc: Global, args: &[Value]) -> CallableAnswer
 }
 
 /// The objects of the rows.
-pub(crate) type Parts = Objects<Party, Method, Style, EscapeSetting<OfT>>;
+pub(crate) type Parts = Objects<Party, Method, Style, EscapeSetting<OfT>, Folder>;
 
 /// An environment of such objects.
 pub(crate) type Rows<'source> = EnvironmentOf<'source, Parts>;

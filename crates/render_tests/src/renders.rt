@@ -131,6 +131,15 @@ fn remains(state: &Left<'_>) -> Option<u64> {
     }
 }
 
+/// Whether the template that a name means to a state has the name behind it, or the fault is of that kind.
+fn gets(state: &Left<'_>, wanted: &str) -> bool {
+    let (name, found) = wanted.split_once(' ').unwrap_or((wanted, ""));
+    match state.get_template(name) {
+        Ok(template) => template.name() == found,
+        Err(error) => error.kind().name() == found,
+    }
+}
+
 /// Whether a state is left as a row asks.
 pub(crate) fn is_left(state: &Left<'_>, wanted: &str) -> bool {
     match wanted.split_once(' ') {
@@ -138,6 +147,7 @@ pub(crate) fn is_left(state: &Left<'_>, wanted: &str) -> bool {
         Some(("exports", names)) => lists(&state.exports(), names),
         Some(("keeps", name)) => keeps_apart(state, name).unwrap_or(false),
         Some(("fuel", fuel)) => remains(state) == fuel.parse().ok(),
+        Some(("gets", found)) => gets(state, found),
         Some(("name", name)) => state.name() == name && state.auto_escape() == AutoEscape::None,
         Some(("first", name)) => match state.lookup(name) {
             Ok(found) => found == Some(Value::function(3)),
@@ -167,12 +177,17 @@ pub(crate) fn is_chain(error: &Error, kinds: &str) -> bool {
     rest.is_none()
 }
 
-/// How many runs of blocks an error came through, and what it was inside them.
+/// Whether a kind says that a fault came through a run.
+fn is_wrapping(kind: ErrorKind) -> bool {
+    kind == ErrorKind::EvalBlock || kind == ErrorKind::BadInclude
+}
+
+/// How many runs of blocks and of templates that were included an error came through, and what it was inside them.
 pub(crate) fn fault_of(error: &Error) -> (usize, &Error) {
     let mut fault = error;
     for depth in 0..usize::MAX {
         match fault.cause() {
-            Some(cause) if fault.kind() == ErrorKind::EvalBlock => fault = cause,
+            Some(cause) if is_wrapping(fault.kind()) => fault = cause,
             _ => return (depth, fault),
         }
     }

@@ -1,6 +1,6 @@
 //! Tables of rows, with settings between them.
 
-use crate::callbacks::{method_of, rule_of, style_of};
+use crate::callbacks::{folder_of, method_of, rule_of, style_of};
 use crate::party::{Party, Rows, add_objects};
 use crate::renders::{Given, Setup, are, expect_row, fault_of, row_of, template_of, usual};
 use crate::{blocks, bounds, loops, macros, rows, values};
@@ -84,7 +84,7 @@ fn rendered<'source>(environment: &Rows<'source>, source: &'source str) -> Resul
     template.render(&mut StateIds::new(), Value::undefined())
 }
 
-/// Whether it does, be it in a block that another one runs.
+/// Whether it does, be it in a block or a template that another one runs.
 fn runs_out<'source>(environment: &Rows<'source>, source: &'source str) -> bool {
     match rendered(environment, source) {
         Ok(_) => false,
@@ -102,6 +102,7 @@ fn set(environment: &mut Rows<'_>, word: &str, rest: &str) -> bool {
         "remove" => environment.remove_global(rest),
         "methods" => environment.set_unknown_method_callback(method_of(rest)),
         "formatter" => environment.set_formatter(style_of(rest)),
+        "joins" => environment.set_path_join_callback(folder_of(rest)),
         "rule" => environment.set_auto_escape_callback(rule_of(rest)),
         "set" => return is_set(environment, rest),
         _ => return false,
@@ -119,6 +120,7 @@ fn add<'source>(
     let (name, source) = rest.split_once(' ').unwrap_or((rest, ""));
     match word {
         "global" => environment.add_global(name, Value::number(source.parse().unwrap_or(0))),
+        "text" => environment.add_global(name, Value::text(alloc, source)?),
         "second" => environment.add_function(rest, Party::Second),
         "template" => environment.add_template(name, source),
         "owned" => environment.add_template_owned(name, String::from_str(alloc, source)?),
@@ -134,7 +136,7 @@ fn change<'source>(
     rest: &'source str,
 ) -> Result<bool, Error> {
     match word {
-        "global" | "second" | "template" | "owned" | "angles" => {
+        "global" | "text" | "second" | "template" | "owned" | "angles" => {
             add(alloc, environment, word, rest)?;
             Ok(true)
         }
@@ -160,7 +162,7 @@ fn change_setup<'source>(setup: &mut Setup<'source>, word: &str, rest: &'source 
 }
 
 /// Renders a table's rows behind its heading. A row that begins with `@` is a setting.
-fn expect_table<'source>(
+pub(crate) fn expect_table<'source>(
     alloc: Global,
     environment: &mut Rows<'source>,
     table: &'source str,
@@ -214,7 +216,7 @@ static TABLES: [&str; 26] = [
 fn expect_tables(alloc: Global, environment: &mut Rows<'_>) -> Result<(), Fail> {
     add_objects(environment)?;
     blocks::add_layouts(environment)?;
-    blocks::expect_states(environment)?;
+    blocks::expect_states(environment, blocks::STATES)?;
     blocks::expect_written(alloc, environment)?;
     blocks::expect_chains(alloc, environment)?;
     for table in TABLES {
@@ -237,9 +239,10 @@ fn long_sources_render(rt: HostRuntime) -> Result<(), Fail> {
     bounds::expect_long(rt.alloc(), &environment)
 }
 
-/// Asks an environment without functions, and gives it a method object and formatters.
+/// Asks an environment without functions, and gives it what joins names, a method object and formatters.
 fn expect_empty(alloc: Global, environment: &mut Rows<'_>) -> Result<(), Fail> {
     expect_table(alloc, environment, EMPTY)?;
+    expect_table(alloc, environment, blocks::JOINED)?;
     expect_table(alloc, environment, RULES)?;
     expect_table(alloc, environment, METHODS)?;
     expect_table(alloc, environment, FORMATTERS)

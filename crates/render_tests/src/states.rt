@@ -4,7 +4,7 @@ ghost use Rattle.tm_values.specs.Val.{boolean};
 ghost use Rattle.tm_meaning.specs.declared.reply.Reply.TheVariants.{Value as gives};
 ghost use Rattle.tm_tables.specs.Stated.{just};
 
-use crate::callbacks::{Method, Style, rule_of};
+use crate::callbacks::{Folder, Method, Style, rule_of};
 use crate::macros::serve_states;
 use crate::party::{Left, Page, Party, Rows};
 use std::alloc::Global;
@@ -172,7 +172,9 @@ fn are_asked(alloc: Global, environment: &mut Environment<'_>) -> Result<bool, E
     environment.set_unknown_method_callback(Box::new(alloc, Method::Named)?);
     environment.set_formatter(Box::new(alloc, Style::Swapped)?);
     environment.set_auto_escape_callback(Box::new(alloc, rule_of("html"))?);
-    let source = "{{ yes() }}{{ yes.m() }}{{ none }}{{ '<' }}";
+    environment.set_path_join_callback(Box::new(alloc, Folder::InLib)?);
+    environment.add_template("lib/t", "{{ yes() }}{{ yes.m() }}{{ none }}{{ '<' }}")?;
+    let source = r#"{% extends "t" %}"#;
     let text = environment.render_named_str(&mut StateIds::new(), "t", source, Value::undefined())?;
     Ok(text.as_str() == "truem&lt;")
 }

@@ -17,7 +17,7 @@ use Rattle.tm_values.specs.declared.error.ErrorKind.TheVariants.{InvalidOperatio
 use Rattle.tm_parts.specs.Halts.{failures_after}
 use Rattle.tm_parts.specs.declared.halt.Halt.{Halt}
 use Rattle.tm_parts.specs.declared.halt.Halt.TheVariants as halt
-use Rattle.tm_state.specs.Answers.{HasOneMore, NeedsRun, OneDeeper, StaysInPlace, call_of}
+use Rattle.tm_state.specs.Answers.{CallDeeper, HasOneMore, NeedsRun, StaysInPlace, call_of}
 use Rattle.tm_state.specs.State.{behind_block, callee_of, put_back, saved_of}
 use Rattle.tm_state.specs.declared.saved.Saved.{Saved}
 use Rattle.tm_state.specs.declared.saved.Saved.TheVariants as saved
@@ -239,21 +239,22 @@ block_stands s before w left is more places no_fewer = (
   no_fewer.1.2 ∙ places,
 )
 
-pub stands_again : (limit : ℕ) (s : Saved) (before w left : World) → OneDeeper limit s before w → NoFewer w left →
+pub stands_again : (limit : ℕ) (s : Saved) (before w left : World) → CallDeeper limit s before w → NoFewer w left →
     StaysInPlace before (put_back s left)
-stands_again limit (saved.Block s) before w left deep no_fewer = block_stands s before w left deep.0 deep.1.0 deep.1.1 no_fewer
+stands_again limit (saved.Block s) before w left deep no_fewer = block_stands s before w left deep.0.0 deep.0.1.0 deep.0.1.1 no_fewer
 stands_again limit (saved.Super s) before w left deep no_fewer =
-    let is : s.replaced ≡ saved_of before = ap (λ (s : SavedSuper). s.replaced) deep.0 in (
-      block_left s.replaced before w left is deep.1 no_fewer,
+    let is : s.replaced ≡ saved_of before = ap (λ (s : SavedSuper). s.replaced) deep.0.0 in (
+      block_left s.replaced before w left is deep.0.1 no_fewer,
       ap (λ (s : SavedBlock). s.stream) is,
       ap (λ (s : SavedBlock). s.block) is,
       ap (λ (s : SavedBlock). s.escape) is,
-      ap (λ (s : SavedSuper). s.places) deep.0,
+      ap (λ (s : SavedSuper). s.places) deep.0.0,
     )
 stands_again limit (saved.Macro s) before w left deep no_fewer = (
-  ap (λ (s : SavedMacro). s.context) deep.0,
-  ap (λ (s : SavedMacro). s.stream) deep.0,
-  ap (λ (s : SavedMacro). s.block) deep.0,
-  ap (λ (s : SavedMacro). s.escape) deep.0,
-  ap (λ (s : SavedMacro). s.lists.places) deep.0,
+  ap (λ (s : SavedMacro). s.context) deep.0.0,
+  ap (λ (s : SavedMacro). s.stream) deep.0.0,
+  ap (λ (s : SavedMacro). s.block) deep.0.0,
+  ap (λ (s : SavedMacro). s.escape) deep.0.0,
+  ap (λ (s : SavedMacro). s.lists.places) deep.0.0,
 )
+stands_again limit (saved.Include s) before w left deep no_fewer = absurd deep.1

@@ -1,5 +1,7 @@
 -- Environments and templates as plain data, over all objects of the caller as one.
-use Rattle.std.specs.Prelude.{◌≡◌, ℕ, List, [], map as each, Ok, Option, Some, None}
+use Rattle.std.specs.Prelude.{◌≡◌, ℕ, List, [], map as each, Ok, Err, Option, Some, None}
+use Rattle.tm_values.specs.Answer.{Answer, refused}
+use Rattle.tm_values.specs.declared.error.ErrorKind.TheVariants.{TemplateNotFound}
 use Rattle.tm_values.specs.Val.{Val, function}
 use Rattle.tm_values.specs.declared.undefined.UndefinedBehavior.{UndefinedBehavior}
 use Rattle.tm_values.specs.declared.undefined.UndefinedBehavior.TheVariants.{Lenient}
@@ -10,7 +12,7 @@ use Rattle.tm_delimiters.specs.Syntax.{Syntax, default_syntax}
 use Rattle.tm_meaning.specs.declared.stream.StreamId.{StreamId}
 use Rattle.tm_meaning.specs.declared.stream.TemplateId.{TemplateId}
 use Rattle.tm_meaning.specs.declared.stream.TemplateId.TheVariants.{Own, Entry}
-use Rattle.tm_meaning.specs.World.{Bindings, HostValue, Template, or_is}
+use Rattle.tm_meaning.specs.World.{Bindings, HostValue, Template, World, name_of, or_is}
 use Rattle.tm_meaning.specs.Tree.{TemplateTree, Trees, template_of, trees_of}
 use Rattle.tm_tables.specs.Language.{language_globals}
 use Rattle.tm_tables.specs.Stated.{Table, StatedObjects, language_functions, with_object, next_number}
@@ -55,7 +57,7 @@ abbrev pub expected_environment : {O : Type 0} → O → EnvironmentValue O
 expected_environment objects = record (empty_environment objects) { globals = language_globals }
 
 -- and with what a template may expect: it is escaped as its name asks
-abbrev pub new_environment : {C M F R : Type 0} → EnvironmentValue (Table C M F (EscapeSetting R))
+abbrev pub new_environment : {C M F R J : Type 0} → EnvironmentValue (Table C M F (EscapeSetting R) J)
 new_environment = expected_environment (language_functions escapes.ByName)
 
 -- the template that a source is in an environment, under a name
@@ -75,7 +77,7 @@ abbrev pub with_global : {O : Type 0} → List ℕ → Val → EnvironmentValue 
 with_global x value e = record e { globals = put x value e.globals }
 
 -- the object under the next number, and the function of that number as the global of a name
-abbrev pub with_function : {C M F R : Type 0} → List ℕ → C → EnvironmentValue (Table C M F R) → EnvironmentValue (Table C M F R)
+abbrev pub with_function : {C M F R J : Type 0} → List ℕ → C → EnvironmentValue (Table C M F R J) → EnvironmentValue (Table C M F R J)
 with_function x object e =
     record e { objects = with_object object e.objects; globals = put x (function (next_number e.objects)) e.globals }
 
@@ -99,12 +101,27 @@ host_of stated t = record {
   functions = (stated t.environment.objects).functions;
   filters = (stated t.environment.objects).filters;
   tests = (stated t.environment.objects).tests;
-  join = λ x parent. Ok x;
+  join = (stated t.environment.objects).join;
   formatter = (stated t.environment.objects).formatter;
   unknown_method = (stated t.environment.objects).unknown_method;
   undefined = t.environment.undefined;
   limit = t.environment.limit;
 }
+
+-- the environment's template of a name, by what it has there; TemplateNotFound where it has none
+abbrev pub entry_at : {O : Type 0} → EnvironmentValue O → List ℕ → Option Compiled → Answer (TemplateValue O)
+entry_at e x None = refused TemplateNotFound
+entry_at e x (Some t) = Ok (record { environment = e; id = Entry x; template = t })
+
+-- the environment's template of a joined name; the fault of what joins
+abbrev pub joined_entry : {O : Type 0} → EnvironmentValue O → Answer (List ℕ) → Answer (TemplateValue O)
+joined_entry e (Ok x) = entry_at e x (find x e.templates)
+joined_entry e (Err chain) = Err chain
+
+-- The template that a name means in a state: the environment's of the name that is joined to that of the template that runs.
+abbrev pub named_template : {O : Type 0} → (O → StatedObjects) → TemplateValue O → List ℕ → World → Answer (TemplateValue O)
+named_template stated t x w =
+    joined_entry t.environment ((stated t.environment.objects).join x (name_of (host_of stated t) w))
 
 abbrev pub trees : {O : Type 0} → TemplateValue O → Trees
 trees t = trees_of (tree_of t.template) (trees_in t.environment.templates)

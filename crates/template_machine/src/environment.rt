@@ -3,7 +3,7 @@ ghost use Rattle.std.specs.Prelude.{◌≡◌, ◌≢◌, ◌<◌, [], ◌∷◌
 ghost use Rattle.std.specs.Prelude.{MatchResult, length, slice_get};
 ghost use Rattle.tm_syntax.specs.Named.{find, pairs_of, put, without};
 ghost use Rattle.tm_tables.specs.Stated.{no_functions, with_filter, without_filter, with_test, without_test};
-ghost use Rattle.tm_tables.specs.Stated.{with_escaping, with_fallback, with_formatter};
+ghost use Rattle.tm_tables.specs.Stated.{with_escaping, with_fallback, with_formatter, with_joining};
 ghost use Rattle.tm_templates.specs.Templates.{Compiled, IsRefused};
 ghost use Rattle.tm_values.specs.Answer.{IsLent, OkOrOutOfMemory};
 ghost use Rattle.tm_values.specs.Val.{function};
@@ -21,7 +21,7 @@ use std::marker::Model;
 use tm_compiler::SyntaxConfig;
 use tm_syntax::{Name, NameMap};
 use tm_tables::{
-    Callable, EscapeRule, Formatter, MethodFallback, Objects, Parties, language_globals,
+    Callable, EscapeRule, Formatter, MethodFallback, Objects, Parties, PathJoin, language_globals,
 };
 use tm_templates::{CompiledTemplate, EscapeSetting, Source, Templates};
 use tm_values::{Error, ErrorKind, UndefinedBehavior, Value};
@@ -66,6 +66,7 @@ pub type BoxedObjects = Objects<
     Box<dyn MethodFallback>,
     Box<dyn Formatter>,
     EscapeSetting<Box<dyn EscapeRule>>,
+    Box<dyn PathJoin>,
 >;
 
 /// The environment of a program: its objects are boxed.
@@ -336,16 +337,16 @@ impl<'source, O: Parties> EnvironmentOf<'source, O> {
     }
 }
 
-impl<'source, C: Drop, M: Drop, F: Drop, R: Drop> EnvironmentOf<
+impl<'source, C: Drop, M: Drop, F: Drop, R: Drop, J: Drop> EnvironmentOf<
     'source,
-    Objects<C, M, F, EscapeSetting<R>>,
+    Objects<C, M, F, EscapeSetting<R>, J>,
 > {
     /// An environment with what a template may expect: what it emits is escaped as its name asks
     /// (`default_auto_escape_callback`), and the functions of the language are the globals of their names; else
     /// the same as `empty`. Fails by OutOfMemory alone.
     pub fn new(
         alloc: Global,
-    ) -> Result<EnvironmentOf<'source, Objects<C, M, F, EscapeSetting<R>>>, Error>
+    ) -> Result<EnvironmentOf<'source, Objects<C, M, F, EscapeSetting<R>, J>>, Error>
         ensures { OkOrOutOfMemory result (λ e. e ≡ new_environment) }
     {
         let globals = language_globals(alloc)?;
@@ -358,7 +359,7 @@ impl<'source, C: Drop, M: Drop, F: Drop, R: Drop> EnvironmentOf<
 
     /// No templates, the default delimiters, nothing escaped, no functions, lenient undefined values, no fuel
     /// set, and scopes at most 500 deep.
-    pub fn empty(alloc: Global) -> EnvironmentOf<'source, Objects<C, M, F, EscapeSetting<R>>>
+    pub fn empty(alloc: Global) -> EnvironmentOf<'source, Objects<C, M, F, EscapeSetting<R>, J>>
         ensures { result ≡ empty_environment (no_functions EscapeSetting.Never) }
     {
         EnvironmentOf::with(
@@ -371,9 +372,9 @@ impl<'source, C: Drop, M: Drop, F: Drop, R: Drop> EnvironmentOf<
     /// The same, with these objects and globals.
     fn with(
         alloc: Global,
-        objects: Objects<C, M, F, EscapeSetting<R>>,
+        objects: Objects<C, M, F, EscapeSetting<R>, J>,
         globals: NameMap<Value>,
-    ) -> EnvironmentOf<'source, Objects<C, M, F, EscapeSetting<R>>>
+    ) -> EnvironmentOf<'source, Objects<C, M, F, EscapeSetting<R>, J>>
         ensures { result ≡ record (empty_environment objects) { globals = globals } }
     {
         EnvironmentOf {
@@ -469,5 +470,13 @@ impl<'source, C: Drop, M: Drop, F: Drop, R: Drop> EnvironmentOf<
             (with_escaping (EscapeSetting.Own rule) self.old.objects) self.old }
     {
         self.objects.set_escaping(EscapeSetting::Own(rule));
+    }
+
+    /// Lets an object join the names of templates, in place of what did: it says which template a name means where
+    /// another one runs. Where none does, a name means the template of that name.
+    pub fn set_path_join_callback(&mut self, object: J)
+        ensures { self.new ≡ with_objects (with_joining object self.old.objects) self.old }
+    {
+        self.objects.set_joining(object);
     }
 }

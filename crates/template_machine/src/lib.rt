@@ -15,8 +15,8 @@ pub use state::{Captured, CapturedOf, State, StateOf};
 pub use template::{Template, TemplateOf};
 pub use tm_compiler::{
     Application, Argument, BinaryOperator, CallBlock, Comparison, Condition, Expr, ForLoop,
-    Instruction, Keyword, Macro, Name, NameMap, Pair, Parameter, RawText, Step, Stmt, Streams,
-    SyntaxConfig, SyntaxConfigBuilder, Tree, UnaryOperator, generate, parse,
+    Imported, Instruction, Keyword, Macro, Name, NameMap, Pair, Parameter, RawText, Step, Stmt,
+    Streams, SyntaxConfig, SyntaxConfigBuilder, Tree, UnaryOperator, generate, parse,
 };
 pub use tm_meaning::{Call, GlobalFunction, Reply};
 pub use tm_operations as operations;
@@ -26,7 +26,7 @@ pub use tm_printing as printing;
 pub use tm_syntax::{Assignment, AssignmentTarget, CaptureMode, CaptureUse, Code};
 pub use tm_tables::{
     Answering, Callable, CallableAnswer, Called, EscapeRule, Formatter, FuelTracker,
-    MethodFallback, Objects, Parties, Plain, View,
+    MethodFallback, Objects, Parties, PathJoin, Plain, View,
 };
 pub use tm_templates::{
     CompiledTemplate, EscapeSetting, Source, TemplateConfig, default_auto_escape_callback,

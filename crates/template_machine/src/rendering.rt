@@ -16,7 +16,7 @@ use tm_state::StateData;
 use tm_syntax::{Code, Name, NameMap};
 use tm_tables::{BlockNames, CallableAnswer, Called, Host, Parties, View};
 use tm_templates::CompiledTemplate;
-use tm_values::{Error, ErrorKind, UndefinedBehavior, Value};
+use tm_values::{AutoEscape, Error, ErrorKind, UndefinedBehavior, Value};
 use tm_vm::Machine;
 
 /// The environment and the template that is rendered: the machine's one party.
@@ -69,6 +69,13 @@ impl<'env, O: Drop> Rendering<'env, O> {
     /// The allocator of what the environment makes.
     pub(crate) fn allocator(&self) -> Global {
         self.environment.allocator()
+    }
+
+    /// The environment.
+    pub(crate) fn environment(&self) -> &'env EnvironmentOf<'env, O>
+        ensures { result.now ≡ self.now.environment }
+    {
+        self.environment
     }
 
     /// The template that is meant.
@@ -137,12 +144,16 @@ impl<O: Parties> Host for Rendering<'_, O> {
         self.template(template).name()
     }
 
+    fn template_escape(&self, template: &TemplateId) -> AutoEscape {
+        self.template(template).escape()
+    }
+
     fn is_required(&self, stream: &StreamId) -> bool {
         self.template(&stream.template).is_required(&stream.block)
     }
 
-    fn joined_name(&self, alloc: Global, name: &str, _running: &str) -> Result<Name, Error> {
-        Ok(Name::new(alloc, name)?)
+    fn joined_name(&self, alloc: Global, name: &str, running: &str) -> Result<Name, Error> {
+        self.environment.objects().join(alloc, name, running)
     }
 
     fn blocks_of(&self, name: &str) -> Option<&Rc<BlockNames>> {

@@ -8,9 +8,9 @@ ghost use Rattle.tm_meaning.specs.World.{emitted, find_name, fuel_levels, name_o
 ghost use Rattle.tm_tables.specs.Known.{AreFound, NamingFails};
 ghost use Rattle.tm_meaning.specs.Calls.{apply_filter, enter_block, perform_test, refused};
 ghost use Rattle.tm_meaning.specs.Memory.{is_want_of_memory};
-ghost use Rattle.tm_state.specs.Answers.{Becomes, CallLies, IsEmitted, KeepsFixed, NeedsRun, OneDeeper, StaysInPlace};
+ghost use Rattle.tm_state.specs.Answers.{Becomes, CallDeeper, CallLies, IsEmitted, KeepsFixed, NeedsRun, StaysInPlace};
 ghost use Rattle.tm_state.specs.State.{callee_of, exported};
-ghost use Rattle.template_machine.specs.Environment.{host_of};
+ghost use Rattle.template_machine.specs.Environment.{host_of, named_template};
 ghost use Rattle.template_machine.specs.Renders.{as_text, block_meaning, call_by_name, called_value, callee_run, with_temp, with_world};
 ghost use Rattle.template_machine.specs.Renders.{BlockWritten, IsCalled, IsCaptured, IsEntered, IsFresh, IsTested, Ran, RanApart};
 ghost use Rattle.tm_meaning.specs.Machine.{new_capture};
@@ -18,6 +18,7 @@ ghost use Rattle.tm_vm.specs.Answers.{NoFewer};
 
 use crate::environment::BoxedObjects;
 use crate::rendering::Rendering;
+use crate::template::TemplateOf;
 use std::marker::Model;
 use tm_operations::is_true;
 use tm_parts::{Captures, Halt, NullWriter, Sink};
@@ -117,6 +118,17 @@ impl<'env, O: Parties> StateOf<'env, O> {
         ensures { result.now ≡ name_of (host_of O.stated self.now.template) self.now.world }
     {
         self.rendering.template_name(&self.kept.stream().template)
+    }
+
+    /// The template that a name means here: the environment's of the name that is joined to the running template's.
+    /// The fault of what joins them; TemplateNotFound where there is no such template; OutOfMemory.
+    pub fn get_template(&self, name: &str) -> Result<TemplateOf<'env, 'env, O>, Error>
+        ensures { IsAnswer result
+            (named_template O.stated self.now.template name.now self.now.world) }
+    {
+        let alloc = self.rendering.allocator();
+        let joined = self.rendering.joined_name(alloc, name, self.name())?;
+        self.rendering.environment().get_template(joined.as_str())
     }
 
     /// The value of a name: of the scopes, an inner one's first, else of the globals. InvalidOperation where
@@ -295,7 +307,7 @@ impl<'env, O: Parties> StateOf<'env, O> {
         ensures called { (asked : _) → NeedsRun run asked self.old.world →
             IsCalled result (called_value O.stated self.old.template asked) self.new.world }
         ensures template { self.new.template ≡ self.old.template }
-        ensures stays { (limit : _) (before : _) → OneDeeper limit run.saved before self.old.world →
+        ensures stays { (limit : _) (before : _) → CallDeeper limit run.saved before self.old.world →
             StaysInPlace before self.new.world }
         ensures kept { KeepsFixed self.old.world self.new.world }
     {

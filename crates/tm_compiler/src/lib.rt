@@ -9,6 +9,6 @@ pub use streams::{Streams, generate};
 pub use tm_scanner::{SyntaxConfig, SyntaxConfigBuilder};
 pub use tm_syntax::{
     Application, Argument, BinaryOperator, BlockCode, CallBlock, Code, Comparison, Condition, Expr,
-    ForLoop, Instruction, Keyword, Macro, Name, NameMap, Pair, Parameter, RawText, Step, Stmt,
-    Tree, UnaryOperator,
+    ForLoop, Imported, Instruction, Keyword, Macro, Name, NameMap, Pair, Parameter, RawText, Step,
+    Stmt, Tree, UnaryOperator,
 };

@@ -1,6 +1,6 @@
 -- The two parts of a call make its code.
-use Rattle.std.proofs.Common.{◌≡◌, ℕ, zero, suc, ◌+◌, List, [], ◌∷◌, ◌++◌, Bool, Option, Some, None, length, refl, sym, ap, ◌∙◌, arith}
-use Rattle.std.specs.Prelude.{true, false, ◌||◌, codes}
+use Rattle.std.proofs.Common.{◌≡◌, ℕ, suc, ◌+◌, List, [], ◌∷◌, ◌++◌, Bool, Option, Some, length, refl, sym, ap, ◌∙◌, arith}
+use Rattle.std.specs.Prelude.{true, false, codes}
 use denote.Hole.Carrier.{hidden}
 use Rattle.tm_values.specs.Val.{text}
 use Rattle.tm_syntax.specs.declared.tree.Argument.{Argument}
@@ -19,11 +19,11 @@ use Rattle.tm_syntax.specs.declared.instruction.Instruction.{Instruction}
 use Rattle.tm_syntax.specs.declared.instruction.Instruction.TheVariants as i
 use Rattle.tm_syntax.specs.Forms.{chained, unary, conditional, plain, spread, item, slice, binary, compare, and_then, or_else}
 use Rattle.tm_syntax.specs.Fragments.{Fragment, straight, ◌⨾◌}
-use Rattle.tm_syntax.specs.Code.{rows_of, list_of_row, map_of_row, count, is_spread, has_spread, row_behind, lists_at, count_lists}
-use Rattle.tm_syntax.specs.Code.{keywords_behind, maps_at, count_maps, merged_code, merged_count, together, count_by, passed_count}
+use Rattle.tm_syntax.specs.Code.{rows_of, list_of_row, map_of_row, count, has_spread, row_behind, count_lists}
+use Rattle.tm_syntax.specs.Code.{keywords_behind, count_maps, merged_code, merged_count, together, count_by, passed_count}
 use Rattle.tm_syntax.specs.Code.{RowEnd, row_end, caller_end, has_spread_keyword, passing_by, merging, arguments_code, listed_code, lists_code}
 use Rattle.tm_syntax.specs.Code.{keyword_code, keywords_code, passing_code, step_code, expr_code, steps_code, application_code, step_call_code, steps_call_code, call_code}
-use Rattle.tm_generator.specs.Building.{Builder, put, with_one, with_all}
+use Rattle.tm_generator.specs.Building.{Builder, put, with_one}
 use Rattle.tm_generator.specs.Opened.{OpenCall, no_end, listing_code, lists_ended, list_open, map_open, open_code, opened_call, with_name}
 use Rattle.tm_generator.specs.Opened.{called_with_none, maps_in, values_in, unpacked_code, ending, ending_count, step_open, step_call, step_end}
 use Rattle.tm_generator.specs.Opened.{steps_open, steps_call, steps_end, call_open, call_of, call_end}

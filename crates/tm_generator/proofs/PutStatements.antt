@@ -17,7 +17,7 @@ use Rattle.tm_syntax.specs.declared.tree.Parameter.{Parameter}
 use Rattle.tm_syntax.specs.declared.tree.Argument.TheBlock.{hidden-the_row-Expr-0}
 use Rattle.tm_syntax.specs.declared.instruction.Instruction.TheVariants as i
 use Rattle.tm_syntax.specs.Fragments.{Fragment, straight, ◌⨾◌}
-use Rattle.tm_syntax.specs.Code.{statement_code, statements_code, stream_code, unnumbered_code, RowEnd, row_end, caller_end, call_code}
+use Rattle.tm_syntax.specs.Code.{statement_code, statements_code, unnumbered_code, RowEnd, row_end, caller_end, call_code}
 use Rattle.tm_generator.specs.Opened.{OpenCall, with_name, ending, ending_count, call_open, call_of, call_end}
 use Rattle.tm_generator.proofs.Opened.{caller-end, caller-count, call-parts}
 use Rattle.tm_syntax.specs.Named.{Named, put, put_each}

@@ -1,5 +1,5 @@
 -- Rows of arguments, and what is put for them, as the program holds them.
-use Rattle.std.proofs.Common.{◌≡◌, ℕ, zero, suc, ◌+◌, List, [], ◌∷◌, Bool, Some, None, length, refl, sym, ap, ◌∙◌, arith}
+use Rattle.std.proofs.Common.{◌≡◌, ℕ, zero, suc, ◌+◌, List, [], ◌∷◌, Bool, Some, refl, sym, ap, ◌∙◌, arith}
 use Rattle.std.specs.Prelude.{true, false, ◌||◌, Result, Ok, Err, OnOk, IfOk}
 use denote.Hole.Carrier.{hidden}
 use Rattle.tm_values.specs.Val.{text}
@@ -12,7 +12,7 @@ use Rattle.tm_syntax.specs.declared.tree.Argument.TheBlock.{hidden-the_row-Expr-
 use Rattle.tm_syntax.specs.declared.tree.Argument.TheBlock.{hidden-the_row-Argument-3 as arguments, shape-the_row-Argument-3}
 use Rattle.tm_syntax.specs.declared.tree.Argument.TheBlock.{hidden-the_row-Keyword-4 as keywords, shape-the_row-Keyword-4}
 use Rattle.tm_syntax.specs.declared.instruction.Instruction.TheVariants as i
-use Rattle.tm_syntax.specs.Fragments.{Fragment, straight, ◌⨾◌}
+use Rattle.tm_syntax.specs.Fragments.{straight}
 use Rattle.tm_syntax.specs.Code.{rows_of, list_of_row, map_of_row, is_spread, has_spread, row_behind, lists_at}
 use Rattle.tm_syntax.specs.Code.{is_spread_keyword, has_spread_keyword, keywords_behind, maps_at}
 use Rattle.tm_syntax.specs.Code.{expr_code, listed_code, keyword_code, keywords_code}

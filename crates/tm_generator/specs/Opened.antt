@@ -1,5 +1,5 @@
 -- How the code of a call is put in two parts: what it is passed with its last rows open, and behind what else is passed their ends.
-use Rattle.std.specs.Prelude.{ℕ, ◌+◌, List, [], ◌∷◌, Bool, true, false, Option, Some}
+use Rattle.std.specs.Prelude.{ℕ, ◌+◌, List, [], ◌∷◌, Bool, true, false, Option}
 use Rattle.tm_syntax.specs.declared.instruction.Instruction.{Instruction}
 use Rattle.tm_syntax.specs.declared.instruction.Instruction.TheVariants as i
 use Rattle.tm_syntax.specs.declared.tree.Expr.{Expr, Call', Row_of-Argument, end_of-Argument as no_argument}

@@ -6,6 +6,7 @@ mod caches;
 mod calls;
 mod enclosing;
 mod expressions;
+mod imports;
 mod loops;
 mod macros;
 mod passing;

@@ -19,6 +19,7 @@ use crate::caches::number_caches;
 use crate::calls::{push_call_end, push_call_open};
 use crate::enclosing::Enclosing;
 use crate::expressions::{push_expr, push_filters};
+use crate::imports::{push_from_import, push_import, push_include};
 use crate::loops::push_iterable;
 use crate::macros::{push_building, push_caller, push_parameters};
 use crate::targets::{push_assignments, push_set, push_target, push_use};
@@ -86,6 +87,13 @@ fn push_statement(
         Stmt::AutoEscape(value, body) => push_escaped(stream, blocks, value.get(), body.as_slice()),
         Stmt::Macro(declared) => push_macro(stream, blocks, declared),
         Stmt::CallBlock(tag) => push_call_block(stream, blocks, tag),
+        Stmt::Include(template, missing) => {
+            push_include(&mut stream.code, template.get(), *missing)
+        }
+        Stmt::Import(template, target) => push_import(&mut stream.code, template.get(), target),
+        Stmt::FromImport(template, imports) => {
+            push_from_import(&mut stream.code, template.get(), imports.as_slice())
+        }
     }
 }
 

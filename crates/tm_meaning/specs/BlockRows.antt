@@ -1,10 +1,9 @@
 -- Streams that load a parent, and where their runs end.
 use Rattle.std.specs.Prelude.{ℕ, List, [], ◌∷◌, Some, true, false, codes, pos}
-use Rattle.tm_values.specs.Val.{Val, number, text}
-use Rattle.tm_syntax.specs.declared.instruction.CaptureMode.TheVariants.{Capture}
+use Rattle.tm_values.specs.Val.{number, text}
 use Rattle.tm_syntax.specs.declared.instruction.Instruction.{Instruction}
 use Rattle.tm_syntax.specs.declared.instruction.Instruction.TheVariants as i
-use Rattle.tm_meaning.specs.World.{TemplateId, own, entry, StreamId}
+use Rattle.tm_meaning.specs.World.{TemplateId, own, entry}
 use Rattle.tm_meaning.specs.Calls.{whole}
 use Rattle.tm_meaning.specs.Machine.{Program, base_of}
 use Rattle.tm_meaning.specs.Steps.{begins, run_for}

@@ -1,8 +1,9 @@
 -- What a call comes to, up to the run that it needs: the meaning and the machine share it. Neither trees nor instructions stand here.
 use Rattle.std.specs.Prelude.{ℕ, zero, suc, ◌+◌, ◌-◌, ◌%◌, drop, List, [], ◌∷◌, length, map as each, Option, Some, None, Ok, Bool, true, false}
-use Rattle.std.specs.Prelude.{not, nat_eq, nat_lt, is_none, ◌&&◌, ◌||◌, slice_get, codes, if◌then◌else◌}
+use Rattle.std.specs.Prelude.{not, nat_eq, nat_lt, is_none, is_some, ◌&&◌, ◌||◌, slice_get, codes, if◌then◌else◌}
 use Rattle.std.specs.Ordering.{is_eq}
 use Rattle.tm_definitions.specs.Maps.{dict_of, namespace_of, keywords_of, plain_of}
+use Rattle.tm_definitions.specs.Iteration.{items_or}
 use Rattle.tm_definitions.specs.Ranges.{range_of}
 use Rattle.tm_definitions.specs.Members.{macro_member, or_undefined}
 use Rattle.tm_definitions.specs.Truth.{is_true}
@@ -14,21 +15,22 @@ use Rattle.tm_values.specs.Map.{find as find_key}
 use Rattle.tm_values.specs.Val.{MacroData, Val, undefined, boolean, text, list, map, function, macro, loop, pairs_of, vals_of, text_in}
 use Rattle.tm_values.specs.declared.error.ErrorKind.{ErrorKind}
 use Rattle.tm_values.specs.declared.error.ErrorKind.TheVariants.{InvalidOperation, UnknownFilter, UnknownTest, UnknownFunction}
-use Rattle.tm_values.specs.declared.error.ErrorKind.TheVariants.{UnknownMethod, UnknownBlock, TooManyArguments}
+use Rattle.tm_values.specs.declared.error.ErrorKind.TheVariants.{UnknownMethod, UnknownBlock, TooManyArguments, TemplateNotFound}
 use Rattle.tm_syntax.specs.declared.tree.Application.{Application}
 use Rattle.tm_syntax.specs.declared.tree.Application.TheVariants as applications
 use Rattle.tm_meaning.specs.declared.function.GlobalFunction.{GlobalFunction}
 use Rattle.tm_meaning.specs.declared.wrapping.Wrapping.{Wrapping}
-use Rattle.tm_meaning.specs.declared.wrapping.Wrapping.TheVariants.{EvalBlock}
+use Rattle.tm_meaning.specs.declared.wrapping.Wrapping.TheVariants.{EvalBlock, BadInclude}
 use Rattle.tm_meaning.specs.declared.run_text.RunText.{RunText}
 use Rattle.tm_meaning.specs.declared.run_text.RunText.TheVariants as texts
 use Rattle.tm_meaning.specs.Memory.{kind_of_wrapping}
 use Rattle.tm_meaning.specs.declared.function.GlobalFunction.TheVariants as own
-use Rattle.tm_meaning.specs.World.{TemplateId, StreamId, block_of, Named, Bindings, find, put, put_each, same_name, Card}
+use Rattle.tm_meaning.specs.World.{TemplateId, entry, StreamId, root_of, block_of, template_at, Named, Bindings, find, put, put_each}
+use Rattle.tm_meaning.specs.World.{same_name, Card}
 use Rattle.tm_meaning.specs.World.{choose, HostValue, Scope, Scopes, Loop, World, Object, Fallback, Function, callers, languages, Res, Good}
 use Rattle.tm_meaning.specs.World.{Bad, bind, bad, answered, same_stream, depth, items_over, innermost, records_of, make_namespace, need, check, card_at, view_of, lookup}
-use Rattle.tm_meaning.specs.World.{context_member, place_of, plain_scope, push, captured_text}
-use Rattle.tm_meaning.specs.Inheritance.{place_in}
+use Rattle.tm_meaning.specs.World.{context_member, place_of, plain_scope, push, captured_text, owning, own_closure}
+use Rattle.tm_meaning.specs.Inheritance.{place_in, joined}
 use Rattle.tm_meaning.specs.declared.reply.Reply.{Reply}
 use Rattle.tm_meaning.specs.declared.reply.Reply.TheVariants.{Value as gives, Fault as faults, Further as asks_for}
 use Rattle.tm_meaning.specs.declared.reply.Call.{Call}
@@ -44,6 +46,7 @@ pub data Undo : Type 0 where
   of_block : World → Undo
   of_super : World → Undo
   of_macro : World → Undo
+  of_include : World → Undo
 
 -- A run, what is put back behind it, the kind that is put before its fault, if one is, and what its text is where that is a value.
 pub record NestedCall : Type 0 where
@@ -77,14 +80,11 @@ cut_to n outer w = record w { scopes = record { frames = outermost n w.scopes.fr
 abbrev pub block_undone : World → World → World
 block_undone b w = record (cut_to (length b.scopes.frames) b.scopes.outer w) { stream = b.stream; block = b.block; escape = b.escape }
 
--- However the run ended, only the scopes stay that stood before it, and stream, block, escape and outer depth are those before it; behind a
--- `super()` so are the places in lists of blocks; behind a macro, which has scopes of its own, so are these lists too, their places and the
--- loaded names. Records, kept values and fuel go on.
-abbrev pub undone : Undo → World → World
-undone (of_block b) w = block_undone b w
-undone (of_super b) w = record (block_undone b w) { places = b.places }
-undone (of_macro b) w = record w {
-  scopes = b.scopes;
+-- these scopes, and of a world before the stream, the block, the escape, the lists of blocks, their places and the loaded names, in one
+-- behind
+abbrev pub run_undone : World → Scopes → World → World
+run_undone b scopes w = record w {
+  scopes = scopes;
   stream = b.stream;
   block = b.block;
   escape = b.escape;
@@ -92,6 +92,23 @@ undone (of_macro b) w = record w {
   places = b.places;
   loaded = b.loaded;
 }
+
+-- so many of the outermost scopes as there were before, at the depth of then, with the closure that was made in the innermost of them
+abbrev pub scopes_behind : Scopes → Scopes → Scopes
+scopes_behind before scopes = record {
+  frames = owning (own_closure before.frames) (outermost (length before.frames) scopes.frames);
+  outer = before.outer;
+}
+
+-- However the run ended, only the scopes stay that stood before it, and stream, block, escape and outer depth are those before it; behind a
+-- `super()` so are the places in lists of blocks; behind a macro, which has scopes of its own, and behind an include so are these lists
+-- too, their places and the loaded names. Names that an include gave to the innermost scope stay, whose closure is put back. Records, kept
+-- values and fuel go on.
+abbrev pub undone : Undo → World → World
+undone (of_block b) w = block_undone b w
+undone (of_super b) w = record (block_undone b w) { places = b.places }
+undone (of_macro b) w = run_undone b b.scopes w
+undone (of_include b) w = run_undone b (scopes_behind b.scopes w.scopes) w
 
 -- the text of a run as a value
 abbrev pub run_value : RunText → List ℕ → World → Val
@@ -466,3 +483,50 @@ call_looked_up host x args w =
 abbrev pub call_named : HostValue → List ℕ → List Val → World → Asked
 call_named host x args w =
     choose (same_name x (codes "super")) (λ _. call_super host args w) (λ _. call_looked_up host x args w)
+
+-- ---------------------------------------------------------------- includes
+-- What names a template, or several of which the first is taken that is there: a text, or the items of what has some. A text has none here,
+-- and an undefined value neither.
+abbrev pub choices_in : RecordData → Val → Answer (List Val)
+choices_in r (text s safe) = Ok (text s safe ∷ [])
+choices_in r v = items_or InvalidOperation r v
+
+-- the first that is there, each by its name in the template that runs
+abbrev pub first_found : HostValue → List Val → World → Res (Option TemplateId)
+first_found host [] w = Good None w
+first_found host (v ∷ vs) w =
+    bind (need (text_in v) InvalidOperation w) (λ name world1.
+    bind (joined host name world1) (λ x world2.
+    choose (is_some (find x host.templates)) (λ _. Good (Some (entry x)) world2) (λ _. first_found host vs world2)))
+
+-- how much deeper a template is that is included
+abbrev pub include_depth : ℕ
+include_depth = 10
+
+-- the run of a template, needed in this world; before its fault stands BadInclude
+abbrev pub include_call : TemplateId → World → NestedCall
+include_call t w = record { callee = whole (root_of t); undo = of_include w; wrap = Some BadInclude; text = texts.Captured }
+
+-- where a template begins that is included: in the scopes that stand, whose innermost one has no closure of its own meanwhile, deeper, and
+-- with its own escape and blocks
+abbrev pub in_template : HostValue → TemplateId → World → World
+in_template host t w = record w {
+  scopes = record { frames = owning None w.scopes.frames; outer = include_depth + w.scopes.outer };
+  stream = root_of t;
+  escape = (template_at host t).escape;
+  blocks = own_blocks t (template_at host t).blocks;
+  places = [];
+}
+
+-- The template that was found is included, which is refused beyond the limit. Where none was nothing happens if it may be missing.
+abbrev pub include_found : HostValue → Bool → Option TemplateId → World → Asked
+include_found host missing (Some t) w =
+    ask (check (not (nat_lt host.limit (include_depth + depth w.scopes))) InvalidOperation w) (λ _ world1.
+    runs (include_call t w) (in_template host t world1))
+include_found host missing None w = ask (check missing TemplateNotFound w) (λ _ world1. has (undefined false) world1)
+
+-- The template that a value names is included. It may be missing where the value names none at all, too.
+abbrev pub enter_include : HostValue → Val → Bool → World → Asked
+enter_include host v missing w =
+    ask (answered (choices_in (records_of w) v) w) (λ vs world1.
+    ask (first_found host vs world1) (λ found world2. include_found host (missing || no_values vs) found world2))

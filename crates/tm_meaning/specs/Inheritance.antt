@@ -23,6 +23,10 @@ with_blocks t [] ls = ls
 with_blocks t (b ∷ bs) ls = with_blocks t bs (put b.0 (behind_all t (find b.0 ls)) ls)
 
 -- ---------------------------------------------------------------- parents
+-- the name that a name stands for in the template that runs
+abbrev pub joined : HostValue → List ℕ → World → Res (List ℕ)
+joined host name w = answered (host.join name (name_of host w)) w
+
 -- The template of a name is loaded.
 abbrev pub loading : List ℕ → Template → World → Res TemplateId
 loading x t w = Good (entry x) (record w { loaded = w.loaded ++ x ∷ []; blocks = with_blocks (entry x) t.blocks w.blocks })
@@ -39,7 +43,7 @@ load host v waiting inside w =
     bind (need (text_in v) InvalidOperation w) (λ name world1.
     bind (check (is_none waiting) InvalidOperation world1) (λ _ world2.
     bind (check (not inside) InvalidOperation world2) (λ _ world3.
-    bind (answered (host.join name (name_of host world3)) world3) (λ x world4. load_named host x world4))))
+    bind (joined host name world3) (λ x world4. load_named host x world4))))
 
 -- how many templates were not loaded before
 abbrev pub count_left : Named Template → List (List ℕ) → ℕ

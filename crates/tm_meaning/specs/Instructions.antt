@@ -11,7 +11,7 @@ use Rattle.tm_meaning.specs.declared.mark.LoopMark.{LoopMark}
 use Rattle.tm_syntax.specs.declared.tree.BinaryOperator.{BinaryOperator}
 use Rattle.tm_meaning.specs.World.{choose, TemplateId, World, HostValue, Loop, top_mark, top_loop, open_loop, next_turn, cleared}
 use Rattle.tm_meaning.specs.World.{items_over, Res, answered, looked_up, emitted, escape_for, with_escape, store, unpacked_items}
-use Rattle.tm_meaning.specs.World.{set_member, push, pop, plain_scope, captured_text, enclose, own_closure, make_macro}
+use Rattle.tm_meaning.specs.World.{set_member, push, pop, plain_scope, captured_text, module_of, enclose, own_closure, make_macro}
 use Rattle.tm_syntax.specs.Loops.{loops_before}
 use Rattle.tm_syntax.specs.Entries.{entry_number}
 use Rattle.tm_syntax.specs.CacheNumbers.{no_cache, cache_count}
@@ -19,7 +19,7 @@ use Rattle.tm_syntax.specs.Named.{same_name}
 use Rattle.tm_syntax.specs.declared.tree.Application.{Application}
 use Rattle.tm_syntax.specs.declared.tree.Application.TheVariants as applications
 use Rattle.tm_meaning.specs.Inheritance.{load}
-use Rattle.tm_meaning.specs.Calls.{enter_block, enter_super, call_named, call_callee, applied, call_innermost}
+use Rattle.tm_meaning.specs.Calls.{enter_block, enter_super, enter_include, call_named, call_callee, applied, call_innermost}
 use Rattle.tm_meaning.specs.Meaning.{none_waits}
 use Rattle.tm_meaning.specs.Operators.{truth, applied_unary, operated, attribute, item_at, slice_of, list_of_values, map_of_pairs}
 use Rattle.tm_meaning.specs.Operators.{keyword_map, merged_values, items_of_lists, is_undefined}
@@ -374,6 +374,20 @@ abbrev pub load_blocks_of : HostValue → Base → Config → Next
 load_blocks_of host f c =
     on_top c.run.operands c.world (λ v vs.
     after (load host v c.run.parent (nat_lt f.captures (length c.captures)) c.world) (λ t w. goes vs w (awaiting t c)))
+
+-- the template that the value names runs in place
+abbrev pub include_of : Program → Base → Bool → Config → Next
+include_of p f missing c =
+    on_top c.run.operands c.world (λ v vs. asked_in_place p f c vs (enter_include p.host v missing c.world))
+
+abbrev pub on_text : Option (List ℕ) → World → (List ℕ → Next) → Next
+on_text None w f = stuck w
+on_text (Some t) w f = f t
+
+-- a text is replaced by the module of the innermost scope's names and the text
+abbrev pub export_locals_of : Config → Next
+export_locals_of c =
+    on_top c.run.operands c.world (λ v vs. on_text (text_in v) c.world (λ t. goes (module_of c.world t ∷ vs) c.world c))
 
 -- the innermost loop is called in place
 abbrev pub fast_recurse_of : Program → Base → Config → Next

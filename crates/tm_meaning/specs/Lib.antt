@@ -17,6 +17,7 @@ pub mod MacroRows
 pub mod MacroTrees
 pub mod BlockTrees
 pub mod BlockRows
+pub mod IncludeTrees
 pub mod SpreadRows
 pub mod ObjectRows
 pub mod OperatorRows

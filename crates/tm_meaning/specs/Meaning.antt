@@ -21,10 +21,12 @@ use Rattle.tm_syntax.specs.declared.tree.AssignmentTarget.{Row_of-AssignmentTarg
 use Rattle.tm_syntax.specs.declared.tree.AssignmentTarget.{end_of-AssignmentTarget as no_target, more_of-AssignmentTarget as target}
 use Rattle.tm_syntax.specs.declared.tree.Assignment.{Assignment}
 use Rattle.tm_syntax.specs.declared.tree.Parameter.{Parameter}
+use Rattle.tm_syntax.specs.declared.tree.Imported.{Imported}
 use Rattle.tm_syntax.specs.declared.tree.CaptureUse.{CaptureUse}
 use Rattle.tm_syntax.specs.declared.tree.CaptureUse.TheVariants as uses
 use Rattle.tm_syntax.specs.declared.tree.Stmt.{Stmt, EmitRaw, EmitExpr, EmitLoop, EmitBlock, EmitSuper, If', For', Break, Continue, Block'}
 use Rattle.tm_syntax.specs.declared.tree.Stmt.{Extends, Set, CaptureBlock', With', Do, AutoEscape', Macro', CallBlock', Row_of-Stmt}
+use Rattle.tm_syntax.specs.declared.tree.Stmt.{Include, Import, FromImport}
 use Rattle.tm_syntax.specs.declared.tree.Stmt.{end_of-Stmt as no_statement}
 use Rattle.tm_syntax.specs.declared.tree.Stmt.{more_of-Stmt as statement, Held-Stmt-If-2 as Otherwise, None' as no_else}
 use Rattle.tm_syntax.specs.declared.tree.Stmt.{Some' as otherwise}
@@ -36,10 +38,10 @@ use Rattle.tm_syntax.specs.Loops.{passes, Numbers, first_numbers, within_loop, p
 use Rattle.tm_meaning.specs.World.{choose, TemplateId, StreamId, root_of, World, HostValue, Res, Good, Bad, bind, answered, tick, ticked, looked_up}
 use Rattle.tm_meaning.specs.World.{template_at, emitted, escape_for, with_escape, captured_text, open_loop, next_turn}
 use Rattle.tm_meaning.specs.World.{cleared, items_over, store, set_member, unpacked_items, push, pop, plain_scope, enclose, own_closure}
-use Rattle.tm_meaning.specs.World.{make_macro}
+use Rattle.tm_meaning.specs.World.{make_macro, module_of}
 use Rattle.tm_meaning.specs.Calls.{Callee, whole, macro_of, NestedCall, Asked, has, refused, runs, recurs, undone, wrapped, run_value}
 use Rattle.tm_meaning.specs.Inheritance.{load, names_left}
-use Rattle.tm_meaning.specs.Calls.{enter_block, enter_super, call_named}
+use Rattle.tm_meaning.specs.Calls.{enter_block, enter_super, enter_include, call_named}
 use Rattle.tm_meaning.specs.Calls.{applied, call_callee, call_innermost, own_blocks}
 use Rattle.tm_meaning.specs.Tree.{Body, empty, Trees}
 use Rattle.tm_meaning.specs.Operators.{truth, applied_unary, operated, applied_binary, attribute, item_at, slice_of}
@@ -122,10 +124,14 @@ value_behind e c o = Good (run_value c.text o.text (undone c.undo o.world)) (und
 abbrev pub capturing : Bool → Run → Run
 capturing heard run = record run { heard = heard; inside = true }
 
--- the text of a loop that was called, as a value
+-- what was heard, where no fault was
+abbrev pub heard_behind : Ending → Outcome → Res (List ℕ)
+heard_behind (fault chain) o = Bad chain o.world
+heard_behind e o = Good o.text o.world
+
+-- and as a value, as of a loop that was called
 abbrev pub text_behind : Ending → Outcome → Res Val
-text_behind (fault chain) o = Bad chain o.world
-text_behind e o = Good (captured_text o.text o.world) o.world
+text_behind e o = bind (heard_behind e o) (λ t w. Good (captured_text t w) w)
 
 abbrev pub value_of : Under → Run → Asked → Res Val
 value_of u run (has v w) = Good v w
@@ -268,9 +274,13 @@ filtered u run [] v w = Good v w
 filtered u run (f ∷ more) v w = bind (eval_step u run f v w) (λ x world1. filtered u run more x world1)
 
 -- ---------------------------------------------------------------- targets
+-- a value is given to a name, charged
+abbrev pub give : List ℕ → Val → World → Res (Unit {0})
+give x v w = ticked w (λ world1. Good tt (store x v world1))
+
 abbrev mutual
   pub assign : Under → Run → AssignmentTarget → Val → World → Res (Unit {0})
-  assign u run (To x) v w = ticked w (λ world1. Good tt (store x v world1))
+  assign u run (To x) v w = give x v w
   assign u run (Items _ ts) v w =
       ticked w (λ world1. bind (unpacked_items (count_targets ts) v world1) (λ vs world2. assign_all u run ts vs world2))
   assign u run (Member e x) v w = bind (eval u run e w) (λ o world1. ticked world1 (λ world2. set_member x v o world2))
@@ -288,6 +298,38 @@ set_to u run t e w = bind (eval u run e w) (λ v world1. assign u run t v world1
 abbrev pub set_each : Under → Run → List Assignment → World → Res (Unit {0})
 set_each u run [] w = Good tt w
 set_each u run (a ∷ more) w = bind (set_to u run a.target a.value w) (λ _ world1. set_each u run more world1)
+
+-- ---------------------------------------------------------------- templates that run here
+-- The template that a value names runs in place, charged; whether it may be missing.
+abbrev pub include : Under → Run → Expr → Bool → List ℕ → World → Outcome
+include u run e missing out w =
+    use_it (eval u run e w) run out (λ v world1.
+    use_it (tick world1) run out (λ _ world2. in_place_of u run out (enter_include u.host v missing world2)))
+
+-- One that is there runs in a scope of its own, which stays open, and inside a capture: what is heard of it.
+abbrev pub included : Under → Run → Expr → World → Res (List ℕ)
+included u run e w =
+    bind (push u.host (plain_scope (undefined false)) w) (λ _ world1.
+    let o = include u run e false [] world1 in heard_behind o.ending o)
+
+-- What a template exports, as a module, is given to a target.
+abbrev pub import : Under → Run → Expr → AssignmentTarget → World → Res (Unit {0})
+import u run e t w =
+    bind (included u (capturing true run) e w) (λ x world1.
+    ticked world1 (λ world2. assign u run t (module_of world2 x) (pop world2)))
+
+-- Each of the names that a template leaves is looked up, charged; then the scope is left, and their values are given to names from the last
+-- to the first.
+abbrev pub give_each : HostValue → List Imported → World → Res (Unit {0})
+give_each host [] w = Good tt (pop w)
+give_each host (x ∷ xs) w =
+    ticked w (λ world1. bind (looked_up host x.name world1) (λ v world2.
+    bind (give_each host xs world2) (λ _ world3. give x.target v world3)))
+
+-- What is heard of the template is dropped.
+abbrev pub import_names : Under → Run → Expr → List Imported → World → Res (Unit {0})
+import_names u run e xs w =
+    bind (included u (capturing false run) e w) (λ _ world1. bind (give_each u.host xs world1) (λ _ world2. tick world2))
 
 -- ---------------------------------------------------------------- macros
 -- each of these names is enclosed, charged
@@ -491,6 +533,9 @@ abbrev mutual
   exec u at (CallBlock' e ps _ body) run out w =
       use_it (call u run (with_caller u.host at.macros (macro_head (codes "caller") ps body)) e w) run out
       (λ v world1. emit u run out v world1)
+  exec u at (Include e missing) run out w = include u run e missing out w
+  exec u at (Import e t) run out w = use_it (import u run e t w) run out (λ _ world1. so_far run out world1)
+  exec u at (FromImport e xs) run out w = use_it (import_names u run e xs w) run out (λ _ world1. so_far run out world1)
 
   pub exec_all : {n : _} → Under → Numbers → Row_of-Stmt n → Run → List ℕ → World → Outcome
   exec_all u at no_statement run out w = so_far run out w

@@ -1,5 +1,6 @@
 -- Worked renders, through the meaning, and through the code and the machine.
 use Rattle.std.specs.Prelude.{◌≡◌, ℕ, ◌-◌, List, [], ◌∷◌, map as each, Option, Some, None, Bool, true, false, codes, pos, Ok}
+use Rattle.tm_values.specs.Answer.{Answer}
 use Rattle.tm_values.specs.Val.{Val, undefined, boolean, number, text, map, pairs_of}
 use Rattle.tm_values.specs.declared.error.ErrorKind.{ErrorKind}
 use Rattle.tm_values.specs.declared.error.ErrorKind.TheVariants as kind
@@ -43,6 +44,7 @@ pub record Page : Type 0 where
   pub functions : List Function
   pub filters : Named Object
   pub tests : Named Object
+  pub join : List ℕ → List ℕ → Answer (List ℕ)
   pub formatter : Option Format
   pub unknown_method : Option Fallback
   pub undefined : UndefinedBehavior
@@ -59,6 +61,7 @@ page body context = record {
   functions = [];
   filters = [];
   tests = [];
+  join = λ x parent. Ok x;
   formatter = None;
   unknown_method = None;
   undefined = Lenient;
@@ -79,7 +82,7 @@ host_of p = record {
   functions = p.functions;
   filters = p.filters;
   tests = p.tests;
-  join = λ x parent. Ok x;
+  join = p.join;
   formatter = p.formatter;
   unknown_method = p.unknown_method;
   undefined = p.undefined;
@@ -104,8 +107,12 @@ pub record Said : Type 0 where
 abbrev pub said : List ℕ → ℕ → List ErrorKind → Said
 said t n chain = record { text = t; fuel = n; chain = chain }
 
+-- from a world
+abbrev pub meant_from : Page → World → Said
+meant_from p w = let o = rendered (host_of p) (trees p) w in said o.text o.world.fuel (chain_of o)
+
 abbrev pub meant : Page → Option ℕ → Said
-meant p fuel = let o = rendered (host_of p) (trees p) (world_of p fuel) in said o.text o.world.fuel (chain_of o)
+meant p fuel = meant_from p (world_of p fuel)
 
 abbrev pub said_at : List ℕ → End → Said
 said_at t (Finished ks w) = said t w.fuel []
@@ -117,11 +124,13 @@ said_by None = said [] 0 []
 said_by (Some o) = said_at o.text o.end
 
 -- where the page's code ends
-abbrev pub ended : Page → Option ℕ → Option Final
-ended p fuel =
-    let w = world_of p fuel in
+abbrev pub ended_from : Page → World → Option Final
+ended_from p w =
     let f = base_of true [] w in
     run_for 1000 (program_of p) f [] (begins (program_of p) f (whole w.stream) [] w)
+
+abbrev pub ended : Page → Option ℕ → Option Final
+ended p fuel = ended_from p (world_of p fuel)
 
 abbrev pub ran : Page → Option ℕ → Said
 ran p fuel = said_by (ended p fuel)

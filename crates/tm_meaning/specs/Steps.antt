@@ -16,7 +16,7 @@ use Rattle.tm_meaning.specs.Instructions.{compare_and_preserve_of, swap_of, dup_
 use Rattle.tm_meaning.specs.Instructions.{build_list_of, build_map_of, build_kwargs_of, jump_of, jump_if_false_of, jump_if_false_or_pop_of}
 use Rattle.tm_meaning.specs.Instructions.{merge_kwargs_of, unpack_lists_of, call_object_of}
 use Rattle.tm_meaning.specs.Instructions.{jump_if_true_or_pop_of, call_function_of, apply_of, fast_recurse_of, call_block_of}
-use Rattle.tm_meaning.specs.Instructions.{apply_filter_of, perform_test_of, fast_super_of, load_blocks_of}
+use Rattle.tm_meaning.specs.Instructions.{apply_filter_of, perform_test_of, fast_super_of, load_blocks_of, include_of, export_locals_of}
 use Rattle.tm_meaning.specs.Instructions.{store_local_of, unpack_list_of, set_attr_of, push_with_of, pop_frame_of, push_loop_of, iterate_of}
 use Rattle.tm_meaning.specs.Instructions.{push_did_not_iterate_of, pop_loop_frame_of, begin_capture_of, end_capture_of, push_auto_escape_of}
 use Rattle.tm_meaning.specs.Instructions.{pop_auto_escape_of, is_undefined_of, enclose_of, get_closure_of, build_macro_of}
@@ -36,6 +36,7 @@ charge_of i.PopAutoEscape = 0
 charge_of (i.BuildMacro _ _ _) = 0
 charge_of i.Return = 0
 charge_of i.LoadBlocks = 0
+charge_of i.ExportLocals = 0
 charge_of (i.EmitRaw _) = 1
 charge_of i.Emit = 1
 charge_of (i.Lookup _) = 1
@@ -80,6 +81,7 @@ charge_of (i.ApplyFilter _ _ _) = 1
 charge_of (i.PerformTest _ _ _) = 1
 charge_of (i.CallBlock _) = 1
 charge_of i.FastSuper = 1
+charge_of (i.Include _) = 1
 charge_of (i.StoreLocal _) = 1
 charge_of (i.Enclose _) = 1
 charge_of i.GetClosure = 1
@@ -161,6 +163,8 @@ effect p f i.FastRecurse c = fast_recurse_of p f c
 effect p f (i.CallBlock b) c = call_block_of p f b c
 effect p f i.FastSuper c = fast_super_of p f c
 effect p f i.LoadBlocks c = load_blocks_of p.host f c
+effect p f (i.Include missing) c = include_of p f missing c
+effect p f i.ExportLocals c = export_locals_of c
 effect p f (i.StoreLocal x) c = store_local_of x c
 effect p f (i.Enclose x) c = enclose_of p.host x c
 effect p f i.GetClosure c = get_closure_of c

@@ -1,6 +1,6 @@
 -- What a state is to the meaning and to the machine, and what both do to it.
 use Rattle.std.specs.Prelude.{ℕ, zero, suc, ◌+◌, ◌-◌, List, [], ◌∷◌, ◌++◌, length, map as each, Option, Some, None, option_and_then, Bool}
-use Rattle.std.specs.Prelude.{is_some, true, false, ◌&&◌, ◌||◌, nat_lt, nat_eq, if◌then◌else◌, Ok, Err, slice_get, codes}
+use Rattle.std.specs.Prelude.{is_some, true, false, not, ◌&&◌, ◌||◌, nat_lt, nat_eq, if◌then◌else◌, Ok, Err, slice_get, codes}
 use Rattle.tm_syntax.specs.declared.instruction.LoopFlags.{LoopFlags}
 pub use Rattle.tm_syntax.specs.Named.{Named, same_name, find, put, put_each}
 use Rattle.tm_values.specs.Answer.{Answer, invalid}
@@ -9,7 +9,7 @@ use Rattle.tm_values.specs.Map as maps
 use Rattle.std.specs.Ordering.{is_eq}
 use Rattle.tm_values.specs.Order.{val_cmp}
 use Rattle.tm_values.specs.Records.{RecordData, LoopData, namespace_at}
-use Rattle.tm_values.specs.Val.{Val, undefined, boolean, text, macro, namespace, loop}
+use Rattle.tm_values.specs.Val.{Val, undefined, boolean, text, exports, macro, namespace, loop, pairs_of}
 use Rattle.tm_values.specs.declared.error.ErrorKind.{ErrorKind}
 use Rattle.tm_values.specs.declared.error.ErrorKind.TheVariants.{OutOfFuel, InvalidOperation}
 use Rattle.tm_values.specs.declared.escape.AutoEscape.{AutoEscape}
@@ -367,10 +367,14 @@ put_enclosed x v w = record w { closures = put_in (own_closure w.scopes.frames) 
 abbrev pub store : List ℕ → Val → World → World
 store x v w = put_enclosed x v (with_frames (stored_in x v w.scopes.frames) w)
 
+-- the closure of a number is the innermost scope's own, or none is
+abbrev pub owning : Option ℕ → List Scope → List Scope
+owning closure [] = []
+owning closure (s ∷ ss) = record s { own_closure = closure } ∷ ss
+
 -- the closure of a new number, where the innermost scope has none of its own
 abbrev pub with_own : ℕ → List Scope → List Scope
-with_own n [] = []
-with_own n (s ∷ ss) = record s { own_closure = Some n } ∷ ss
+with_own n frames = owning (Some n) frames
 
 abbrev pub one_closure_more : List Scope → List Bindings → List Bindings
 one_closure_more [] cs = cs
@@ -561,6 +565,25 @@ is_safe escape = true
 -- a captured text as a value, at its end
 abbrev pub captured_text : List ℕ → World → Val
 captured_text t w = text t (is_safe w.escape)
+
+-- ---------------------------------------------------------------- modules
+-- A name is exported unless it begins with `_`.
+abbrev pub is_exported : List ℕ → Bool
+is_exported [] = true
+is_exported (b ∷ bs) = not (same_name (b ∷ []) (codes "_"))
+
+-- each exported name as a key of its value
+abbrev pub exported : Bindings → List (Val × Val)
+exported [] = []
+exported (p ∷ ps) = choose (is_exported p.0) (λ _. (text p.0 false, p.1) ∷ exported ps) (λ _. exported ps)
+
+abbrev pub top_locals : List Scope → Bindings
+top_locals [] = []
+top_locals (s ∷ ss) = s.locals
+
+-- the module of the names that the innermost scope exports, and of a text
+abbrev pub module_of : World → List ℕ → Val
+module_of w t = exports (pairs_of (exported (top_locals w.scopes.frames))) t
 
 -- ---------------------------------------------------------------- the fuel levels
 abbrev pub levels_of : Option ℕ → ℕ → Option (ℕ × ℕ)

@@ -14,6 +14,7 @@ mod base;
 mod block_trees;
 mod function;
 mod guards;
+mod include_trees;
 mod macro_trees;
 mod macros;
 mod mark;
@@ -34,6 +35,10 @@ pub use function::GlobalFunction;
 pub use guards::{
     block_guards, call_guards, emission_guards, fuel_guards, look_up_guards, loop_guards,
     view_guards,
+};
+pub use include_trees::{
+    choice_rows, from_import_rows, import_rows, include_loop_rows, include_operand_rows,
+    include_rows, include_run_rows, include_scope_rows, join_rows,
 };
 pub use macro_trees::{call_tag_rows, enclosed_rows, macro_value_rows, parameter_rows};
 pub use macros::{binding_rows, closure_rows, macro_call_rows, macro_part_rows, macro_rows};

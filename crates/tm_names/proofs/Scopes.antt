@@ -17,17 +17,20 @@ use Rattle.tm_syntax.specs.declared.tree.AssignmentTarget.{Row_of-AssignmentTarg
 use Rattle.tm_syntax.specs.declared.tree.AssignmentTarget.{end_of-AssignmentTarget as no_target, more_of-AssignmentTarget as target}
 use Rattle.tm_syntax.specs.declared.tree.Assignment.{Assignment}
 use Rattle.tm_syntax.specs.declared.tree.Parameter.{Parameter}
+use Rattle.tm_syntax.specs.declared.tree.Imported.{Imported}
 use Rattle.tm_syntax.specs.declared.tree.CaptureUse.{CaptureUse}
 use Rattle.tm_syntax.specs.declared.tree.CaptureUse.TheVariants as uses
 use Rattle.tm_syntax.specs.declared.tree.Stmt.{Stmt, EmitRaw, EmitExpr, EmitLoop, EmitBlock, EmitSuper, If', For', Break, Continue, Block'}
 use Rattle.tm_syntax.specs.declared.tree.Stmt.{Extends, Set, CaptureBlock', With', Do, AutoEscape', Macro', CallBlock', Row_of-Stmt}
+use Rattle.tm_syntax.specs.declared.tree.Stmt.{Include, Import, FromImport}
 use Rattle.tm_syntax.specs.declared.tree.Stmt.{end_of-Stmt as no_statement}
 use Rattle.tm_syntax.specs.declared.tree.Stmt.{more_of-Stmt as statement, Held-Stmt-If-2 as Otherwise, None' as no_else}
 use Rattle.tm_syntax.specs.declared.tree.Stmt.{Some' as otherwise}
 use Rattle.tm_syntax.specs.Names.{Walk, Scope, assign, close_scope, name_of, open_scope, outer_of, read_as, read_chain, read_first}
 use Rattle.tm_syntax.specs.Names.{dotted, is_assigned, with_assigned, with_name, read_function}
 use Rattle.tm_syntax.specs.Names.{walk, walk_all, walk_argument, walk_arguments, walk_assignments, walk_comparisons, walk_condition}
-use Rattle.tm_syntax.specs.Names.{walk_conditions, walk_else, walk_expr, walk_exprs, walk_filters, walk_head, walk_keyword, walk_keywords}
+use Rattle.tm_syntax.specs.Names.{walk_conditions, walk_else, walk_expr, walk_exprs, walk_filters, walk_head, walk_imports, walk_keyword}
+use Rattle.tm_syntax.specs.Names.{walk_keywords}
 use Rattle.tm_syntax.specs.Names.{walk_pairs, walk_parameters, walk_step, walk_steps, walk_target, walk_targets, walk_use}
 
 -- ---------------------------------------------------------------- expressions assign nothing
@@ -154,6 +157,10 @@ parameters_within : (d : Bool) (ps : List Parameter) (k : Walk) → outer (walk_
 parameters_within d [] k = refl
 parameters_within d (p ∷ more) k = parameters_within d more _ ∙ condition_within d p.default _ ∙ assign_within p.name k
 
+imports_within : (xs : List Imported) (k : Walk) → outer (walk_imports xs k) ≡ outer k
+imports_within [] k = refl
+imports_within (x ∷ more) k = imports_within more _ ∙ assign_within x.target k
+
 head_within : (d : Bool) (t : AssignmentTarget) (c : Option Expr) (k : Walk) → outer (walk_head d t c k) ≡ outer k
 head_within d t c k =
     let first = walk_target d t k in
@@ -183,6 +190,9 @@ mutual
       ∙ assign_within (codes "caller") (open_scope (assign x k))) ∙ assign_within x k
   walk_within d (CallBlock' e ps _ body) k = ap outer_of (all_within d body _ ∙ parameters_within d ps _
       ∙ assign_within (codes "caller") (open_scope (walk_expr d e k))) ∙ expr_within d e k
+  walk_within d (Include e missing) k = expr_within d e k
+  walk_within d (Import e t) k = target_within d t _ ∙ expr_within d e k
+  walk_within d (FromImport e xs) k = imports_within xs _ ∙ expr_within d e k
 
   all_within : {n : _} → (d : Bool) (ss : Row_of-Stmt n) (k : Walk) → outer (walk_all d ss k) ≡ outer k
   all_within d no_statement k = refl

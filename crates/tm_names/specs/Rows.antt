@@ -8,9 +8,10 @@ use Rattle.tm_syntax.specs.declared.tree.Expr.{end_of-Step as no_step, more_of-S
 use Rattle.tm_syntax.specs.declared.tree.Step.{Attribute, Apply'}
 use Rattle.tm_syntax.specs.declared.tree.AssignmentTarget.{Name as To}
 use Rattle.tm_syntax.specs.declared.tree.Stmt.{Stmt, EmitExpr, EmitBlock, EmitSuper, For', Block', Extends, Set, With', Macro', CallBlock'}
-use Rattle.tm_syntax.specs.declared.tree.Stmt.{Row_of-Stmt}
+use Rattle.tm_syntax.specs.declared.tree.Stmt.{Include, Import, FromImport, Row_of-Stmt}
 use Rattle.tm_syntax.specs.declared.tree.Stmt.{end_of-Stmt as no_statement, more_of-Stmt as statement, Some' as otherwise}
 use Rattle.tm_syntax.specs.declared.tree.Parameter.{Parameter}
+use Rattle.tm_syntax.specs.declared.tree.Imported.{Imported}
 use Rattle.tm_syntax.specs.Names.{free_names, takes_caller, undeclared}
 
 -- ---------------------------------------------------------------- trees
@@ -57,6 +58,10 @@ with_default x y = record { name = x; default = Some (name y) }
 -- {% macro m() %}{{ x }}{% endmacro %}
 abbrev macro_writes : List ℕ → Stmt
 macro_writes x = Macro' (codes "m") [] (tt ∷ []) (alone x)
+
+-- x as y
+abbrev renamed : List ℕ → List ℕ → List Imported
+renamed x y = record { name = x; target = y } ∷ []
 
 -- {% call(p) m(x) %}{{ y }}{% endcall %}
 abbrev calls_with : List ℕ → List ℕ → Stmt
@@ -127,6 +132,27 @@ attribute_alone = refl
 
 attribute_nested : undeclared true (statement (EmitExpr (attribute (codes "self"))) no_statement) ≡ codes "self.a" ∷ []
 attribute_nested = refl
+
+-- {% include x %}
+include_reads : undeclared false (statement (Include (name (codes "x")) true) no_statement) ≡ codes "x" ∷ []
+include_reads = refl
+
+-- {% import x as x %}{{ x }}
+import_reads : undeclared false (statement (Import (name (codes "x")) (To (codes "x"))) (alone (codes "x"))) ≡ codes "x" ∷ []
+import_reads = refl
+
+-- {% import a as x %}{{ x }}
+import_assigns : undeclared false (statement (Import (name (codes "a")) (To (codes "x"))) (alone (codes "x"))) ≡ codes "a" ∷ []
+import_assigns = refl
+
+-- {% from a import x as y %}{{ y }}, and {{ x }} in the place of that
+from_assigns : undeclared false (statement (FromImport (name (codes "a")) (renamed (codes "x") (codes "y"))) (alone (codes "y")))
+    ≡ codes "a" ∷ []
+from_assigns = refl
+
+from_renames : undeclared false (statement (FromImport (name (codes "a")) (renamed (codes "x") (codes "y"))) (alone (codes "x")))
+    ≡ codes "a" ∷ codes "x" ∷ []
+from_renames = refl
 
 -- ---------------------------------------------------------------- macros
 -- {% macro m() %}{{ x }}{% endmacro %}

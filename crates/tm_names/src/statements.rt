@@ -69,6 +69,15 @@ impl Walker {
             }
             Stmt::Macro(declared) => self.walk_macro(nested, declared),
             Stmt::CallBlock(call) => self.walk_call_block(nested, call),
+            Stmt::Include(template, _) => self.walk_expr(nested, template.get()),
+            Stmt::Import(template, target) => {
+                self.walk_expr(nested, template.get())?;
+                self.walk_target(nested, target)
+            }
+            Stmt::FromImport(template, imports) => {
+                self.walk_expr(nested, template.get())?;
+                self.walk_imports(imports.as_slice())
+            }
         }
     }
 

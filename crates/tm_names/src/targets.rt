@@ -1,11 +1,11 @@
 //! The names that statements assign.
 ghost use Rattle.std.specs.Prelude.{◌≡◌, [], ◌∷◌, OnOk, IfErr};
-ghost use Rattle.tm_syntax.specs.Names.{walk_assignments, walk_set, walk_target, walk_targets, walk_use};
+ghost use Rattle.tm_syntax.specs.Names.{walk_assignments, walk_imports, walk_set, walk_target, walk_targets, walk_use};
 ghost use Rattle.tm_syntax.specs.declared.tree.AssignmentTarget.TheBlock.{hidden-the_row-AssignmentTarget-0 as targets};
 ghost use Rattle.tm_values.specs.declared.error.ErrorKind.TheVariants.{OutOfMemory};
 
 use crate::walker::Walker;
-use tm_syntax::{Assignment, AssignmentTarget, CaptureUse, Expr};
+use tm_syntax::{Assignment, AssignmentTarget, CaptureUse, Expr, Imported};
 use tm_values::Error;
 
 impl Walker {
@@ -63,6 +63,17 @@ impl Walker {
     {
         for assignment in given {
             self.walk_set(nested, &assignment.target, assignment.value.get())?;
+        }
+        Ok(())
+    }
+
+    /// Walks over names that a template leaves, of which the given ones are assigned; OutOfMemory.
+    pub(crate) fn walk_imports(&mut self, imports: &[Imported]) -> Result<(), Error>
+        ensures ok { OnOk result (self.new ≡ walk_imports imports.now self.old) }
+        ensures err { IfErr result (λ e. e ≡ OutOfMemory ∷ []) }
+    {
+        for imported in imports {
+            self.assign(imported.target.share()?)?;
         }
         Ok(())
     }

@@ -49,6 +49,20 @@ pub fn unpack<R: Records>(
     exactly(alloc, items, count)
 }
 
+/// The items that `for` goes over, but no text's and none of undefined; a list's are shared and not
+/// copied. InvalidOperation for other values, and for a namespace whose record isn't there, or
+/// OutOfMemory.
+pub fn collection<R: Records>(
+    alloc: Global,
+    value: &Value,
+    records: &R,
+) -> Result<Rc<Vec<Value>>, Error>
+    ensures { IsAnswerRead result (λ items. items.value.items)
+        (items_or ErrorKind.InvalidOperation (R.records records.now) value.now) }
+{
+    items_or(alloc, value, records, ErrorKind::InvalidOperation)
+}
+
 /// The items that `for` goes over, and none of undefined. InvalidOperation for other values, and
 /// for a namespace whose record isn't there, or OutOfMemory.
 pub(crate) fn items<R: Records>(

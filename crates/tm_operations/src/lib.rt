@@ -20,7 +20,7 @@ pub use arithmetic::{
 pub use comparisons::compare;
 pub use condition::{is_true, truth};
 pub use containment::contains;
-pub use iteration::{iterate, unpack, unpack_law};
+pub use iteration::{collection, iterate, unpack, unpack_law};
 pub use maps::{dict, dict_law, namespace};
 pub use members::{attribute, check_settable, is_callable, item};
 pub use ranges::{range, range_law};

@@ -1,5 +1,5 @@
 -- One look behind another, and at a token that is not taken.
-use Rattle.std.specs.Prelude.{◌≡◌, ◌<◌, Bool, true, false, List, [], ◌∷◌, length, Option, Some, None, option_and_then, option_map, refl}
+use Rattle.std.specs.Prelude.{◌≡◌, ◌<◌, Bool, true, false, List, [], ◌∷◌, length, Some, None, option_and_then, option_map, refl}
 use Rattle.std.proofs.Common.{arith, ◌∙◌, ap}
 use Rattle.tm_grammar.specs.Meanings.{Read, got, bind_reads}
 use Rattle.tm_grammar.specs.Rule.{Rule, Look}

@@ -22,6 +22,7 @@ use Rattle.tm_syntax.specs.declared.tree.Expr.TheVariants as exprs
 use Rattle.tm_syntax.specs.declared.tree.AssignmentTarget.{AssignmentTarget}
 use Rattle.tm_syntax.specs.declared.tree.Assignment.{Assignment}
 use Rattle.tm_syntax.specs.declared.tree.Parameter.{Parameter}
+use Rattle.tm_syntax.specs.declared.tree.Imported.{Imported}
 use Rattle.tm_syntax.specs.declared.tree.CaptureUse.{CaptureUse}
 use Rattle.tm_syntax.specs.declared.tree.CaptureUse.TheVariants as uses
 use Rattle.tm_syntax.specs.declared.tree.Stmt.{Stmt}
@@ -33,7 +34,7 @@ use Rattle.tm_grammar.specs.Combinators.{provided, first, nothing, pure, ◌>>=�
 use Rattle.tm_grammar.specs.Rule.{Look}
 use Rattle.tm_parser.specs.Distinct.{are_distinct}
 use Rattle.tm_parser.specs.Looks.{ahead}
-use Rattle.tm_parser.specs.Grammar.{Rule, Inside, inside, items, whole, expr, target}
+use Rattle.tm_parser.specs.Grammar.{Rule, Inside, inside, items, more_items, whole, expr, target}
 use Rattle.tm_parser.specs.Tokens.{is, a_name, is_comma}
 
 -- this tag
@@ -73,6 +74,9 @@ start_of tags.Do = Some starts.Do
 start_of tags.Autoescape = Some starts.AutoEscape
 start_of tags.Macro = Some starts.Macro
 start_of tags.Call = Some starts.Call
+start_of tags.Include = Some starts.Include
+start_of tags.Import = Some starts.Import
+start_of tags.From = Some starts.From
 start_of _ = None
 
 -- what a statement begins with
@@ -454,6 +458,55 @@ call_tag i t = do
   x ← i.expr
   call_block t ps x
 
+-- the words of a template that may be missing, or none
+abbrev pub may_be_missing : Rule Bool
+may_be_missing = branch (first (is_word (codes "ignore")))
+    (λ _. do
+      word ← token (is_word (codes "missing"))
+      pure true)
+    (pure false)
+
+unfoldable pub include_tag : Inside → Rule Stmt
+include_tag i = do
+  template ← expr i
+  missing ← may_be_missing
+  last ← block_end
+  pure (stmts.Include template missing)
+
+unfoldable pub import_tag : Inside → Rule Stmt
+import_tag i = do
+  template ← expr i
+  word ← token (is_word (codes "as"))
+  to ← target i
+  last ← block_end
+  pure (stmts.Import template to)
+
+-- the name that an imported one is given to: that behind `as`, or the same
+abbrev pub given_name : List ℕ → Rule (List ℕ)
+given_name name = branch (first (is_word (codes "as"))) (λ _. token a_name) (pure name)
+
+unfoldable pub imported : Rule Imported
+imported = do
+  name ← token a_name
+  to ← given_name name
+  pure (record { name = name; target = to })
+
+-- one imported name or more, with commas between them and behind the last one a comma or none, and the end of the tag
+unfoldable pub imports : Rule (List Imported)
+imports = do
+  one ← one_more imported []
+  xs ← more_items sign.BlockEnd imported one
+  comma ← branch (first (is sign.Comma)) pure (pure tt)
+  last ← block_end
+  pure xs
+
+unfoldable pub from_tag : Inside → Rule Stmt
+from_tag i = do
+  template ← expr i
+  word ← token (is_word (codes "import"))
+  xs ← imports
+  pure (stmts.FromImport template xs)
+
 -- what stands behind the start of a statement
 abbrev pub statement : Inside → Inner → Bool → Start → Rule Stmt
 statement i t looping (starts.Raw text) = pure (stmts.EmitRaw text)
@@ -471,6 +524,9 @@ statement i t looping starts.Do = do_tag i
 statement i t looping starts.AutoEscape = autoescape_tag i t looping
 statement i t looping starts.Macro = macro_tag t
 statement i t looping starts.Call = call_tag i t
+statement i t looping starts.Include = include_tag i
+statement i t looping starts.Import = import_tag i
+statement i t looping starts.From = from_tag i
 
 -- statements behind these ones, as long as one begins
 abbrev pub more_statements : Inside → Inner → Bool → List Stmt → Rule (List Stmt)

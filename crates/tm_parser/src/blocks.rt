@@ -46,7 +46,10 @@ fn add_names_of<'t>(names: &mut Vec<&'t str>, statement: &'t Stmt) -> Result<(),
         | Stmt::Continue
         | Stmt::Extends(_)
         | Stmt::Set(_, _)
-        | Stmt::Do(_) => Ok(()),
+        | Stmt::Do(_)
+        | Stmt::Include(_, _)
+        | Stmt::Import(_, _)
+        | Stmt::FromImport(_, _) => Ok(()),
         Stmt::If(_, body, None) => add_names(names, body.as_slice()),
         Stmt::If(_, body, Some(other)) => {
             add_names(names, body.as_slice())?;

@@ -479,6 +479,17 @@ impl<'t> Cursor<'t> {
         self.expect(Sign::BlockEnd)
     }
 
+    /// Takes the name that is this word, which has to stand first.
+    pub fn expect_word(&mut self, word: &str) -> Result<(), Error>
+        ensures { Parses result self.new ((token (is_word word.now)).reads self.old) }
+    {
+        if self.take_word(word) {
+            Ok(())
+        } else {
+            Err(refusal())
+        }
+    }
+
     /// Takes a name, which has to stand first.
     pub fn expect_name(&mut self) -> Result<Name, Error>
         ensures { Parses result self.new ((token a_name).reads self.old) }

@@ -6,6 +6,7 @@ mod blocks;
 mod cursor;
 mod distinct;
 mod expressions;
+mod imports;
 mod lists;
 mod macros;
 mod primaries;

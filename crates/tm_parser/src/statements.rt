@@ -179,6 +179,9 @@ impl Cursor<'_> {
             Start::AutoEscape => self.autoescape_tag(alloc, depth, looping),
             Start::Macro => self.macro_tag(alloc, depth),
             Start::Call => self.call_tag(alloc, depth),
+            Start::Include => self.include_tag(alloc, depth),
+            Start::Import => self.import_tag(alloc, depth),
+            Start::From => self.from_tag(alloc, depth),
         }
     }
 

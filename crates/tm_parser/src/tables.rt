@@ -62,6 +62,12 @@ pub enum Start {
     Macro,
     /// The start of a call with a body.
     Call,
+    /// The start of an `include`.
+    Include,
+    /// The start of an `import`.
+    Import,
+    /// The start of a `from`.
+    From,
 }
 
 // The levels of operators, from the tightest.
@@ -353,6 +359,9 @@ pub fn start_of(tag: Tag) -> Option<Start>
         Tag::Autoescape => Start::AutoEscape,
         Tag::Macro => Start::Macro,
         Tag::Call => Start::Call,
+        Tag::Include => Start::Include,
+        Tag::Import => Start::Import,
+        Tag::From => Start::From,
         Tag::Elif
         | Tag::Else
         | Tag::Endif

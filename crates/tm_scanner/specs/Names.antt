@@ -50,7 +50,8 @@ start_words =
     (codes "if", tag.If) ∷ (codes "for", tag.For) ∷ (codes "break", tag.Break) ∷ (codes "continue", tag.Continue)
     ∷ (codes "block", tag.Block) ∷ (codes "extends", tag.Extends) ∷ (codes "set", tag.Set) ∷ (codes "with", tag.With)
     ∷ (codes "do", tag.Do) ∷ (codes "filter", tag.Filter) ∷ (codes "autoescape", tag.Autoescape)
-    ∷ (codes "macro", tag.Macro) ∷ (codes "call", tag.Call) ∷ []
+    ∷ (codes "macro", tag.Macro) ∷ (codes "call", tag.Call) ∷ (codes "include", tag.Include) ∷ (codes "import", tag.Import)
+    ∷ (codes "from", tag.From) ∷ []
 
 -- the words of tags that go on with a statement or end it
 abbrev pub later_words : List (List ℕ × Tag)

@@ -161,6 +161,12 @@ fn start_tag(name: &str) -> Option<Tag>
         Some(Tag::Macro)
     } else if is(name, "call") {
         Some(Tag::Call)
+    } else if is(name, "include") {
+        Some(Tag::Include)
+    } else if is(name, "import") {
+        Some(Tag::Import)
+    } else if is(name, "from") {
+        Some(Tag::From)
     } else {
         None
     }

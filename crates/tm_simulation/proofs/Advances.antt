@@ -10,9 +10,11 @@ use Rattle.tm_values.specs.declared.error.ErrorKind.TheVariants.{InvalidOperatio
 use Rattle.tm_syntax.specs.declared.instruction.LoopFlags.{LoopFlags}
 use Rattle.tm_meaning.specs.World.{Bindings, choose, with_frames, World, Scopes, Scope, Loop, loop_scope, new_loop, turned_at, turned_of}
 use Rattle.tm_meaning.specs.World.{top_mark, next_turn, without_locals, cleared, Res, Good, Bad, pop, depth, without_first, stored_in}
-use Rattle.tm_meaning.specs.World.{own_closure, put_at, put_in, put_enclosed, store, with_escape, with_own, one_closure_more}
+use Rattle.tm_meaning.specs.World.{own_closure, put_at, put_in, put_enclosed, store, with_escape, owning, one_closure_more}
 use Rattle.tm_meaning.specs.World.{closing_over, is_there, with_stream}
-use Rattle.tm_meaning.specs.Calls.{keeping_at, is_changed, outermost, undone, of_block, of_super, of_macro}
+use Rattle.tm_meaning.specs.Calls.{keeping_at, is_changed, outermost, undone, of_block, of_super, of_macro, of_include, run_undone}
+use Rattle.tm_meaning.specs.Calls.{scopes_behind}
+use Rattle.tm_meaning.specs.declared.stream.TemplateId.{TemplateId}
 use Rattle.tm_meaning.specs.declared.mark.LoopMark.{LoopMark}
 use Rattle.tm_simulation.specs.Kept.{shape, shapes, GoesOn, bare, LieOver, BlocksGrow, NamesGrow}
 use Rattle.tm_simulation.proofs.Parents.{blocks_same, blocks_then, blocks_behind, names_same, names_then, count_fewer}
@@ -85,6 +87,13 @@ outermost_below s ss new (more, there, is, same) =
     let all : new ≡ (more ++ below.0 ∷ []) ++ ss =
     is ∙ ap (λ l. more ++ l) below.1 ∙ sym (append_assoc more (below.0 ∷ []) ss) in
     ap (outermost (length ss)) all ∙ outermost_there (more ++ below.0 ∷ []) ss
+
+-- those that lie over these have these as their outermost, but for the names of the innermost one of these
+outermost_bare : (old new : List Scope) → LieOver old new → bare (outermost (length old) new) ≡ bare old
+outermost_bare old new (more, there, is, same) =
+    let long : length old ≡ length there = sym (bare_long old) ∙ ap length (sym same) ∙ bare_long there in
+    ap (λ frames. bare (outermost (length old) frames)) is ∙ ap (λ n. bare (outermost n (more ++ there))) long
+    ∙ ap bare (outermost_there more there) ∙ same
 
 -- ---------------------------------------------------------------- what is kept
 -- However statements end, and whichever stream, block and scopes are there then: the state is the same one, no fuel comes back, and what
@@ -294,9 +303,9 @@ enclosed_kept x v w =
     kept_lasting (lasts_by_closures w (put_in (own_closure w.scopes.frames) x v w.closures)
     (omega (arith, put_in_long (own_closure w.scopes.frames) x v w.closures))) refl refl refl refl
 
-own_bare : (n : ℕ) (frames : List Scope) → bare (with_own n frames) ≡ bare frames
-own_bare n [] = refl
-own_bare n (s ∷ ss) = refl
+pub own_bare : (closure : Option ℕ) (frames : List Scope) → bare (owning closure frames) ≡ bare frames
+own_bare closure [] = refl
+own_bare closure (s ∷ ss) = refl
 
 more_closures : (frames : List Scope) (cs : List Bindings) → length cs ≤ length (one_closure_more frames cs)
 more_closures [] cs = omega arith
@@ -306,9 +315,9 @@ more_closures (s ∷ ss) cs = omega (arith, length-append cs ([] ∷ []))
 closing_kept : (o : Option ℕ) (w : World) → Kept w (closing_over o w)
 closing_kept (Some n) w = kept_same w
 closing_kept None w =
-    let frames = with_own (length w.closures) w.scopes.frames in
+    let frames = owning (Some (length w.closures)) w.scopes.frames in
     let v = with_frames frames w in
-    kept_then (kept_named frames w (own_bare (length w.closures) w.scopes.frames))
+    kept_then (kept_named frames w (own_bare (Some (length w.closures)) w.scopes.frames))
     (kept_lasting (lasts_by_closures v (one_closure_more w.scopes.frames w.closures) (more_closures w.scopes.frames w.closures))
     refl refl refl refl)
 
@@ -507,25 +516,68 @@ names_advance host {w = w} {v = v} h =
     subst (λ names. names_left host (record v { loaded = names }) ≤ names_left host w) (sym loaded.1)
     (count_fewer host.templates w.loaded loaded.0)
 
+-- What lasts in a run lasts behind it, which began in other scopes and another stream, with another block, escape and lists of blocks.
+run_lasts : (scopes back : Scopes) (stream : StreamId) (block : Option (List ℕ)) (escape : AutoEscape) (blocks : Named (List TemplateId))
+    (places : Named ℕ) (w v : World) →
+    Lasts (record w { scopes = scopes; stream = stream; block = block; escape = escape; blocks = blocks; places = places }) v →
+    Lasts w (run_undone w back v)
+run_lasts scopes back stream block escape blocks places w v l = record {
+  same_id = l.same_id;
+  same_fuel_set = l.same_fuel_set;
+  fuel = l.fuel;
+  loops = l.loops;
+  namespaces = l.namespaces;
+  closures = l.closures;
+  streams = l.streams;
+  temps = l.temps;
+  loaded = names_same w.loaded;
+  blocks = blocks_same w.blocks;
+  same_places = refl;
+}
+
 -- A macro's run, in whichever scopes, and whichever stream it ended: what is put back behind it are the very scopes before it, and all is
 -- kept.
 pub macro_undone_kept : (scopes : Scopes) (stream : StreamId) (w v : World) →
     Advances (in_stream v.stream (record w { scopes = scopes; stream = stream; block = None })) v → Kept w (undone (of_macro w) v)
 macro_undone_kept scopes stream w v h =
-    let l = h.lasts in
-    kept_lasting (record {
-      same_id = l.same_id;
-      same_fuel_set = l.same_fuel_set;
-      fuel = l.fuel;
-      loops = l.loops;
-      namespaces = l.namespaces;
-      closures = l.closures;
-      streams = l.streams;
-      temps = l.temps;
-      loaded = names_same w.loaded;
-      blocks = blocks_same w.blocks;
-      same_places = refl;
-    }) refl refl refl refl
+    kept_lasting (run_lasts scopes w.scopes v.stream None w.escape w.blocks w.places w v h.lasts) refl refl refl refl
+
+-- An include's run, in whichever stream it ended: what is put back behind it are the scopes before it, but for the names of the innermost
+-- one, and all is kept.
+abbrev pub in_include : ℕ → StreamId → AutoEscape → Named (List TemplateId) → World → World
+in_include outer stream escape blocks w = record w {
+  scopes = record { frames = owning None w.scopes.frames; outer = outer };
+  stream = stream;
+  escape = escape;
+  blocks = blocks;
+  places = [];
+}
+
+pub include_undone_bare : (outer : ℕ) (stream : StreamId) (escape : AutoEscape) (blocks : Named (List TemplateId)) (w v : World) →
+    Advances (in_stream v.stream (in_include outer stream escape blocks w)) v →
+    bare (undone (of_include w) v).scopes.frames ≡ bare w.scopes.frames
+include_undone_bare outer stream escape blocks w v h =
+    let lie = h.scopes in
+    own_bare (own_closure w.scopes.frames) (outermost (length w.scopes.frames) v.scopes.frames)
+    ∙ outermost_bare w.scopes.frames v.scopes.frames (lie.0, lie.1, lie.2, lie.3 ∙ own_bare None w.scopes.frames)
+
+pub include_undone_kept : (outer : ℕ) (stream : StreamId) (escape : AutoEscape) (blocks : Named (List TemplateId)) (w v : World) →
+    Advances (in_stream v.stream (in_include outer stream escape blocks w)) v → Kept w (undone (of_include w) v)
+include_undone_kept outer stream escape blocks w v h =
+    let inner : Scopes = record { frames = owning None w.scopes.frames; outer = outer } in
+    let back = scopes_behind w.scopes v.scopes in
+    let same = include_undone_bare outer stream escape blocks w v h in
+    record {
+      advances = record {
+        lasts = run_lasts inner back v.stream w.block escape blocks [] w v h.lasts;
+        scopes = lie_same w.scopes.frames back.frames same;
+        outer = refl;
+        same_stream = refl;
+        same_block = refl;
+      };
+      same_scopes = same;
+      same_escape = refl;
+    }
 
 -- ---------------------------------------------------------------- loops
 -- the record that is asked for its next item

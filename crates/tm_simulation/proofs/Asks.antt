@@ -2,12 +2,14 @@
 use Rattle.tm_values.specs.declared.escape.AutoEscape.{AutoEscape}
 use Rattle.std.proofs.Common.{◌≡◌, ℕ, zero, suc, ◌+◌, List, [], ◌∷◌, Option, Some, None, Bool, true, false, nat_lt, ◌++◌, refl}
 use Rattle.std.proofs.Common.{arith}
-use Rattle.std.proofs.Common.{ltb-true, length-append, ◌≤◌}
-use Rattle.std.specs.Prelude.{slice_get, not, nat_eq, ◌&&◌, codes, if◌then◌else◌}
-use Rattle.tm_values.specs.Val.{MacroData, Val, undefined, function, macro, loop, text}
+use Rattle.std.proofs.Common.{ltb-true, length, length-append, ◌≤◌}
+use Rattle.std.specs.Prelude.{slice_get, not, nat_eq, is_some, ◌&&◌, ◌||◌, codes, if◌then◌else◌, Ok, Err}
+use Rattle.std.proofs.lemmas.Bool.{ltb-false}
+use Rattle.tm_values.specs.Answer.{Answer}
+use Rattle.tm_values.specs.Val.{MacroData, Val, undefined, function, macro, loop, text, text_in}
 use Rattle.tm_values.specs.declared.error.ErrorKind.{ErrorKind}
 use Rattle.tm_values.specs.declared.error.ErrorKind.TheVariants.{InvalidOperation, UnknownBlock, UnknownFilter, UnknownTest}
-use Rattle.tm_values.specs.declared.error.ErrorKind.TheVariants.{UnknownFunction, UnknownMethod, TooManyArguments}
+use Rattle.tm_values.specs.declared.error.ErrorKind.TheVariants.{UnknownFunction, UnknownMethod, TooManyArguments, TemplateNotFound}
 use Rattle.tm_syntax.specs.declared.tree.Application.{Application}
 use Rattle.tm_syntax.specs.declared.tree.Application.TheVariants as applications
 use Rattle.tm_definitions.specs.Maps.{dict_of, namespace_of}
@@ -16,7 +18,9 @@ use Rattle.tm_meaning.specs.World.{choose, unpacked_items, emitted, escape_for, 
 use Rattle.tm_meaning.specs.World.{innermost}
 use Rattle.tm_meaning.specs.World.{items_over, Res, Good, Bad}
 use Rattle.tm_meaning.specs.World.{need, check, answered, depth, lookup, Function, callers, languages, records_of}
-use Rattle.tm_meaning.specs.World.{plain_scope, Object, View, same_stream}
+use Rattle.tm_meaning.specs.World.{plain_scope, Object, View, same_stream, owning, name_of, template_at, root_of}
+use Rattle.tm_meaning.specs.declared.stream.TemplateId.{TemplateId}
+use Rattle.tm_meaning.specs.declared.stream.TemplateId.TheVariants.{Entry as entry}
 use Rattle.tm_meaning.specs.declared.reply.Reply.{Reply}
 use Rattle.tm_meaning.specs.declared.reply.Reply.TheVariants.{Value as gives, Fault as faults, Further as asks_for}
 use Rattle.tm_meaning.specs.declared.reply.Call.{Call}
@@ -28,19 +32,22 @@ use Rattle.tm_meaning.specs.Calls.{as_truth, applied, MakesFurther, object_call,
 use Rattle.tm_meaning.specs.Calls.{depths_left, by_depths, function_call, value_call, as_printed, deeper, from_deeper}
 use Rattle.tm_meaning.specs.Calls.{enter_macro, bound_to, known_stream, macro_depth, macro_scopes}
 use Rattle.tm_meaning.specs.Calls.{loop_method, method_in, of_loop, record_at, given_by, replied, required_alone}
-use Rattle.tm_meaning.specs.Calls.{super_call, enter_super, no_values, call_super, call_looked_up}
+use Rattle.tm_meaning.specs.Calls.{super_call, enter_super, no_values, call_super, call_looked_up, own_blocks, choices_in, first_found}
+use Rattle.tm_meaning.specs.Calls.{include_depth, include_call, in_template, include_found, enter_include}
 use Rattle.tm_meaning.specs.Inheritance.{place_in}
 use Rattle.tm_meaning.specs.declared.function.GlobalFunction.{GlobalFunction}
 use Rattle.tm_meaning.specs.declared.function.GlobalFunction.TheVariants as own
 use Rattle.tm_meaning.specs.declared.stream.StreamId.{StreamId}
 use Rattle.tm_syntax.specs.Named.{put, put_each}
-use Rattle.tm_simulation.specs.Chains.{is_raised, Arises, wrapped as wraps, by_object, IsObject, is_function, is_filter, is_test}
+use Rattle.tm_simulation.specs.Chains.{is_raised, Arises, raised, wrapped as wraps, by_object, by_join, AnswersOnly, IsObject, is_function}
+use Rattle.tm_simulation.specs.Chains.{is_filter, is_test}
 use Rattle.tm_simulation.specs.Chains.{is_method}
 use Rattle.tm_simulation.proofs.Raised.{unpacked_raises, escape_raises, emitted_arises, iterated_raises, range_raises, dict_raises}
-use Rattle.tm_simulation.proofs.Raised.{namespace_raises, name_raises, method_raises, text_raises}
+use Rattle.tm_simulation.proofs.Raised.{namespace_raises, name_raises, method_raises, text_raises, choices_raise, raised_arise}
+use Rattle.tm_simulation.proofs.Loads.{need_does, answer_does, not_true}
 use Rattle.tm_simulation.proofs.Advances.{Advances, Kept, advances_then, lasts_by_namespaces, lasts_by_temps, advances_same}
 use Rattle.tm_simulation.proofs.Advances.{kept_same, kept_then, kept_lasting, undone_kept, in_stream, kept_depth, within, one_more}
-use Rattle.tm_simulation.proofs.Advances.{put_each_long, keeping_kept, undone_at, super_undone_kept, macro_undone_kept}
+use Rattle.tm_simulation.proofs.Advances.{put_each_long, keeping_kept, undone_at, super_undone_kept, macro_undone_kept, include_undone_kept}
 use Rattle.tm_simulation.proofs.Gives.{answered_gives, Gives, refused_arises, gives_bind, operation_gives}
 
 -- A value keeps the world; a run starts at least one level deeper, within the limit, and however it ends what is put back behind it keeps the world.
@@ -81,6 +88,11 @@ check_asks : (Holds : Asked → Type 0) (w : World) (b : Bool) (kind : ErrorKind
     Holds (refused (kind ∷ []) w) → Holds (g tt w) → Holds (ask (check b kind w) g)
 check_asks Holds w true kind g h k = k
 check_asks Holds w false kind g h k = h
+
+room_asks : (Holds : Asked → Type 0) (w : World) (b : Bool) (kind : ErrorKind) (g : Unit {0} → World → Asked) →
+    Holds (refused (kind ∷ []) w) → (b ≡ true → Holds (g tt w)) → Holds (ask (check b kind w) g)
+room_asks Holds w true kind g h k = k refl
+room_asks Holds w false kind g h k = h
 
 push_asks : (Holds : Asked → Type 0) (w : World) (s : Scope) (room : Bool) (g : Unit {0} → World → Asked) →
     Holds (refused (InvalidOperation ∷ []) w) → (room ≡ true → Holds (g tt (within s w))) → Holds (ask (one_more room s w) g)
@@ -139,6 +151,58 @@ super_asks host w =
       λ world2 h. super_undone_kept (plain_scope (undefined false)) stream (put x (place_in x w.places + 1) w.places) w world2 h,
     ))
 
+-- ---------------------------------------------------------------- includes
+-- A template is looked up for each choice in turn: of that nothing is changed.
+module _ (Holds : Asked → Type 0) (host : HostValue) (w : World)
+    (refuses : (chain : List ErrorKind) → Arises host chain → Holds (refused chain w)) where
+  there_asks : (b : Bool) (t : TemplateId) (m : Res (Option TemplateId)) (g : Option TemplateId → World → Asked) →
+      ((found : Option TemplateId) → Holds (g found w)) → Holds (ask m g) → Holds (ask (choose b (λ _. Good (Some t) w) (λ _. m)) g)
+  there_asks true t m g finds h = finds (Some t)
+  there_asks false t m g finds h = h
+
+  first_found_asks : (vs : List Val) (g : Option TemplateId → World → Asked) → ((found : Option TemplateId) → Holds (g found w)) →
+      Holds (ask (first_found host vs w) g)
+  first_found_asks [] g finds = finds None
+  first_found_asks (v ∷ vs) g finds =
+      need_does (λ m. Holds (ask m g)) w (text_in v) InvalidOperation _ (refuses (InvalidOperation ∷ []) (raised refl)) (λ name _.
+      answer_does (λ m. Holds (ask m g)) w (host.join name (name_of host w)) _
+      (λ chain e. refuses chain (by_join name (name_of host w) e)) (λ x.
+      there_asks (is_some (find x host.templates)) (entry x) _ g finds (first_found_asks vs g finds)))
+
+  answer_asks : {A : Type 0} (answer : Answer A) (g : A → World → Asked) → AnswersOnly (Arises host) answer →
+      ((a : A) → Holds (g a w)) → Holds (ask (answered answer w) g)
+  answer_asks (Ok a) g h k = k a
+  answer_asks (Err chain) g h k = refuses chain h
+
+  -- An include is refused, or nothing happens, or it asks for a run of its own.
+  module _ (skips : Holds (has (undefined false) w)) (enters : (t : TemplateId) → include_depth + depth w.scopes ≤ host.limit →
+      Holds (runs (include_call t w) (in_template host t w))) where
+    include_found_asks : (missing : Bool) (found : Option TemplateId) → Holds (include_found host missing found w)
+    include_found_asks missing (Some t) =
+        let deep = include_depth + depth w.scopes in
+        room_asks Holds w (not (nat_lt host.limit deep)) InvalidOperation _ (refuses (InvalidOperation ∷ []) (raised refl))
+        (λ room. enters t (ltb-false host.limit deep (not_true (nat_lt host.limit deep) room)))
+    include_found_asks missing None =
+        check_asks Holds w missing TemplateNotFound _ (refuses (TemplateNotFound ∷ []) (raised refl)) skips
+
+    pub include_asks_by : (v : Val) (missing : Bool) → Holds (enter_include host v missing w)
+    include_asks_by v missing =
+        answer_asks (choices_in (records_of w) v) _ (raised_arise host _ (choices_raise (records_of w) v)) (λ vs.
+        first_found_asks vs _ (λ found. include_found_asks (missing || no_values vs) found))
+
+owning_long : (closure : Option ℕ) (frames : List Scope) → length (owning closure frames) ≡ length frames
+owning_long closure [] = refl
+owning_long closure (s ∷ ss) = refl
+
+pub include_asks : (host : HostValue) (v : Val) (missing : Bool) (w : World) → Asks host w (enter_include host v missing w)
+include_asks host v missing w =
+    include_asks_by (Asks host w) host w (λ chain h. (advances_same w, h)) (kept_same w) (λ t room. (
+      omega (arith, owning_long None w.scopes.frames),
+      omega (arith, room, owning_long None w.scopes.frames),
+      λ world2 l. include_undone_kept (include_depth + w.scopes.outer) (root_of t) (template_at host t).escape
+          (own_blocks t (template_at host t).blocks) w world2 l,
+    )) v missing
+
 -- ---------------------------------------------------------------- functions
 given_gives : (host : HostValue) (g : GlobalFunction) (args : List Val) (w : World) → Gives host w (given_by g args w)
 given_gives host own.Range args w = operation_gives host _ w (range_raises args)
@@ -188,11 +252,6 @@ function_asks make host k n (languages g) args w e =
     ask_then host w (given_by g args w) has (given_gives host g args w) (λ v world1. kept_same world1)
 
 -- A macro is refused, or asks for a run of its own.
-room_asks : (Holds : Asked → Type 0) (w : World) (b : Bool) (kind : ErrorKind) (g : Unit {0} → World → Asked) →
-    Holds (refused (kind ∷ []) w) → (b ≡ true → Holds (g tt w)) → Holds (ask (check b kind w) g)
-room_asks Holds w true kind g h k = k refl
-room_asks Holds w false kind g h k = h
-
 macro_asks : (levels : ℕ) (host : HostValue) (m : MacroData) (args : List Val) (w : World) → Asks host w (enter_macro levels host m args w)
 macro_asks levels host m args w =
     let outer = levels + depth w.scopes + macro_depth in

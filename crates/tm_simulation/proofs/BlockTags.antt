@@ -8,21 +8,22 @@ use Rattle.tm_syntax.specs.declared.instruction.Instruction.TheVariants as i
 use Rattle.tm_meaning.specs.World.{choose, World, Res, Good, Bad, bind, tick, ticked, captured_text, is_safe}
 use Rattle.tm_meaning.specs.Calls.{whole, NestedCall, enter_block, block_call}
 use Rattle.tm_meaning.specs.Meaning.{Run, Outcome, Ending, done, leave, next, fault, Under, so_far, use_it, behind, in_place_of, block_tag}
-use Rattle.tm_meaning.specs.Meaning.{audible as heard_here, none_waits, capturing, text_behind}
-use Rattle.tm_meaning.specs.Machine.{goes, asked_in_place, stuck}
+use Rattle.tm_meaning.specs.Meaning.{audible as heard_here, none_waits, capturing, heard_behind, text_behind}
+use Rattle.tm_meaning.specs.Machine.{captured_value, goes, asked_in_place, stuck}
 use Rattle.tm_meaning.specs.Instructions.{end_capture_of}
 use Rattle.tm_syntax.proofs.Standing.{HasAt}
 use Rattle.tm_simulation.proofs.Advances.{Kept}
 use Rattle.tm_simulation.proofs.Gives.{tick_gives}
 use Rattle.tm_simulation.proofs.Asks.{in_block, block_asks, block_asks_by}
+use Rattle.tm_simulation.proofs.Follow.{capture_in}
 use Rattle.tm_simulation.proofs.Follow.{LeadsToEnd, captured_in, captures_of, Spot, told, cfg, later, Follows, Then, Ends, whole_of}
-use Rattle.tm_simulation.proofs.Follow.{bind_then, use_then, so_far_then, choose_ends, Go, silent, at, after_then}
+use Rattle.tm_simulation.proofs.Follow.{bound_twice, bind_then, use_then, so_far_then, choose_ends, Go, silent, at, after_then}
 use Rattle.tm_simulation.proofs.Forms.{Stands, fits_captured, audible_is}
 use Rattle.tm_meaning.specs.declared.stream.TemplateId.{TemplateId}
 use Rattle.tm_simulation.proofs.Levels.{Deep, Here, Setting, as_at, deep_kept, meaning, placed_then}
 
 -- ---------------------------------------------------------------- the parent that waits behind it
-behind_parent : (e : Ending) (c : NestedCall) (run : Run) (o : Outcome) → (behind e c run o).parent ≡ run.parent
+pub behind_parent : (e : Ending) (c : NestedCall) (run : Run) (o : Outcome) → (behind e c run o).parent ≡ run.parent
 behind_parent done c run o = refl
 behind_parent leave c run o = refl
 behind_parent next c run o = refl
@@ -45,20 +46,32 @@ module _ (setting : Setting) where
   abbrev u : Under
   u = meaning setting
 
-  -- A capture above the run's floor is ended, and its text pushed.
+  -- A capture above the run's floor is ended, and what it is then pushed.
+  pub capture_ended_then : (heard : Bool) (s : Spot) (q : Option TemplateId) (x : List ℕ) (pc : ℕ) (stack : List Val) (w : World) →
+      s.run.floor < suc (length (captures_of s.bed s.out)) →
+      let v = captured_value (record { heard = heard; text = x }) w in
+      Go context (later s q s.out) (pc + 1) (v ∷ stack) w →
+      LeadsToEnd context (told s) (end_capture_of (cfg (later (record s { bed = capture_in heard s.bed s.out; out = [] }) q x) pc stack w))
+  capture_ended_then heard s q x pc stack w stands g =
+      let v = captured_value (record { heard = heard; text = x }) w in
+      subst (λ b. LeadsToEnd context (told s) (choose b (λ _. goes (v ∷ stack) w (cfg (later s q s.out) pc stack w)) (λ _. stuck w)))
+      (sym (lt-ltb s.run.floor (suc (length (captures_of s.bed s.out))) stands)) (silent context (told s) _ g)
+
   pub ended_then : (s : Spot) (q : Option TemplateId) (x : List ℕ) (pc : ℕ) (stack : List Val) (w : World) →
       s.run.floor < suc (length (captures_of s.bed s.out)) →
       Go context (later s q s.out) (pc + 1) (captured_text x w ∷ stack) w →
       LeadsToEnd context (told s) (end_capture_of (cfg (later (record s { bed = captured_in s.bed s.out; out = [] }) q x) pc stack w))
-  ended_then s q x pc stack w stands g =
-      subst (λ b. LeadsToEnd context (told s) (choose b (λ _. goes (captured_text x w ∷ stack) w (cfg (later s q s.out) pc stack w))
-      (λ _. stuck w)))
-      (sym (lt-ltb s.run.floor (suc (length (captures_of s.bed s.out))) stands)) (silent context (told s) _ g)
+  ended_then s q x pc stack w stands g = capture_ended_then true s q x pc stack w stands g
 
   -- a run in a capture of its own
+  pub stands_in_capture : (heard : Bool) (run : Run) (s : Spot) → Stands context.base run s →
+      Stands context.base (capturing heard run) (record s { bed = capture_in heard s.bed s.out; out = [] })
+  stands_in_capture heard run s stands =
+      (stands.0, omega (arith, stands.1), fits_captured heard context.base run s.bed s.out stands.2)
+
   pub stands_captured : (run : Run) (s : Spot) → Stands context.base run s →
       Stands context.base (capturing true run) (record s { bed = captured_in s.bed s.out; out = [] })
-  stands_captured run s stands = (stands.0, omega (arith, stands.1), fits_captured context.base run s.bed s.out stands.2)
+  stands_captured run s stands = stands_in_capture true run s stands
 
   -- a block's tag: where it is heard the block is run in place, and else nothing is
   pub tag_then : (run : Run) (s : Spot) (pc : ℕ) (b : List ℕ) (stack : List Val) (w : World) (D L N : Then) → Stands context.base run s →
@@ -80,19 +93,30 @@ module _ (setting : Setting) where
       (block_asks context.program.host b world1) (deep_kept setting run s k d) h2 g)
       (λ h2. silent context (told s) _ (g s.parent s.out world1 (so_far_then context s.bed (as_at run s) s.out world1 D L N h2)))))))
 
-  -- ---------------------------------------------------------------- its text as a value
-  -- what follows behind the text, where the same parent waits
+  -- ---------------------------------------------------------------- what is heard in a capture
+  -- what follows behind it, where the same parent waits
+  abbrev pub HeardThen : {A : Type 0} → Spot → (List ℕ → World → Res A) → (A → World → Type 0) → Then
+  HeardThen s g K q out x = (q ≡ s.parent) × Follows context (told s) (g out x) K
+
+  pub heard_then : {A : Type 0} (heard : Bool) (s : Spot) (g : List ℕ → World → Res A) (K : A → World → Type 0) (e : Ending)
+      (q : Option TemplateId) (out : List ℕ) (x : World) → q ≡ s.parent →
+      Follows context (told s) (bind (heard_behind e (whole_of e q out x)) g) K →
+      Ends context (capture_in heard s.bed s.out) (whole_of e q out x) (HeardThen s g K) (HeardThen s g K) (HeardThen s g K)
+  unfolding Ends
+  heard_then heard s g K done q out x same h = (same, h)
+  heard_then heard s g K leave q out x same h = (same, h)
+  heard_then heard s g K next q out x same h = (same, h)
+  heard_then heard s g K (fault chain) q out x same h = h
+
+  -- the same of its text as a value
   abbrev TextThen : Spot → (Val → World → Res Val) → (Val → World → Type 0) → Then
-  TextThen s g K q out x = (q ≡ s.parent) × Follows context (told s) (g (captured_text out x) x) K
+  TextThen s g K = HeardThen s (λ out x. g (captured_text out x) x) K
 
   text_then : (s : Spot) (g : Val → World → Res Val) (K : Val → World → Type 0) (e : Ending) (q : Option TemplateId) (out : List ℕ)
       (x : World) → q ≡ s.parent → Follows context (told s) (bind (text_behind e (whole_of e q out x)) g) K →
       Ends context (captured_in s.bed s.out) (whole_of e q out x) (TextThen s g K) (TextThen s g K) (TextThen s g K)
-  unfolding Ends
-  text_then s g K done q out x same h = (same, h)
-  text_then s g K leave q out x same h = (same, h)
-  text_then s g K next q out x same h = (same, h)
-  text_then s g K (fault chain) q out x same h = h
+  text_then s g K e q out x same h =
+      heard_then true s _ K e q out x same (bound_twice context (told s) (heard_behind e (whole_of e q out x)) _ g K h)
 
   charged_text : (s : Spot) (run : Run) (m : Res (Unit {0})) (f : World → Outcome) (g : Val → World → Res Val) (K : Val → World → Type 0) →
       ((world1 : World) → (f world1).parent ≡ s.parent) →

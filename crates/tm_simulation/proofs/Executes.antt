@@ -6,6 +6,7 @@ use Rattle.tm_syntax.specs.declared.tree.CaptureUse.{CaptureUse}
 use Rattle.tm_syntax.specs.declared.tree.CaptureUse.TheVariants as uses
 use Rattle.tm_syntax.specs.declared.tree.Stmt.{Stmt, EmitRaw, EmitExpr, EmitLoop, EmitBlock, EmitSuper, If', For', Break, Continue, Block'}
 use Rattle.tm_syntax.specs.declared.tree.Stmt.{Extends, Set, CaptureBlock', With', Do, AutoEscape', Macro', CallBlock', Row_of-Stmt}
+use Rattle.tm_syntax.specs.declared.tree.Stmt.{Include, Import, FromImport}
 use Rattle.tm_syntax.specs.declared.tree.Stmt.{end_of-Stmt as no_statement}
 use Rattle.tm_syntax.specs.declared.tree.Stmt.{more_of-Stmt as statement}
 use Rattle.tm_syntax.specs.declared.tree.AssignmentTarget.{Name as To}
@@ -18,6 +19,7 @@ use Rattle.tm_meaning.specs.Calls.{Callee}
 use Rattle.tm_meaning.specs.Meaning.{again_in, turn_of, Run, Outcome, Under, use_it, say, eval, loop_items, assign}
 use Rattle.tm_meaning.specs.Operators.{truth}
 use Rattle.tm_meaning.specs.Meaning.{set_to, set_each, capturing, loop_over, has_none, exec_behind_loop, emit, filtered, use_text}
+use Rattle.tm_meaning.specs.Meaning.{import, import_names}
 use Rattle.tm_meaning.specs.Meaning.{behind_first, exec, exec_all, exec_else, declared, take_parameters, macro_body, call, with_caller}
 use Rattle.std.specs.Prelude.{codes}
 use Rattle.tm_simulation.proofs.Advances.{kept_same, within, advances_within, kept_popped, advances_escaped, kept_unescaped}
@@ -29,6 +31,7 @@ use Rattle.tm_simulation.proofs.Loads.{load_does, waits_ends}
 use Rattle.tm_meaning.specs.declared.stream.TemplateId.{TemplateId}
 use Rattle.tm_simulation.proofs.Evaluates.{place_ends, tag_ends, loop_items_give, assign_gives, filtered_gives, set_each_gives, set_gives}
 use Rattle.tm_simulation.proofs.Evaluates.{eval_gives, truth_gives}
+use Rattle.tm_simulation.proofs.Includes.{include_ends, import_gives, import_names_gives}
 use Rattle.tm_simulation.proofs.Declares.{declared_gives, caller_gives, call_gives, take_parameters_give}
 
 -- ---------------------------------------------------------------- statements
@@ -127,6 +130,13 @@ module _ (u : Under) (nest_ends : (k : Callee) (heard : Bool) (out : List ℕ) (
         let last = caller_gives u.host at.macros m in
         ends_use u.host w (call u run (with_caller u.host at.macros m) e w) run out _ (call_gives u nest_ends again_ends _ last run e w)
         (λ v world1. emit_ends run out v world1)
+    exec_ends at (Include e missing) run out w = include_ends u nest_ends again_ends run e missing out w
+    exec_ends at (Import e t) run out w =
+        ends_use u.host w (import u run e t w) run out _ (import_gives u nest_ends again_ends run e t w)
+        (λ _ world1. ends_here u.host world1 world1 run out (kept_same world1))
+    exec_ends at (FromImport e xs) run out w =
+        ends_use u.host w (import_names u run e xs w) run out _ (import_names_gives u nest_ends again_ends run e xs w)
+        (λ _ world1. ends_here u.host world1 world1 run out (kept_same world1))
 
     pub execs_end : {n : _} → (at : Numbers) (ss : Row_of-Stmt n) (run : Run) (out : List ℕ) (w : World) →
         OutcomeKeeps u.host run.parent w (exec_all u at ss run out w)

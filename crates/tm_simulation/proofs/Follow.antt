@@ -201,9 +201,12 @@ closed_then context b w close o D L N K e h k =
     closed_then_by context b w close o.ending o.parent o.text o.world D L N K
     (kept_by context.program.host w o.ending o.parent o.text o.world e) h (k o.parent o.text o.world)
 
--- the bed of what runs in a capture of its own
+-- the bed of what runs in a capture of its own, which takes what is written or not
+abbrev pub capture_in : Bool → Bed → List ℕ → Bed
+capture_in heard b out = inside heard (told_by b out) (captures_of b out)
+
 abbrev pub captured_in : Bed → List ℕ → Bed
-captured_in b out = inside true (told_by b out) (captures_of b out)
+captured_in b out = capture_in true b out
 
 -- what follows once a capture's end is charged and its text dropped
 abbrev pub Dropped : RunContext → Bed → List ℕ → Then → Then

@@ -10,7 +10,7 @@ use Rattle.tm_meaning.specs.Machine.{Activation, Finished, Failed, Back, More, P
 use Rattle.tm_meaning.specs.Machine.{Capture, base_of, first_run, nested, new_capture, waiting, pushed, nested_in_place, nested_as_value}
 use Rattle.tm_meaning.specs.Steps.{begun, begins, Final, final, Leads, over, more, nest}
 use Rattle.tm_meaning.proofs.Ends.{one_end}
-use Rattle.tm_simulation.proofs.Follow.{RunContext, LeadsToEnd, Bed, air, inside, captured_in, captures_of, told_by, Spot, told, cfg, later}
+use Rattle.tm_simulation.proofs.Follow.{RunContext, LeadsToEnd, Bed, air, inside, capture_in, captures_of, told_by, Spot, told, cfg, later}
 use Rattle.tm_simulation.proofs.Follow.{Follows, Then, Ends, whole_of, so_far_then, fault_then, Go, silent}
 use Rattle.tm_meaning.specs.declared.stream.TemplateId.{TemplateId}
 use Rattle.tm_meaning.specs.declared.base.Base.{Base}
@@ -28,8 +28,9 @@ captures_stand f run air out (i, n, h) = omega (arith, n)
 captures_stand f run (inside x t ks) out (inl (i, n, h)) = omega (arith, n)
 captures_stand f run (inside x t ks) out (inr (i, n, h)) = omega (arith, n)
 
-pub fits_captured : (f : Base) (run : Run) (b : Bed) (out : List ℕ) → Fits f run b → Fits f (capturing true run) (captured_in b out)
-fits_captured f run b out fits = inr (refl, omega (arith, captures_stand f run b out fits), refl)
+pub fits_captured : (heard : Bool) (f : Base) (run : Run) (b : Bed) (out : List ℕ) → Fits f run b →
+    Fits f (capturing heard run) (capture_in heard b out)
+fits_captured heard f run b out fits = inr (refl, omega (arith, captures_stand f run b out fits), refl)
 
 -- the machine is inside a capture of its run where the meaning is
 pub inside_is : (f : Base) (run : Run) (b : Bed) (out : List ℕ) → Fits f run b →

@@ -124,7 +124,7 @@ module _ (host : HostValue) where
   pub refused_arises : (w : World) (kind : ErrorKind) → is_raised kind ≡ true → Advances w w × Arises host (kind ∷ [])
   refused_arises w kind e = (advances_same w, raised e)
 
-  gives_then : {A : Type 0} (w world1 : World) (m : Res A) → Kept w world1 → Gives host world1 m → Gives host w m
+  pub gives_then : {A : Type 0} (w world1 : World) (m : Res A) → Kept w world1 → Gives host world1 m → Gives host w m
   gives_then w world1 (Good a world2) h k = kept_then h k
   gives_then w world1 (Bad chain world2) h k = (advances_then h.advances k.0, k.1)
 
@@ -243,6 +243,11 @@ module _ (host : HostValue) where
   ends_kept w world1 m run out g l h k = ends_kept_at w world1 m run out g l (parents_advance host run.parent l) h k
 
   -- in a scope more, where there is room for it
+  pub room_gives : {A B : Type 0} (w : World) (s : Scope) (room : Bool) (rest : World → Res A) (g : A → World → Res B) →
+      Gives host w (bind (rest (within s w)) g) → Gives host w (bind (bind (one_more room s w) (λ _ x. rest x)) g)
+  room_gives w s true rest g h = h
+  room_gives w s false rest g h = refused_arises w InvalidOperation refl
+
   pub ends_within : (w : World) (s : Scope) (room : Bool) (run : Run) (out : List ℕ) (g : Unit {0} → World → Outcome) →
       OutcomeKeeps host run.parent w (g tt (within s w)) → OutcomeKeeps host run.parent w (use_it (one_more room s w) run out g)
   ends_within w s true run out g h = h

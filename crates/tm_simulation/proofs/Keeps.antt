@@ -6,23 +6,26 @@ use Rattle.tm_values.specs.declared.error.ErrorKind.{ErrorKind}
 use Rattle.tm_values.specs.declared.error.ErrorKind.TheVariants.{InvalidOperation}
 use Rattle.tm_syntax.specs.Loops.{first_numbers, loops_in, FoundMacro, macros_in}
 use Rattle.tm_meaning.specs.Tree.{Body, Trees}
-use Rattle.tm_meaning.specs.World.{choose, root_of, World, HostValue, Res, Good, Bad, tick, plain_scope, put}
-use Rattle.tm_meaning.specs.Calls.{Callee, whole, macro_of, NestedCall, block_call, undone, runs, super_call, enter_super}
+use Rattle.tm_meaning.specs.World.{choose, root_of, World, HostValue, Scope, Res, Good, Bad, tick, plain_scope, put, owning, own_closure}
+use Rattle.tm_meaning.specs.World.{template_at}
+use Rattle.tm_meaning.specs.Calls.{Callee, whole, macro_of, NestedCall, block_call, undone, runs, super_call, enter_super, own_blocks}
+use Rattle.tm_meaning.specs.Calls.{include_depth, include_call, in_template, enter_include}
 use Rattle.tm_meaning.specs.Meaning.{over, under, again_of, Run, Outcome, Ending, done, leave, next, fault, Nests, Under, done_by}
 use Rattle.tm_meaning.specs.Meaning.{behind, in_place_of, block_tag, audible, none_waits, at_end, new_run, nests_of, rendered, chain_in}
 use Rattle.tm_meaning.specs.Meaning.{chain_of, macro_body, macro_run, stream_run, restarting, run_of, failed}
 use Rattle.tm_meaning.specs.Inheritance.{names_left, place_in}
-use Rattle.tm_simulation.specs.Kept.{UnlessFault, Stays, Grows, EndsThere, PutsBack}
+use Rattle.tm_simulation.specs.Kept.{UnlessFault, Stays, Grows, EndsThere, PutsBack, GivesBack, bare}
 use Rattle.tm_meaning.specs.declared.stream.TemplateId.{TemplateId}
 use Rattle.tm_meaning.specs.declared.stream.StreamId.{StreamId}
 use Rattle.tm_simulation.specs.Chains.{Arises, IfAny}
 use Rattle.tm_simulation.proofs.Advances.{Kept, advances_then, kept_then, in_stream, undone_scopes, undone_kept, super_undone_scopes}
+use Rattle.tm_simulation.proofs.Advances.{own_bare, include_undone_bare}
 use Rattle.tm_simulation.proofs.Parents.{blocks_same}
 use Rattle.tm_simulation.proofs.Gives.{Gives, RunEnds, run_ends, run_ends_by, run_ends_from, run_ends_behind, run_ends_as, ends_advance}
 use Rattle.tm_simulation.proofs.Gives.{EndingKeeps, OutcomeKeeps, ends_as, ends_from, ends_parents, parents_left, parents_kept}
 use Rattle.tm_simulation.proofs.Gives.{parents_advance, refused_arises, tick_gives}
 use Rattle.tm_simulation.proofs.Gives.{ends_refused, choose_ends}
-use Rattle.tm_simulation.proofs.Asks.{in_block, block_asks_by, in_super, super_asks_by}
+use Rattle.tm_simulation.proofs.Asks.{in_block, block_asks_by, in_super, super_asks_by, include_asks_by}
 use Rattle.tm_simulation.proofs.Executes.{execs_end, called_end, body_ends}
 
 done_by_ends : (host : HostValue) {q : Option TemplateId} (w world1 : World) (m : Res (Unit {0})) (o : Outcome) → Kept w world1 →
@@ -273,6 +276,56 @@ super_puts_back host trees n body run out w =
     let u : Under = under host (nests_of host trees n) body in
     super_asks_by (λ q. PutsBack w (in_place_of u run out q).world) host w (λ kind e. puts_back_same w) (λ stream x room.
     super_entered_puts_back u run out w stream x (nests_end host trees n (whole stream) (audible run) out (in_super stream x w)))
+
+-- ---------------------------------------------------------------- what an include puts back
+own_closure_back : (old new : List Scope) → bare new ≡ bare old → own_closure (owning (own_closure old) new) ≡ own_closure old
+own_closure_back [] [] same = refl
+own_closure_back [] (s ∷ ss) same = absurd (cc same)
+own_closure_back (s ∷ ss) [] same = absurd (cc same)
+own_closure_back (s ∷ ss) (t ∷ ts) same = refl
+
+gives_back_same : (w : World) → GivesBack w w
+gives_back_same w = record {
+  same_scopes = refl;
+  same_closure = refl;
+  same_outer = refl;
+  same_stream = refl;
+  same_block = refl;
+  same_escape = refl;
+  same_blocks = refl;
+  same_places = refl;
+  same_loaded = refl;
+}
+
+included_gives_back : (u : Under) (run : Run) (out : List ℕ) (w : World) (t : TemplateId) →
+    RunEnds u.host (in_template u.host t w) (u.nests (whole (root_of t)) (audible run) out (in_template u.host t w)) →
+    GivesBack w (in_place_of u run out (runs (include_call t w) (in_template u.host t w))).world
+included_gives_back u run out w t ends =
+    let c : NestedCall = include_call t w in
+    let began = in_template u.host t w in
+    let o = u.nests (whole (root_of t)) (audible run) out began in
+    let h = ends_advance u.host (in_stream o.world.stream began) o.ending o.world (run_ends_as u.host began o ends) in
+    let same = include_undone_bare (include_depth + w.scopes.outer) (root_of t) (template_at u.host t).escape
+    (own_blocks t (template_at u.host t).blocks) w o.world h in
+    subst (GivesBack w) (sym (behind_world o.ending c run o)) (record {
+      same_scopes = same;
+      same_closure = own_closure_back w.scopes.frames _ (sym (own_bare (own_closure w.scopes.frames) _) ∙ same);
+      same_outer = refl;
+      same_stream = refl;
+      same_block = refl;
+      same_escape = refl;
+      same_blocks = refl;
+      same_places = refl;
+      same_loaded = refl;
+    })
+
+pub include_gives_back : (host : HostValue) (trees : Trees) (n : ℕ) (body : Body) (run : Run) (out : List ℕ) (v : Val) (missing : Bool)
+    (w : World) → GivesBack w (in_place_of (under host (nests_of host trees n) body) run out (enter_include host v missing w)).world
+include_gives_back host trees n body run out v missing w =
+    let u : Under = under host (nests_of host trees n) body in
+    include_asks_by (λ q. GivesBack w (in_place_of u run out q).world) host w (λ chain h. gives_back_same w) (gives_back_same w)
+    (λ t room. included_gives_back u run out w t (nests_end host trees n (whole (root_of t)) (audible run) out (in_template host t w)))
+    v missing
 
 -- ---------------------------------------------------------------- of which kinds its fault is
 if_any : (Has : List ErrorKind → Type 0) (chain : List ErrorKind) → Has chain → IfAny Has chain

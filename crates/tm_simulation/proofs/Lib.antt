@@ -6,6 +6,7 @@ pub mod Loads
 pub mod Asks
 pub mod Evaluates
 pub mod Declares
+pub mod Includes
 pub mod Executes
 pub mod Keeps
 pub mod Chains
@@ -19,6 +20,7 @@ mod Arguments
 mod Expressions
 mod Targets
 mod Macros
+mod IncludeTags
 mod CallTags
 mod Rounds
 mod Statements

@@ -15,7 +15,7 @@ use Rattle.tm_simulation.proofs.Parents.{count_loaded}
 use Rattle.tm_simulation.proofs.Advances.{Advances, Kept, advances_same, loading_kept}
 use Rattle.tm_simulation.proofs.Gives.{Gives, OutcomeKeeps, parents_left, ends_from, ends_fault, refused_arises}
 
-need_does : {A B : Type 0} (Holds : Res B → Type 0) (w : World) (found : Option A) (kind : ErrorKind) (g : A → World → Res B) →
+pub need_does : {A B : Type 0} (Holds : Res B → Type 0) (w : World) (found : Option A) (kind : ErrorKind) (g : A → World → Res B) →
     Holds (Bad (kind ∷ []) w) → ((a : A) → found ≡ Some a → Holds (g a w)) → Holds (bind (need found kind w) g)
 need_does Holds w (Some a) kind g h k = k a refl
 need_does Holds w None kind g h k = h
@@ -25,7 +25,7 @@ check_does : {B : Type 0} (Holds : Res B → Type 0) (w : World) (b : Bool) (kin
 check_does Holds w true kind g h k = k refl
 check_does Holds w false kind g h k = h
 
-answer_does : {A B : Type 0} (Holds : Res B → Type 0) (w : World) (answer : Answer A) (g : A → World → Res B) →
+pub answer_does : {A B : Type 0} (Holds : Res B → Type 0) (w : World) (answer : Answer A) (g : A → World → Res B) →
     ((chain : List ErrorKind) → answer ≡ Err chain → Holds (Bad chain w)) → ((a : A) → Holds (g a w)) →
     Holds (bind (answered answer w) g)
 answer_does Holds w (Ok a) g h k = k a
@@ -36,7 +36,7 @@ abbrev pub LoadGives : HostValue → Option TemplateId → World → Res Templat
 LoadGives host q w (Good t world1) = Kept w world1 × (parents_left host (Some t) world1 ≤ parents_left host q w)
 LoadGives host q w (Bad chain world1) = Advances w world1 × Arises host chain
 
-not_true : (b : Bool) → not b ≡ true → b ≡ false
+pub not_true : (b : Bool) → not b ≡ true → b ≡ false
 not_true true h = absurd (cc h)
 not_true false h = refl
 

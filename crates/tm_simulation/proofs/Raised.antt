@@ -44,6 +44,7 @@ use Rattle.tm_definitions.specs.declared.comparison.ComparisonOperator.{Comparis
 use Rattle.tm_definitions.specs.declared.comparison.ComparisonOperator.TheVariants as comparison
 use Rattle.tm_definitions.specs.declared.form.Form.{Form}
 use Rattle.tm_definitions.specs.declared.form.Form.TheVariants.{Printed, Json}
+use Rattle.tm_meaning.specs.Calls.{choices_in}
 use Rattle.tm_meaning.specs.World.{Scope, HostValue, View, Format, find_name, in_frames, in_scope, or_on, or_on_answer, context_member}
 use Rattle.tm_meaning.specs.World.{namespace_member}
 use Rattle.tm_meaning.specs.World.{escape_for, escape_named, formatted, where_fine, same_name}
@@ -341,6 +342,10 @@ items_of_raises r v = items_or_raises InvalidOperation refl r v
 
 pub iterated_raises : (b : UndefinedBehavior) (r : RecordData) (v : Val) → Raises (iterated b r v)
 iterated_raises b r v = unless_raises b use_of.Iteration v _ (items_of_raises r v)
+
+pub choices_raise : (r : RecordData) (v : Val) → Raises (choices_in r v)
+choices_raise r (text s safe) = tt
+choices_raise r v = items_or_raises InvalidOperation refl r v
 
 exactly_raises : (n : ℕ) (answer : Answer (List Val)) → Raises answer → Raises (exactly n answer)
 exactly_raises n (Ok vs) h = by_test (λ b. cond b (Ok vs) (refused CannotUnpack)) _ tt refl

@@ -5,6 +5,7 @@ use Rattle.std.specs.Prelude.{slice_get, nat_lt, codes}
 use Rattle.tm_values.specs.Val.{Val, undefined, boolean}
 use Rattle.tm_syntax.specs.declared.tree.Stmt.{Stmt, EmitRaw, EmitExpr, EmitLoop, EmitBlock, EmitSuper, If', For', Break, Continue, Block'}
 use Rattle.tm_syntax.specs.declared.tree.Stmt.{Extends, Set, CaptureBlock', With', Do, AutoEscape', Macro', CallBlock', Row_of-Stmt}
+use Rattle.tm_syntax.specs.declared.tree.Stmt.{Include, Import, FromImport}
 use Rattle.tm_syntax.specs.declared.tree.Stmt.{end_of-Stmt as no_statement}
 use Rattle.tm_syntax.specs.declared.tree.AssignmentTarget.{Name as To}
 use Rattle.tm_syntax.specs.declared.tree.Stmt.{more_of-Stmt as statement, Held-Stmt-If-2 as Otherwise, None' as no_else}
@@ -31,7 +32,7 @@ use Rattle.tm_meaning.specs.Meaning.{eval}
 use Rattle.tm_meaning.specs.Meaning.{loop_items}
 use Rattle.tm_meaning.specs.Meaning.{filtered, set_to, set_each, capturing}
 use Rattle.tm_meaning.specs.Meaning.{rounds, loop_over, has_none, exec_behind_loop, behind_first, exec, exec_all}
-use Rattle.tm_meaning.specs.Meaning.{exec_else, declared, assign, call, with_caller}
+use Rattle.tm_meaning.specs.Meaning.{exec_else, declared, assign, call, with_caller, import, import_names}
 use Rattle.tm_meaning.specs.Machine.{after, goes}
 use Rattle.tm_meaning.specs.Instructions.{replacing, awaiting}
 use Rattle.tm_meaning.specs.Instructions.{looping}
@@ -53,6 +54,7 @@ use Rattle.tm_simulation.proofs.Evaluates.{eval_gives}
 use Rattle.tm_simulation.proofs.Evaluates.{loop_items_give}
 use Rattle.tm_simulation.proofs.Evaluates.{filtered_gives, set_gives, set_each_gives, assign_gives}
 use Rattle.tm_simulation.proofs.Declares.{declared_gives, caller_gives, call_gives}
+use Rattle.tm_simulation.proofs.Includes.{import_gives, import_names_gives}
 use Rattle.tm_simulation.proofs.Executes.{exec_ends, execs_end}
 use Rattle.tm_simulation.proofs.Follow.{LeadsToEnd, leave_then, next_then}
 use Rattle.tm_simulation.proofs.Follow.{opened_then, told_by, Spot, told, cfg}
@@ -70,6 +72,7 @@ use Rattle.tm_simulation.proofs.BlockTags.{ended_then, stands_captured, tag_then
 use Rattle.tm_simulation.proofs.Targets.{popped_then, set_runs, sets_run, target_runs, tested_then}
 use Rattle.tm_simulation.proofs.Targets.{used_then}
 use Rattle.tm_simulation.proofs.Macros.{declared_then}
+use Rattle.tm_simulation.proofs.IncludeTags.{include_runs, import_runs, import_names_run}
 use Rattle.tm_simulation.proofs.CallTags.{caller_runs, call_then}
 use Rattle.tm_simulation.proofs.Rounds.{did_not_is, end_at, iterable_runs, left_loop_then, looped, round_code, round_labels, rounds_run}
 use Rattle.tm_simulation.proofs.Rounds.{turn_ends, turn_of}
@@ -284,6 +287,18 @@ module _ (setting : Setting) where
         (use_then context s.bed w (call u (as_at run s) last e w) (as_at run s) s.out _ _ L N _
         (call_gives u (nest_ends setting) again_kept last (caller_gives context.program.host numbers.macros m) (as_at run s) e w) h
         (λ v world1 k1 h1. emit_then setting run s (beyond pc code) v stack world1 _ L N fits is.1.0 h1 (λ out1 world2 g. g)))
+    stmt_runs os numbers (Include e missing) run s l pc stack w L N fits d j is nth h =
+        include_runs setting e missing run s l pc stack w _ L N fits d is h (λ q1 out1 world1 g. g)
+    stmt_runs os numbers (Import e t) run s l pc stack w L N fits d j is nth h =
+        import_runs setting e t run s l pc stack w d is
+        (use_then context s.bed w (import u (as_at run s) e t w) (as_at run s) s.out _ _ L N _
+        (import_gives u (nest_ends setting) again_kept (as_at run s) e t w) h (λ _ world1 k1 h1.
+        so_far_then context s.bed (as_at run s) s.out world1 _ L N h1))
+    stmt_runs os numbers (FromImport e xs) run s l pc stack w L N fits d j is nth h =
+        import_names_run setting e xs run s l pc stack w d is
+        (use_then context s.bed w (import_names u (as_at run s) e xs w) (as_at run s) s.out _ _ L N _
+        (import_names_gives u (nest_ends setting) again_kept (as_at run s) e xs w) h (λ _ world1 k1 h1.
+        so_far_then context s.bed (as_at run s) s.out world1 _ L N h1))
 
     pub stmts_run : {m : _} → (os : List Opened) (numbers : Numbers) (l : Labels) (ss : Row_of-Stmt m) (run : Run) (s : Spot) (pc : ℕ)
         (stack : List Val) (w : World) (L N : Then) → Stands context.base run s → Deep setting run s w →

@@ -26,10 +26,12 @@ use Rattle.tm_syntax.specs.declared.tree.AssignmentTarget.{Row_of-AssignmentTarg
 use Rattle.tm_syntax.specs.declared.tree.AssignmentTarget.{end_of-AssignmentTarget as no_target, more_of-AssignmentTarget as target}
 use Rattle.tm_syntax.specs.declared.tree.Assignment.{Assignment}
 use Rattle.tm_syntax.specs.declared.tree.Parameter.{Parameter}
+use Rattle.tm_syntax.specs.declared.tree.Imported.{Imported}
 use Rattle.tm_syntax.specs.declared.tree.CaptureUse.{CaptureUse}
 use Rattle.tm_syntax.specs.declared.tree.CaptureUse.TheVariants as uses
 use Rattle.tm_syntax.specs.declared.tree.Stmt.{Stmt, EmitRaw, EmitExpr, EmitLoop, EmitBlock, EmitSuper, If', For', Break, Continue, Block'}
 use Rattle.tm_syntax.specs.declared.tree.Stmt.{Extends, Set, CaptureBlock', With', Do, AutoEscape', Macro', CallBlock', Row_of-Stmt}
+use Rattle.tm_syntax.specs.declared.tree.Stmt.{Include, Import, FromImport}
 use Rattle.tm_syntax.specs.declared.tree.Stmt.{end_of-Stmt as no_statement}
 use Rattle.tm_syntax.specs.declared.tree.Stmt.{more_of-Stmt as statement, Held-Stmt-If-2 as Otherwise, None' as no_else}
 use Rattle.tm_syntax.specs.declared.tree.Stmt.{Some' as otherwise}
@@ -51,6 +53,7 @@ use Rattle.tm_syntax.specs.Code.{expr_code, conditions_code, exprs_code, pairs_c
 use Rattle.tm_syntax.specs.Code.{arguments_code, listed_code, lists_code, keyword_code, keywords_code, step_code, links_code}
 use Rattle.tm_syntax.specs.Code.{steps_code, target_code}
 use Rattle.tm_syntax.specs.Code.{targets_code, set_code, assignments_code, iterable_code, pass_round, statement_code, statements_code}
+use Rattle.tm_syntax.specs.Code.{included_code, lookups_code, stores_code}
 use Rattle.tm_syntax.specs.Code.{branches_code, after_loop_code, filters_code, use_code, default_code, parameters_code, macro_head}
 use Rattle.tm_syntax.proofs.Standing.{HasAt, At}
 use Rattle.std.specs.Prelude.{codes}
@@ -213,6 +216,18 @@ behind_exit : (all : List Instruction) (l : Labels) (end : ℕ) (os : List Opene
     (i.PushDidNotIterate ∷ i.PopLoopFrame ∷ [])
 behind_exit all l end os no_else h = inl h
 behind_exit all l end os (otherwise _ body) h = inr h.0
+
+-- ---------------------------------------------------------------- nor do imports
+included_loopless : (e : Expr) → Loopless (included_code e)
+included_loopless e = ((refl, tt), (expr_loopless e, (refl, tt)))
+
+lookups_loopless : (xs : List Imported) → Loopless (lookups_code xs)
+lookups_loopless [] = tt
+lookups_loopless (x ∷ xs) = ((refl, tt), lookups_loopless xs)
+
+stores_loopless : (xs : List Imported) → Loopless (stores_code xs)
+stores_loopless [] = tt
+stores_loopless (x ∷ xs) = (stores_loopless xs, (refl, tt))
 
 -- ---------------------------------------------------------------- nor do the parameters of macros
 default_loopless : (default : Option Expr) → Loopless (default_code default)
@@ -380,6 +395,12 @@ mutual
       let inner = after_none (parameters_code ps) (parameters_loopless ps) (statements_begin [] (within_macro at) body) in
       before_none (straight (i.Emit ∷ [])) (refl, tt)
       (one_part_begins (call_has _ e) (macro_begins (is_macro at (codes "caller") ps body) inner))
+  statement_begins os at (Include e missing) = none_begin at (statement_code os (Include e missing)) (expr_loopless e, (refl, tt))
+  statement_begins os at (Import e t) =
+      none_begin at (statement_code os (Import e t)) ((refl, tt), (included_loopless e, ((refl, (refl, (refl, tt))), target_loopless t)))
+  statement_begins os at (FromImport e xs) =
+      none_begin at (statement_code os (FromImport e xs))
+      ((refl, tt), (included_loopless e, (lookups_loopless xs, ((refl, tt), (stores_loopless xs, (refl, (refl, tt)))))))
 
   pub statements_begin : {n : _} → (os : List Opened) (at : Numbers) (ss : Row_of-Stmt n) →
       Begins at (statements_code os ss) (loops_in at ss) (macros_in at ss) (pasts at ss)

@@ -1,6 +1,6 @@
 -- What runs keep of their world.
 use Rattle.std.specs.Prelude.{◌≡◌, ◌≤◌, ◌⊎◌, List, [], ◌∷◌, ◌++◌, length, None, Some, ℕ}
-use Rattle.tm_meaning.specs.World.{World, Loop, Scope, Named, find, root_of}
+use Rattle.tm_meaning.specs.World.{World, Loop, Scope, Named, find, root_of, own_closure}
 use Rattle.tm_meaning.specs.declared.stream.StreamId.{StreamId}
 use Rattle.tm_meaning.specs.declared.stream.TemplateId.{TemplateId}
 use Rattle.tm_meaning.specs.Meaning.{Ending, fault, Outcome}
@@ -70,6 +70,19 @@ pub record Grows (old : World) (o : Outcome) : Type 0 where
 -- A run ends in this stream, or in the root of a template.
 abbrev pub EndsThere : StreamId → Outcome → Type 0
 EndsThere stream o = (o.world.stream ≡ stream) ⊎ ((t : TemplateId) × (o.world.stream ≡ root_of t))
+
+-- What an include replaced is put back: the stream, the block, the escape, the lists of blocks, their places, the loaded names, and the
+-- scopes but for the names of the innermost one.
+pub record GivesBack (old new : World) : Type 0 where
+  pub same_scopes : bare new.scopes.frames ≡ bare old.scopes.frames
+  pub same_closure : own_closure new.scopes.frames ≡ own_closure old.scopes.frames
+  pub same_outer : new.scopes.outer ≡ old.scopes.outer
+  pub same_stream : new.stream ≡ old.stream
+  pub same_block : new.block ≡ old.block
+  pub same_escape : new.escape ≡ old.escape
+  pub same_blocks : new.blocks ≡ old.blocks
+  pub same_places : new.places ≡ old.places
+  pub same_loaded : new.loaded ≡ old.loaded
 
 -- What a call replaced is put back: the scopes, the stream, the block, the escape, and the places in lists of blocks, which grow at most.
 pub record PutsBack (old new : World) : Type 0 where

@@ -12,13 +12,13 @@ ghost use Rattle.tm_meaning.specs.World.{Good, HostValue, World};
 ghost use Rattle.tm_meaning.specs.declared.stream.StreamId.{StreamId};
 ghost use Rattle.tm_meaning.specs.declared.stream.TemplateId.{TemplateId};
 ghost use Rattle.tm_meaning.specs.Inheritance.{load, names_left};
-ghost use Rattle.tm_meaning.specs.Calls.{Callee, enter_super};
+ghost use Rattle.tm_meaning.specs.Calls.{Callee, enter_include, enter_super};
 ghost use Rattle.tm_meaning.specs.Tree.{Body, Trees};
 ghost use Rattle.tm_meaning.specs.Meaning.{Run, block_tag, chain_of, in_place_of, nests_of, new_run, rendered, run_of, under};
 ghost use Rattle.tm_meaning.specs.Machine.{Program, Capture, Stuck};
 ghost use Rattle.tm_meaning.specs.Steps.{Final, final};
 ghost use Rattle.tm_meaning.specs.Compiled.{IsCompiled};
-ghost use Rattle.tm_simulation.specs.Kept.{Stays, Grows, EndsThere, PutsBack};
+ghost use Rattle.tm_simulation.specs.Kept.{Stays, Grows, EndsThere, GivesBack, PutsBack};
 ghost use Rattle.tm_simulation.specs.Chains.{Arises, IfAny, HasRaised, StatesOnly};
 ghost use Rattle.tm_simulation.specs.Chains.{StatesNoMemory, ends_in_memory, MayWrap, is_foreign, HasNoForeign};
 ghost use Rattle.tm_simulation.specs.Reached.{RunsTo, Renders, HasLevels};
@@ -120,6 +120,15 @@ pub fn a_super_puts_back_what_it_replaced()
         (w : World) →
         let u = under host (nests_of host trees n) body in
         PutsBack w (in_place_of u run out (enter_super host w)).world }
+{}
+
+/// An include leaves all this as it was, and the lists of blocks and the loaded names too, whatever
+/// comes of it; of the scopes only the names of the innermost one may differ.
+pub fn an_include_gives_back_what_it_replaced()
+    ensures { (host : HostValue) (trees : Trees) (n : ℕ) (body : Body) (run : Run) (out : List ℕ)
+        (v : Val) (missing : Bool) (w : World) →
+        let u = under host (nests_of host trees n) body in
+        GivesBack w (in_place_of u run out (enter_include host v missing w)).world }
 {}
 
 /// The chain of a render's fault arises in it: what ends it is a kind that renders raise, or a chain that an object of the caller states,

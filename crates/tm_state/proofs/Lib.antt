@@ -7,3 +7,4 @@ pub mod Stored
 pub mod Declared
 pub mod Binding
 pub mod NameSets
+pub mod Included

@@ -5,14 +5,19 @@ use Rattle.std.specs.declared.alloc.Global.{Global}
 use Rattle.tm_meaning.specs.Memory.{is_want_of_memory}
 use Rattle.tm_values.specs.declared.error.ErrorKind.{ErrorKind}
 use Rattle.tm_values.specs.declared.error.ErrorKind.TheVariants.{InvalidOperation}
-use Rattle.tm_syntax.specs.Named.{put_each}
+use Rattle.std.specs.Borrow.{Bor}
+use Rattle.std.specs.Global.{Box}
+use Rattle.std.specs.declared.rc.Rc.{Rc}
+use Rattle.tm_syntax.specs.Named.{find, put_each}
+use Rattle.tm_tables.specs.Lists.{AreBlocksOf}
 use Rattle.tm_values.specs.Val.{Val, undefined}
 use Rattle.tm_tables.specs.Stated.{is_for_memory}
-use Rattle.tm_meaning.specs.World.{World, HostValue, Object, Stated, Loop, Res, Good, Bad, depth, plain_scope}
+use Rattle.tm_meaning.specs.World.{World, HostValue, Object, Stated, Loop, Res, Good, Bad, depth, owning, plain_scope}
 use Rattle.tm_meaning.specs.Calls.{Asked, has, refused, recurs, runs, NestedCall, MakesFurther, replied, found_call}
-use Rattle.tm_meaning.specs.Calls.{as_printed, as_truth, is_changed}
+use Rattle.tm_meaning.specs.Calls.{as_printed, as_truth, first_found, include_depth, is_changed}
 use Rattle.tm_meaning.specs.declared.reply.Call.{Call}
 use Rattle.tm_meaning.specs.declared.reply.Call.TheVariants as calls
+use Rattle.tm_meaning.specs.declared.stream.TemplateId.TheVariants.{Entry}
 use Rattle.tm_meaning.specs.declared.run_text.RunText.{RunText}
 use Rattle.tm_meaning.specs.declared.run_text.RunText.TheVariants as texts
 use Rattle.tm_state.specs.State.{callee_of, undo_of, IsSaved}
@@ -36,16 +41,30 @@ abbrev pub HasOneMore : World → World → Type 0
 HasOneMore old new =
     (new.scopes.frames ≡ plain_scope (undefined false) ∷ old.scopes.frames) × (old.scopes.outer ≤ new.scopes.outer)
 
+-- They are as many as before, and the very ones but for the own closure of the innermost one, which has none; and they stand deeper.
+abbrev pub StandsDeeper : World → World → Type 0
+StandsDeeper old new = (new.scopes.frames ≡ owning None old.scopes.frames) × (new.scopes.outer ≡ include_depth + old.scopes.outer)
+
 -- There is a scope more for a block, which keeps the places in lists of blocks, or for a `super()`; or there are two for a macro, deeper
--- than those that stood.
+-- than those that stood; or for an include those that stood, deeper.
 abbrev pub HasMore : Saved → World → World → Type 0
 HasMore (saved.Block s) old new = HasOneMore old new × (new.places ≡ old.places)
 HasMore (saved.Super s) old new = HasOneMore old new
 HasMore (saved.Macro s) old new = (length new.scopes.frames ≡ 2) × (depth old.scopes + 1 ≤ depth new.scopes)
+HasMore (saved.Include s) old new = StandsDeeper old new
 
 -- A run is needed first, whose scopes lie within the limit. What is put back behind it is what stood before.
 abbrev pub OneDeeper : ℕ → Saved → World → World → Type 0
 OneDeeper limit kept old new = IsSaved kept old × HasMore kept old new × (depth new.scopes ≤ limit)
+
+-- What is put back is that of a call, whose text is a value: not of an include, whose run names the scopes that stood.
+abbrev pub IsCall : Saved → Type 0
+IsCall (saved.Include s) = ⊥
+IsCall _ = Unit {0}
+
+-- The same of a call's run.
+abbrev pub CallDeeper : ℕ → Saved → World → World → Type 0
+CallDeeper limit kept old new = OneDeeper limit kept old new × IsCall kept
 
 -- What every answer keeps, also where it is a halt: the id, the fuel that was set, and no more of it is left than was.
 pub record KeepsFixed (old new : World) : Type 0 where
@@ -108,7 +127,7 @@ abbrev pub NeedsAny : NestedRun → Asked → World → Type 0
 NeedsAny e asked w =
     (e.heard ≡ true) × (e.value ≡ true) × ((b : World) × IsSaved e.saved b × (asked ≡ runs (call_of e b) w))
 
--- A `super()` needs this run first, from this world; the world before it was b.
+-- A `super()` or an include needs this run first, from this world; the world before it was b.
 abbrev pub NeedsSuper : Bool → Bool → NestedRun → Asked → World → World → Type 0
 NeedsSuper heard value e asked b w =
     (e.heard ≡ heard) × (e.value ≡ value) × IsSaved e.saved b × (asked ≡ runs (call_of e b) w)
@@ -135,7 +154,7 @@ NamedBecomes (Err chain) asked w = is_want_of_memory chain ≡ false → asked �
 
 -- How the scopes lie behind a call: as before, or with one more for the run that it needs.
 abbrev pub CallLies : ℕ → Result CallResult (List ErrorKind) → World → World → Type 0
-CallLies limit (Ok (outcome.Run e)) old new = OneDeeper limit e.value.saved old new
+CallLies limit (Ok (outcome.Run e)) old new = CallDeeper limit e.value.saved old new
 CallLies limit _ old new = StaysInPlace old new
 
 -- What a call leaves, whatever it came to.
@@ -182,7 +201,7 @@ PrintedComes make test result asked w = FurtherComes make test (calls.Macro [] [
 
 -- How the scopes lie behind it.
 abbrev pub FurtherLies : ℕ → Result Further (List ErrorKind) → World → World → Type 0
-FurtherLies limit (Ok (further.Run e)) old new = OneDeeper limit e.value.saved old new × KeepsFixedAndNames old new
+FurtherLies limit (Ok (further.Run e)) old new = CallDeeper limit e.value.saved old new × KeepsFixedAndNames old new
 FurtherLies limit _ old new = new ≡ record old { namespaces = new.namespaces }
 
 -- InvalidOperation for this cause, unless it is want of memory
@@ -192,3 +211,20 @@ IsBecause cause chain = is_want_of_memory chain ≡ false → chain ≡ InvalidO
 -- A loop is there, and this tells whether these arguments differ from those that it keeps.
 abbrev pub IsChangedAt : Bool → List Val → Option Loop → Type 0
 IsChangedAt changed args found = (l : Loop) × (found ≡ Some l) × (changed ≡ is_changed l.kept args)
+
+-- ---------------------------------------------------------------- includes
+-- An include needs this run first, in place; or nothing happens.
+abbrev pub NeedsInclude : Bool → Option (Box NestedRun) → Asked → World → World → Type 0
+NeedsInclude heard (Some e) asked b w = NeedsSuper heard false e.value asked b w
+NeedsInclude heard None asked b w = (asked ≡ has (undefined false) b) × (w ≡ b)
+
+-- How the scopes lie behind it.
+abbrev pub IncludeLies : ℕ → Option (Box NestedRun) → World → World → Type 0
+IncludeLies limit (Some e) old new = OneDeeper limit e.value.saved old new
+IncludeLies limit None old new = StaysInPlace old new
+
+-- The first template of these choices that is there, with the names of its blocks; or none is there.
+abbrev pub IsFirst : Option (List ℕ × Bor (Rc (List (List ℕ)) Global)) → HostValue → List Val → World → Type 0
+IsFirst None host vs w = first_found host vs w ≡ Good None w
+IsFirst (Some found) host vs w =
+    (first_found host vs w ≡ Good (Some (Entry found.0)) w) × AreBlocksOf (Some found.1) (find found.0 host.templates)

@@ -4,8 +4,10 @@ use Rattle.std.specs.Prelude.{option_and_then}
 use Rattle.tm_syntax.specs.Named.{find}
 use Rattle.tm_values.specs.Val.{MacroData, Val, undefined}
 use Rattle.tm_values.specs.declared.escape.AutoEscape.{AutoEscape}
-use Rattle.tm_meaning.specs.World.{Named, World, Loop, loop_scope, new_loop, root_of, block_of, plain_scope, with_frames}
-use Rattle.tm_meaning.specs.Calls.{Asked, runs, cut_to, block_call, macro_call, Undo, of_block, of_super, of_macro, Callee, whole, macro_of}
+use Rattle.tm_meaning.specs.World.{World, Loop, loop_scope, new_loop, root_of, block_of, plain_scope, with_frames}
+use Rattle.tm_meaning.specs.World.{own_closure, owning}
+use Rattle.tm_meaning.specs.Calls.{Asked, runs, cut_to, block_call, macro_call, Undo, of_block, of_super, of_macro, of_include, Callee, whole}
+use Rattle.tm_meaning.specs.Calls.{macro_of, outermost}
 use Rattle.tm_meaning.specs.Inheritance.{place_in}
 use Rattle.tm_meaning.specs.Meaning.{first_fuel}
 use Rattle.tm_meaning.specs.declared.stream.TemplateId.{TemplateId}
@@ -19,6 +21,7 @@ use Rattle.tm_state.specs.declared.saved.Saved.TheVariants as saved
 use Rattle.tm_state.specs.declared.saved.SavedBlock.{SavedBlock}
 use Rattle.tm_state.specs.declared.saved.SavedSuper.{SavedSuper}
 use Rattle.tm_state.specs.declared.saved.SavedMacro.{SavedMacro}
+use Rattle.tm_state.specs.declared.saved.SavedInclude.{SavedInclude}
 use Rattle.tm_state.specs.declared.nested.RunOf.{RunOf}
 use Rattle.tm_state.specs.declared.nested.RunOf.TheVariants as run_of
 
@@ -63,19 +66,26 @@ saved_scopes w = record { context = w.scopes; stream = w.stream; block = w.block
 abbrev pub saved_super : World → SavedSuper
 saved_super w = record { replaced = saved_of w; places = w.places }
 
+-- what is put back behind an include: as behind a block, and the innermost scope's own closure, the lists of blocks, their places and the
+-- loaded names
+abbrev pub saved_include : World → SavedInclude
+saved_include w = record { replaced = saved_of w; closure = own_closure w.scopes.frames; lists = lists_of w }
+
 -- What is put back is of this world,
 abbrev pub IsSaved : Saved → World → Type 0
 IsSaved (saved.Block s) w = s ≡ saved_of w
 IsSaved (saved.Super s) w = s ≡ saved_super w
 IsSaved (saved.Macro s) w = s ≡ saved_scopes w
+IsSaved (saved.Include s) w = s ≡ saved_include w
 
 -- and how it is undone.
 abbrev pub undo_of : Saved → World → Undo
 undo_of (saved.Block s) w = of_block w
 undo_of (saved.Super s) w = of_super w
 undo_of (saved.Macro s) w = of_macro w
+undo_of (saved.Include s) w = of_include w
 
--- the world behind a block, however that ended; behind a `super()`; and behind a macro
+-- the world behind a block, however that ended; behind a `super()`; behind a macro; and behind an include
 abbrev pub behind_block : SavedBlock → World → World
 behind_block s w = record (cut_to s.scopes s.outer w) { stream = s.stream; block = s.block; escape = s.escape }
 
@@ -93,11 +103,23 @@ behind_macro s w = record w {
   loaded = s.lists.loaded;
 }
 
+abbrev pub behind_include : SavedInclude → World → World
+behind_include s w = record w {
+  scopes = record { frames = owning s.closure (outermost s.replaced.scopes w.scopes.frames); outer = s.replaced.outer };
+  stream = s.replaced.stream;
+  block = s.replaced.block;
+  escape = s.replaced.escape;
+  blocks = s.lists.blocks;
+  places = s.lists.places;
+  loaded = s.lists.loaded;
+}
+
 -- the world behind a run
 abbrev pub put_back : Saved → World → World
 put_back (saved.Block s) w = behind_block s w
 put_back (saved.Super s) w = behind_super s w
 put_back (saved.Macro s) w = behind_macro s w
+put_back (saved.Include s) w = behind_include s w
 
 -- what runs
 abbrev pub callee_of : RunOf → Callee

@@ -8,7 +8,7 @@ ghost use Rattle.tm_meaning.specs.Calls.{block_call, by_depths, deeper, enter_bl
 ghost use Rattle.tm_meaning.specs.Calls.{as_printed, named_call, replied, runs, value_call};
 ghost use Rattle.tm_meaning.specs.declared.run_text.RunText.TheVariants as texts;
 ghost use Rattle.tm_state.specs.Answers.{Answers, Becomes, Comes, FurtherComes, FurtherLies, KeepsFixedAndNames, Leaves, NeedsPlain, PrintedComes};
-ghost use Rattle.tm_state.specs.Answers.{HasOneMore, OneDeeper, is_macro, shown, tested, text_for};
+ghost use Rattle.tm_state.specs.Answers.{CallDeeper, HasOneMore, is_macro, shown, tested, text_for};
 ghost use Rattle.tm_state.specs.State.{saved_of};
 
 use crate::calls::CallResult;
@@ -255,7 +255,7 @@ impl StateData {
         ensures ok { IfOk result (λ run. NeedsPlain test run.value (from_deeper self.old
             (enter_block (H.meaning host.now) name.now (deeper levels self.old))) self.new) }
         ensures deeper { IfOk result (λ run.
-            OneDeeper (H.meaning host.now).limit run.value.saved self.old self.new) }
+            CallDeeper (H.meaning host.now).limit run.value.saved self.old self.new) }
         ensures err { IfErr result (λ e. is_want_of_memory e ≡ false → from_deeper self.old
             (enter_block (H.meaning host.now) name.now (deeper levels self.old))
             ≡ refused e self.old) }

@@ -4,7 +4,7 @@ ghost use Rattle.tm_meaning.specs.Calls.{call_super, enter_super, refused};
 ghost use Rattle.tm_meaning.specs.Inheritance.{load, load_named, names_left};
 ghost use Rattle.tm_meaning.specs.Memory.{is_want_of_memory};
 ghost use Rattle.tm_meaning.specs.World.{Bad, Good};
-ghost use Rattle.tm_state.specs.Answers.{KeepsFixedAndNames, Leaves, NamedBecomes, NeedsSuper, OneDeeper};
+ghost use Rattle.tm_state.specs.Answers.{IsCall, KeepsFixedAndNames, Leaves, NamedBecomes, NeedsSuper, OneDeeper};
 ghost use Rattle.tm_state.specs.State.{IsNextOf, saved_of, template_behind};
 
 use crate::calls::CallResult;
@@ -50,6 +50,7 @@ impl StateData {
             (enter_super (H.meaning host.now) self.old) self.old self.new) }
         ensures deeper { IfOk result (λ run.
             OneDeeper (H.meaning host.now).limit run.value.saved self.old self.new) }
+        ensures call { IfOk result (λ run. IsCall run.value.saved) }
         ensures err { IfErr result (λ e. is_want_of_memory e ≡ false →
             enter_super (H.meaning host.now) self.old ≡ refused e self.old) }
         ensures unchanged { OnErr result (self.new ≡ self.old) }
@@ -91,7 +92,7 @@ impl StateData {
     }
 
     /// What is put back behind a block. Fails by OutOfMemory alone, where the owners of a name can't be counted.
-    fn saved_block(&self) -> Result<SavedBlock, Error>
+    pub(crate) fn saved_block(&self) -> Result<SavedBlock, Error>
         ensures ok { IfOk result (λ saved. saved ≡ saved_of self.now) }
         ensures kind { IfErr result (λ e. e ≡ ErrorKind.OutOfMemory ∷ []) }
     {

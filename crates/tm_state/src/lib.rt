@@ -7,6 +7,7 @@ mod calls;
 mod formatting;
 mod fuel;
 mod further;
+mod includes;
 mod inheritance;
 mod macros;
 mod nested;
@@ -19,5 +20,5 @@ mod streams;
 
 pub use calls::{CallResult, Recursion};
 pub use nested::{NestedRun, RunOf};
-pub use saved::{Saved, SavedBlock, SavedMacro, SavedSuper};
+pub use saved::{Saved, SavedBlock, SavedInclude, SavedMacro, SavedSuper};
 pub use state::StateData;

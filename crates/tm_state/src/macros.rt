@@ -4,7 +4,7 @@ ghost use Rattle.std.specs.Rc.{rc_str_bytes};
 ghost use Rattle.tm_meaning.specs.Calls.{enter_macro, known_stream, macro_scopes, refused};
 ghost use Rattle.tm_meaning.specs.Memory.{is_want_of_memory};
 ghost use Rattle.tm_meaning.specs.World.{Bad, Good, closing_over, depth, enclose, make_macro, own_closure, put_enclosed};
-ghost use Rattle.tm_state.specs.Answers.{KeepsFixedAndNames, NeedsMacro, OneDeeper};
+ghost use Rattle.tm_state.specs.Answers.{CallDeeper, KeepsFixedAndNames, NeedsMacro};
 ghost use Rattle.tm_state.specs.State.{runs_macro, saved_scopes};
 ghost use Rattle.tm_values.specs.Answer.{OkOrOutOfMemory};
 
@@ -80,7 +80,7 @@ impl StateData {
         }
         let number = self.closures.len();
         self.closures.add(alloc, name, value)?;
-        self.context.set_own_closure(number);
+        self.context.set_own_closure(Some(number));
         Ok(())
     }
 
@@ -125,7 +125,7 @@ impl StateData {
         ensures ok { IfOk result (λ run. NeedsMacro text run.value (enter_macro levels
             (H.meaning host.now) declared.now args.now self.old) self.old self.new) }
         ensures deeper { IfOk result (λ run.
-            OneDeeper (H.meaning host.now).limit run.value.saved self.old self.new) }
+            CallDeeper (H.meaning host.now).limit run.value.saved self.old self.new) }
         ensures err { IfErr result (λ e. is_want_of_memory e ≡ false → enter_macro levels
             (H.meaning host.now) declared.now args.now self.old ≡ refused e self.old) }
         ensures unchanged { OnErr result (self.new ≡ self.old) }

@@ -4,13 +4,13 @@ ghost use Rattle.tm_meaning.specs.Calls.{deeper, enter_block, refused};
 ghost use Rattle.tm_meaning.specs.Memory.{is_want_of_memory};
 ghost use Rattle.tm_meaning.specs.World.{depth};
 ghost use Rattle.tm_state.specs.Answers.{Becomes, HasOneMore, KeepsFixedAndNames, Leaves};
-ghost use Rattle.tm_state.specs.State.{IsBlockOf, behind_block, behind_macro, behind_super, lists_of, put_back, runs_block};
+ghost use Rattle.tm_state.specs.State.{IsBlockOf, behind_block, behind_include, behind_macro, behind_super, lists_of, put_back, runs_block};
 ghost use Rattle.tm_state.specs.State.{saved_of, saved_scopes, template_of_block};
 ghost use Rattle.tm_values.specs.Answer.{IsLent};
 
 use crate::calls::CallResult;
 use crate::nested::{NestedRun, RunOf};
-use crate::saved::{Saved, SavedBlock, SavedMacro, SavedSuper};
+use crate::saved::{Saved, SavedBlock, SavedInclude, SavedMacro, SavedSuper};
 use crate::state::StateData;
 use std::alloc::Global;
 use std::mem;
@@ -202,6 +202,7 @@ impl StateData {
             Saved::Block(saved) => self.leave_block(saved),
             Saved::Super(saved) => self.leave_super(saved),
             Saved::Macro(saved) => self.leave_macro(saved),
+            Saved::Include(saved) => self.leave_include(saved),
         }
     }
 
@@ -248,6 +249,20 @@ impl StateData {
         self.block = block;
         self.escape = escape;
         self.lists = lists;
+    }
+
+    /// Leaves the scopes that an include opened, and puts back what it replaced. Names that it gave stay.
+    fn leave_include(&mut self, saved: SavedInclude)
+        ensures { self.new ≡ behind_include saved self.old }
+    {
+        let SavedInclude {
+            replaced,
+            closure,
+            lists: before,
+        } = saved;
+        self.leave_block(replaced);
+        self.context.set_own_closure(closure);
+        self.lists = before;
     }
 
     /// Room for a run's operands, of which there are none.

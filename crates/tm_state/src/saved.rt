@@ -13,6 +13,8 @@ pub enum Saved {
     Super(SavedSuper),
     /// What a macro's run replaces.
     Macro(SavedMacro),
+    /// What an include's run replaces.
+    Include(SavedInclude),
 }
 
 /// What a block's run replaces.
@@ -50,6 +52,17 @@ pub struct SavedMacro {
     pub block: Option<Name>,
     /// The escape.
     pub escape: AutoEscape,
+    /// The lists of blocks, their places and the loaded names.
+    pub lists: Lists,
+}
+
+/// What an include's run replaces, which stands in the scopes that stood.
+#[derive(Drop)]
+pub struct SavedInclude {
+    /// What a block's run replaces.
+    pub replaced: SavedBlock,
+    /// The closure that was made in the innermost scope, where one was.
+    pub closure: Option<usize>,
     /// The lists of blocks, their places and the loaded names.
     pub lists: Lists,
 }

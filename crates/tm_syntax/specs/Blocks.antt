@@ -1,7 +1,8 @@
 -- Statements as one thing, and the blocks among them.
-use Rattle.std.specs.Prelude.{ℕ, List, [], ◌∷◌, ◌++◌, Bool}
+use Rattle.std.specs.Prelude.{List, [], ◌∷◌, ◌++◌, Bool}
 use mathlib.Core.Former.{Count}
 use Rattle.tm_syntax.specs.declared.tree.Stmt.{EmitRaw, EmitExpr, EmitLoop, EmitBlock, EmitSuper, Break, Continue, Extends, Set, Do}
+use Rattle.tm_syntax.specs.declared.tree.Stmt.{Include, Import, FromImport}
 use Rattle.tm_syntax.specs.declared.tree.Stmt.{Stmt, If', For', Block', CaptureBlock', With', AutoEscape', Macro', CallBlock', Row_of-Stmt}
 use Rattle.tm_syntax.specs.declared.tree.Stmt.{end_of-Stmt as no_statement, more_of-Stmt as statement, Held-Stmt-If-2 as Otherwise}
 use Rattle.tm_syntax.specs.declared.tree.Stmt.{None' as no_else, Some' as otherwise}
@@ -48,6 +49,9 @@ abbrev mutual
   blocks_of (Extends e) = []
   blocks_of (Set t e) = []
   blocks_of (Do e) = []
+  blocks_of (Include e missing) = []
+  blocks_of (Import e t) = []
+  blocks_of (FromImport e xs) = []
 
   pub blocks_in : {n : _} → Row_of-Stmt n → Named FoundBlock
   blocks_in no_statement = []

@@ -21,14 +21,16 @@ use Rattle.tm_syntax.specs.declared.tree.AssignmentTarget.{Row_of-AssignmentTarg
 use Rattle.tm_syntax.specs.declared.tree.AssignmentTarget.{end_of-AssignmentTarget as no_target, more_of-AssignmentTarget as target}
 use Rattle.tm_syntax.specs.declared.tree.Assignment.{Assignment}
 use Rattle.tm_syntax.specs.declared.tree.Parameter.{Parameter}
+use Rattle.tm_syntax.specs.declared.tree.Imported.{Imported}
 use Rattle.tm_syntax.specs.declared.tree.CaptureUse.{CaptureUse}
 use Rattle.tm_syntax.specs.declared.tree.CaptureUse.TheVariants as uses
 use Rattle.tm_syntax.specs.declared.tree.Stmt.{Stmt, EmitRaw, EmitExpr, EmitLoop, EmitBlock, EmitSuper, If', For', Break, Continue, Block'}
 use Rattle.tm_syntax.specs.declared.tree.Stmt.{Extends, Set, CaptureBlock', With', Do, AutoEscape', Macro', CallBlock', Row_of-Stmt}
+use Rattle.tm_syntax.specs.declared.tree.Stmt.{Include, Import, FromImport}
 use Rattle.tm_syntax.specs.declared.tree.Stmt.{end_of-Stmt as no_statement}
 use Rattle.tm_syntax.specs.declared.tree.Stmt.{more_of-Stmt as statement, Held-Stmt-If-2 as Otherwise, None' as no_else}
 use Rattle.tm_syntax.specs.declared.tree.Stmt.{Some' as otherwise}
-use Rattle.tm_syntax.specs.declared.instruction.CaptureMode.TheVariants.{Capture}
+use Rattle.tm_syntax.specs.declared.instruction.CaptureMode.TheVariants.{Capture, Discard}
 use Rattle.tm_syntax.specs.declared.instruction.LoopFlags.{LoopFlags}
 use Rattle.tm_syntax.specs.declared.instruction.Instruction.{Instruction}
 use Rattle.tm_syntax.specs.declared.instruction.Instruction.TheVariants as i
@@ -351,6 +353,21 @@ abbrev pub use_code : CaptureUse → Fragment
 use_code uses.Emit = straight (i.Emit ∷ [])
 use_code (uses.Assign t) = target_code t
 
+-- ---------------------------------------------------------------- templates that run here
+-- what stands in a scope of its own, where a template runs
+abbrev pub included_code : Expr → Fragment
+included_code e = straight (i.PushWith ∷ []) ⨾ expr_code e ⨾ straight (i.Include false ∷ [])
+
+-- the names that the template leaves, each looked up
+abbrev pub lookups_code : List Imported → Fragment
+lookups_code [] = straight []
+lookups_code (x ∷ xs) = straight (i.Lookup x.name ∷ []) ⨾ lookups_code xs
+
+-- their values are given from the last to the first
+abbrev pub stores_code : List Imported → Fragment
+stores_code [] = straight []
+stores_code (x ∷ xs) = stores_code xs ⨾ straight (i.StoreLocal x.target ∷ [])
+
 -- ---------------------------------------------------------------- statements
 abbrev pub close : Opened → List Instruction
 close a_scope = i.PopFrame ∷ []
@@ -434,6 +451,11 @@ abbrev mutual
   statement_code os (CallBlock' e ps _ body) =
       call_code (caller_end (declares (macro_head (codes "caller") ps body) (parameters_code ps ⨾ statements_code [] body))) e
       ⨾ straight (i.Emit ∷ [])
+  statement_code os (Include e missing) = expr_code e ⨾ straight (i.Include missing ∷ [])
+  statement_code os (Import e t) = straight (i.BeginCapture Capture ∷ []) ⨾ included_code e
+      ⨾ straight (i.EndCapture ∷ i.ExportLocals ∷ i.PopFrame ∷ []) ⨾ target_code t
+  statement_code os (FromImport e xs) = straight (i.BeginCapture Discard ∷ []) ⨾ included_code e
+      ⨾ lookups_code xs ⨾ straight (i.PopFrame ∷ []) ⨾ stores_code xs ⨾ straight (i.EndCapture ∷ i.DiscardTop ∷ [])
 
   pub statements_code : {n : _} → List Opened → Row_of-Stmt n → Fragment
   statements_code os no_statement = straight []

@@ -9,6 +9,7 @@ use Rattle.tm_syntax.specs.declared.tree.Expr.{Expr}
 use Rattle.tm_syntax.specs.declared.tree.AssignmentTarget.{AssignmentTarget}
 use Rattle.tm_syntax.specs.declared.tree.Parameter.{Parameter}
 use Rattle.tm_syntax.specs.declared.tree.Stmt.{EmitRaw, EmitExpr, EmitLoop, EmitBlock, EmitSuper, Break, Continue, Block', Extends, Set, Do}
+use Rattle.tm_syntax.specs.declared.tree.Stmt.{Include, Import, FromImport}
 use Rattle.tm_syntax.specs.declared.tree.Stmt.{Stmt, If', For', CaptureBlock', With', AutoEscape', Macro', CallBlock', Row_of-Stmt}
 use Rattle.tm_syntax.specs.declared.tree.Stmt.{end_of-Stmt as no_statement}
 use Rattle.tm_syntax.specs.declared.tree.Stmt.{more_of-Stmt as statement, Held-Stmt-If-2 as Otherwise, None' as no_else}
@@ -56,6 +57,9 @@ abbrev mutual
   past at (Extends e) = at
   past at (Set t e) = at
   past at (Do e) = at
+  past at (Include e missing) = at
+  past at (Import e t) = at
+  past at (FromImport e xs) = at
 
   pub pasts : {n : _} → Numbers → Row_of-Stmt n → Numbers
   pasts at no_statement = at
@@ -100,6 +104,9 @@ abbrev mutual
   loops_of at (Extends e) = []
   loops_of at (Set t e) = []
   loops_of at (Do e) = []
+  loops_of at (Include e missing) = []
+  loops_of at (Import e t) = []
+  loops_of at (FromImport e xs) = []
 
   pub loops_in : {n : _} → Numbers → Row_of-Stmt n → List FoundLoop
   loops_in at no_statement = []
@@ -138,6 +145,9 @@ abbrev mutual
   macros_of at (Extends e) = []
   macros_of at (Set t e) = []
   macros_of at (Do e) = []
+  macros_of at (Include e missing) = []
+  macros_of at (Import e t) = []
+  macros_of at (FromImport e xs) = []
 
   pub macros_in : {n : _} → Numbers → Row_of-Stmt n → List FoundMacro
   macros_in at no_statement = []
@@ -198,6 +208,8 @@ begins (i.PerformTest _ _ _) = None
 begins (i.CallBlock _) = None
 begins i.FastSuper = None
 begins i.LoadBlocks = None
+begins (i.Include _) = None
+begins i.ExportLocals = None
 begins (i.StoreLocal _) = None
 begins (i.Enclose _) = None
 begins i.GetClosure = None

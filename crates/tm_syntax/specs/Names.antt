@@ -23,10 +23,12 @@ use Rattle.tm_syntax.specs.declared.tree.AssignmentTarget.{Row_of-AssignmentTarg
 use Rattle.tm_syntax.specs.declared.tree.AssignmentTarget.{end_of-AssignmentTarget as no_target, more_of-AssignmentTarget as target}
 use Rattle.tm_syntax.specs.declared.tree.Assignment.{Assignment}
 use Rattle.tm_syntax.specs.declared.tree.Parameter.{Parameter}
+use Rattle.tm_syntax.specs.declared.tree.Imported.{Imported}
 use Rattle.tm_syntax.specs.declared.tree.CaptureUse.{CaptureUse}
 use Rattle.tm_syntax.specs.declared.tree.CaptureUse.TheVariants as uses
 use Rattle.tm_syntax.specs.declared.tree.Stmt.{Stmt, EmitRaw, EmitExpr, EmitLoop, EmitBlock, EmitSuper, If', For', Break, Continue, Block'}
 use Rattle.tm_syntax.specs.declared.tree.Stmt.{Extends, Set, CaptureBlock', With', Do, AutoEscape', Macro', CallBlock', Row_of-Stmt}
+use Rattle.tm_syntax.specs.declared.tree.Stmt.{Include, Import, FromImport}
 use Rattle.tm_syntax.specs.declared.tree.Stmt.{end_of-Stmt as no_statement}
 use Rattle.tm_syntax.specs.declared.tree.Stmt.{more_of-Stmt as statement, Held-Stmt-If-2 as Otherwise, None' as no_else}
 use Rattle.tm_syntax.specs.declared.tree.Stmt.{Some' as otherwise}
@@ -231,6 +233,11 @@ abbrev pub walk_parameters : Bool → List Parameter → Walk → Walk
 walk_parameters nested [] k = k
 walk_parameters nested (p ∷ more) k = walk_parameters nested more (walk_condition nested p.default (assign p.name k))
 
+-- the names that a template leaves are none that are read
+abbrev pub walk_imports : List Imported → Walk → Walk
+walk_imports [] k = k
+walk_imports (x ∷ xs) k = walk_imports xs (assign x.target k)
+
 -- what stands before a loop's body, in the scope of the loop
 abbrev pub walk_head : Bool → AssignmentTarget → Option Expr → Walk → Walk
 walk_head nested t c k = assign (codes "loop") (walk_condition nested c (walk_target nested t k))
@@ -259,6 +266,9 @@ abbrev mutual
       (walk_all nested body (walk_parameters nested ps (assign (codes "caller") (open_scope (assign x k)))))
   walk nested (CallBlock' e ps _ body) k = close_scope
       (walk_all nested body (walk_parameters nested ps (assign (codes "caller") (open_scope (walk_expr nested e k)))))
+  walk nested (Include e missing) k = walk_expr nested e k
+  walk nested (Import e t) k = walk_target nested t (walk_expr nested e k)
+  walk nested (FromImport e xs) k = walk_imports xs (walk_expr nested e k)
 
   pub walk_all : {n : _} → Bool → Row_of-Stmt n → Walk → Walk
   walk_all nested no_statement k = k

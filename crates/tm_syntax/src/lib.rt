@@ -21,6 +21,6 @@ pub use raw_text::RawText;
 pub use token::{Sign, Tag, Token};
 pub use tree::{
     Application, Argument, Assignment, AssignmentTarget, BinaryOperator, CallBlock, CaptureUse,
-    Comparison, Condition, Expr, ForLoop, Keyword, Macro, Pair, Parameter, Step, Stmt, Tree,
-    UnaryOperator,
+    Comparison, Condition, Expr, ForLoop, Imported, Keyword, Macro, Pair, Parameter, Step, Stmt,
+    Tree, UnaryOperator,
 };

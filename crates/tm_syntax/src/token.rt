@@ -135,6 +135,12 @@ pub enum Tag {
     Call,
     /// `{% endcall`
     Endcall,
+    /// `{% include`
+    Include,
+    /// `{% import`
+    Import,
+    /// `{% from`
+    From,
 }
 
 /// A token of a source.

@@ -194,6 +194,15 @@ pub struct Parameter {
     pub default: Option<Boxed<Expr>>,
 }
 
+/// A name that a template leaves, for a name of the innermost scope.
+#[derive(Drop)]
+pub struct Imported {
+    /// The name in the template.
+    pub name: Name,
+    /// The name that its value is given to.
+    pub target: Name,
+}
+
 /// What becomes of the text of a capture.
 #[derive(Drop)]
 pub enum CaptureUse {
@@ -243,6 +252,12 @@ pub enum Stmt {
     Macro(Macro),
     /// A call that is given a macro of its own.
     CallBlock(CallBlock),
+    /// The template that a value names runs here, and whether it may be missing.
+    Include(Boxed<Expr>, bool),
+    /// What a template exports, as a module, for a target.
+    Import(Boxed<Expr>, AssignmentTarget),
+    /// Names that a template leaves, for names of the innermost scope.
+    FromImport(Boxed<Expr>, Items<Imported>),
 }
 
 /// A loop over items.

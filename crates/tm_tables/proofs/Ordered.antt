@@ -98,13 +98,13 @@ module _ {A : Type 0} where
       sym (find-is z (put x a ps)) ∙ ap (find_by name_cmp z) (sym (put-is x a ps)) ∙ find_put name_cmp nat_list_cmp_total z x a ps
       ∙ ap (cond (is_at (name_cmp z) x) (Some a)) (find-is z ps)
 
-  abbrev IsInOrder : Named A → Type 0
+  abbrev pub IsInOrder : Named A → Type 0
   IsInOrder ps = T (is_sorted name_cmp ps)
 
   sorted-put : (x : List ℕ) (a : A) (ps : Named A) → IsInOrder ps → IsInOrder (put x a ps)
   sorted-put x a ps h = subst IsInOrder (put-is x a ps) (is_sorted-put name_cmp nat_list_cmp_total x a ps h)
 
-  sorted-in_order : (ps : Named A) → IsInOrder (in_order ps)
+  pub sorted-in_order : (ps : Named A) → IsInOrder (in_order ps)
   sorted-in_order [] = tt
   sorted-in_order (p ∷ ps) = sorted-put p.0 p.1 (in_order ps) (sorted-in_order ps)
 

@@ -1,5 +1,5 @@
 -- What the outermost of scopes exports, which is the first to be entered.
-use Rattle.std.proofs.Common.{◌≡◌, ℕ, zero, suc, ◌<◌, List, [], ◌∷◌, ◌++◌, length, slice_set, get_or, arith, Some, None, slice_get, is_some}
+use Rattle.std.proofs.Common.{◌≡◌, ℕ, zero, suc, ◌<◌, List, [], ◌∷◌, ◌++◌, length, slice_set, get_or, arith, Option, Some, None, slice_get, is_some}
 use Rattle.std.proofs.Common.{true≢false, reverse, unwrap_or, refl, sym, ap, ◌∙◌}
 use Rattle.std.proofs.lemmas.Grind.{reverse_onto}
 use Rattle.std.proofs.lemmas.List.{set-get_or, length-reverse, length-drop, reverse-append, take-append-drop}
@@ -9,7 +9,7 @@ use Rattle.std.proofs.Common.{Bool, true, false}
 use Rattle.tm_values.specs.Answer.{OrStays}
 use Rattle.tm_values.specs.Val.{Val}
 use Rattle.tm_syntax.specs.Named.{put}
-use Rattle.tm_meaning.specs.World.{Scope, Scopes, stored_in, with_own, without_locals}
+use Rattle.tm_meaning.specs.World.{Scope, Scopes, stored_in, owning, without_locals}
 use Rattle.tm_meaning.specs.Calls.{outermost, root_context}
 use Rattle.tm_tables.specs.Scopes.{exported_by, exported_of}
 
@@ -85,21 +85,21 @@ cleared-last (t ∷ u ∷ ss) (suc n) s h e =
     reverse_onto (slice_set (u ∷ ss) n (record s { locals = [] })) t [] ∙ ap (λ l. l ++ t ∷ []) (cleared-last (u ∷ ss) n s more e)
     ∙ cleared-before (reverse (u ∷ ss)) (t ∷ []) (reverse-long (u ∷ ss) n more) ∙ ap without_locals (sym (reverse_onto (u ∷ ss) t []))
 
-owned-before : (k : ℕ) (ss ts : List Scope) → 0 < length ss → with_own k ss ++ ts ≡ with_own k (ss ++ ts)
+owned-before : (k : Option ℕ) (ss ts : List Scope) → 0 < length ss → owning k ss ++ ts ≡ owning k (ss ++ ts)
 owned-before k [] ts h = absurd (omega (arith, h))
 owned-before k (s ∷ ss) ts h = refl
 
-pub owned-last : (k : ℕ) (ss : List Scope) (n : ℕ) (s : Scope) → length ss ≡ suc n → s ≡ get_or ss n s →
-    reverse (slice_set ss n (record s { own_closure = Some k })) ≡ with_own k (reverse ss)
+pub owned-last : (k : Option ℕ) (ss : List Scope) (n : ℕ) (s : Scope) → length ss ≡ suc n → s ≡ get_or ss n s →
+    reverse (slice_set ss n (record s { own_closure = k })) ≡ owning k (reverse ss)
 owned-last k [] n s h e = absurd (omega (arith, h))
-owned-last k (t ∷ []) zero s h e = ap (λ (u : Scope). record u { own_closure = Some k } ∷ []) e
+owned-last k (t ∷ []) zero s h e = ap (λ (u : Scope). record u { own_closure = k } ∷ []) e
 owned-last k (t ∷ []) (suc n) s h e = absurd (omega (arith, h))
 owned-last k (t ∷ u ∷ ss) zero s h e = absurd (omega (arith, h))
 owned-last k (t ∷ u ∷ ss) (suc n) s h e =
     let more : length (u ∷ ss) ≡ suc n = omega (arith, h) in
-    reverse_onto (slice_set (u ∷ ss) n (record s { own_closure = Some k })) t []
+    reverse_onto (slice_set (u ∷ ss) n (record s { own_closure = k })) t []
     ∙ ap (λ l. l ++ t ∷ []) (owned-last k (u ∷ ss) n s more e)
-    ∙ owned-before k (reverse (u ∷ ss)) (t ∷ []) (reverse-long (u ∷ ss) n more) ∙ ap (with_own k) (sym (reverse_onto (u ∷ ss) t []))
+    ∙ owned-before k (reverse (u ∷ ss)) (t ∷ []) (reverse-long (u ∷ ss) n more) ∙ ap (owning k) (sym (reverse_onto (u ∷ ss) t []))
 
 -- ---------------------------------------------------------------- the outermost scopes are the first to be entered
 pub outermost_of : (n : ℕ) (ss : List Scope) → outermost n (reverse ss) ≡ reverse (take n ss)

@@ -2,7 +2,7 @@
 use Rattle.std.specs.Borrow.{Bor}
 use Rattle.std.specs.Map.{keys_of}
 use Rattle.std.specs.Prelude.{◌≡◌, ℕ, List, [], ◌∷◌, length, Bool, nat_eq, Option, Some, None, is_some}
-use Rattle.std.specs.Prelude.{option_and_then, slice_get}
+use Rattle.std.specs.Prelude.{option_and_then, slice_get, map as each}
 use Rattle.std.specs.declared.alloc.Global.{Global}
 use Rattle.std.specs.declared.rc.Rc.{Rc}
 use Rattle.tm_syntax.specs.Named.{Named, find, put}
@@ -19,6 +19,11 @@ pub record LoadedValue : Type 0 where
 
 abbrev pub nothing_loaded : LoadedValue
 nothing_loaded = record { blocks = []; names = [] }
+
+-- the names that are shared, where any are
+abbrev pub names_in : Option (Rc (List (List ℕ)) Global) → List (List ℕ)
+names_in None = []
+names_in (Some shared) = shared.value
 
 -- what is shared, where anything is loaded
 abbrev pub loaded_in : Option (Rc LoadedValue Global) → LoadedValue
@@ -50,6 +55,10 @@ with_block t x ls = put x (behind_all t (find x ls)) ls
 abbrev pub with_each : TemplateId → List (List ℕ) → Named (List TemplateId) → Named (List TemplateId)
 with_each t [] ls = ls
 with_each t (x ∷ xs) ls = with_each t xs (with_block t x ls)
+
+-- blocks of these names, each of one template alone
+abbrev pub alone_in : TemplateId → List (List ℕ) → Named (List TemplateId)
+alone_in t xs = each (λ (x : List ℕ). (x, t ∷ [])) xs
 
 -- and so do those of the templates of a chain, one behind the other
 abbrev pub with_layers : List LayerValue → Named (List TemplateId) → Named (List TemplateId)

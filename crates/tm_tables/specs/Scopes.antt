@@ -1,9 +1,9 @@
 -- Words on scopes.
 use Rattle.std.specs.Map.{keys_of}
-use Rattle.std.specs.Prelude.{◌≡◌, ℕ, List, [], ◌∷◌, filter, take, codes, Bool, true, false, not}
+use Rattle.std.specs.Prelude.{◌≡◌, ℕ, List, [], ◌∷◌, filter, Bool, true, false}
 use Rattle.tm_values.specs.declared.error.ErrorKind.{ErrorKind}
 use Rattle.tm_values.specs.declared.error.ErrorKind.TheVariants.{InvalidOperation, OutOfMemory}
-use Rattle.tm_meaning.specs.World.{Scope, Scopes, same_name}
+use Rattle.tm_meaning.specs.World.{Scope, Scopes, is_exported}
 
 -- one scope, at the outermost depth
 abbrev pub one_scope : Scope → Scopes
@@ -13,10 +13,6 @@ one_scope scope = record { frames = scope ∷ []; outer = 0 }
 abbrev pub PushFails : Bool → List ErrorKind → Type 0
 PushFails false chain = chain ≡ InvalidOperation ∷ []
 PushFails true chain = chain ≡ OutOfMemory ∷ []
-
--- A name is exported unless it begins with `_`.
-abbrev pub is_exported : List ℕ → Bool
-is_exported x = not (same_name (take 1 x) (codes "_"))
 
 -- the names that a scope exports, in the order of its locals, which is that of the names
 abbrev pub exported_by : Scope → List (List ℕ)

@@ -7,7 +7,7 @@ ghost use Rattle.tm_values.specs.Answer.{OkOrOutOfMemory, OrStays};
 ghost use Rattle.tm_values.specs.Val.{undefined};
 ghost use Rattle.tm_values.specs.declared.error.ErrorKind.TheVariants.{OutOfMemory};
 ghost use Rattle.tm_meaning.specs.World.{View, plain_scope, depth, in_frames, innermost, own_closure, put_at, stored_in, top_mark};
-ghost use Rattle.tm_meaning.specs.World.{with_own, without_first, without_locals};
+ghost use Rattle.tm_meaning.specs.World.{owning, without_first, without_locals, exported, top_locals};
 ghost use Rattle.tm_meaning.specs.Calls.{outermost, root_context};
 ghost use Rattle.tm_tables.specs.Found.{IsFoundIn};
 ghost use Rattle.tm_tables.specs.Known.{AreFoundIn, AreKnownIn, NamingFails};
@@ -20,7 +20,7 @@ use std::alloc::Global;
 use std::marker::Model;
 use tm_meaning::LoopMark;
 use tm_syntax::{Name, NameMap};
-use tm_values::{Error, ErrorKind, Records, Value};
+use tm_values::{Error, ErrorKind, Records, Value, ValueMap};
 
 /// The scopes of a state. A contract sees them innermost first.
 #[derive(Drop)]
@@ -306,12 +306,23 @@ impl Context {
         self.frames.last()?.own_closure
     }
 
-    /// Lets the innermost scope, where there is one, have the closure of a number as its own.
-    pub fn set_own_closure(&mut self, number: usize)
-        ensures { self.new ≡ record self.old { frames = with_own number self.old.frames } }
+    /// Lets the innermost scope, where there is one, have the closure of a number as its own, or none.
+    pub fn set_own_closure(&mut self, closure: Option<usize>)
+        ensures { self.new ≡ record self.old { frames = owning closure self.old.frames } }
     {
         if let Some(innermost) = self.frames.len().checked_sub(1) {
-            self.frames[innermost].own(number);
+            self.frames[innermost].own(closure);
+        }
+    }
+
+    /// The names that the innermost scope exports, each as a key of its value, which is shared; none where there is no
+    /// scope. Fails by OutOfMemory alone.
+    pub fn exported(&self, alloc: Global) -> Result<ValueMap, Error>
+        ensures { OkOrOutOfMemory result (λ pairs. pairs ≡ exported (top_locals self.now.frames)) }
+    {
+        match self.frames.last() {
+            Some(innermost) => innermost.exported(alloc),
+            None => Ok(ValueMap::new(alloc)),
         }
     }
 

@@ -4,10 +4,10 @@ ghost use Rattle.tm_syntax.specs.Named.{put, texts_of};
 ghost use Rattle.tm_values.specs.Answer.{OkOrOutOfMemory, OrStays};
 ghost use Rattle.tm_values.specs.Val.{loop, undefined};
 ghost use Rattle.tm_values.specs.declared.error.ErrorKind.TheVariants.{OutOfMemory};
-ghost use Rattle.tm_meaning.specs.World.{plain_scope, loop_scope, marked_loop, context_member};
+ghost use Rattle.tm_meaning.specs.World.{plain_scope, loop_scope, marked_loop, context_member, is_exported, exported};
 ghost use Rattle.tm_tables.specs.Found.{IsHeld, IsFoundIn, meant_by};
 ghost use Rattle.tm_tables.specs.Known.{AddsFound, AreMembers, NamingFails, has_text, is_among};
-ghost use Rattle.tm_tables.specs.Scopes.{is_exported, exported_by};
+ghost use Rattle.tm_tables.specs.Scopes.{exported_by};
 
 use crate::closures::Closures;
 use crate::locals::Locals;
@@ -15,10 +15,10 @@ use std::alloc::{AllocError, Global};
 use std::marker::Model;
 use tm_meaning::LoopMark;
 use tm_syntax::Name;
-use tm_values::{Error, ErrorKind, Node, Records, Value, find_namespace};
+use tm_values::{Error, ErrorKind, Node, Records, Value, ValueMap, find_namespace};
 
 /// Whether a name is exported: it doesn't begin with `_`.
-fn is_exported(name: &str) -> bool
+pub(crate) fn is_exported(name: &str) -> bool
     ensures { result ≡ is_exported name.now }
 {
     match name.as_bytes().first() {
@@ -209,11 +209,11 @@ impl Frame {
         self.locals.insert_at_once(name, value)
     }
 
-    /// Has the closure of a number as its own.
-    pub(crate) fn own(&mut self, number: usize)
-        ensures { self.new ≡ record self.old { own_closure = Some number } }
+    /// Has the closure of a number as its own, or none.
+    pub(crate) fn own(&mut self, closure: Option<usize>)
+        ensures { self.new ≡ record self.old { own_closure = closure } }
     {
-        self.own_closure = Some(number);
+        self.own_closure = closure;
     }
 
     /// Loses its names.
@@ -235,6 +235,13 @@ impl Frame {
             }
         }
         Ok(exported)
+    }
+
+    /// The names that it exports, each as a key of its value, which is shared. Fails by OutOfMemory alone.
+    pub(crate) fn exported(&self, alloc: Global) -> Result<ValueMap, Error>
+        ensures { OkOrOutOfMemory result (λ pairs. pairs ≡ exported self.now.locals) }
+    {
+        self.locals.exported(alloc)
     }
 
     /// Adds the names that stand for something here: its own, its loop's, those of the closure that it reads, and the

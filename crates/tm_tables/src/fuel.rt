@@ -48,7 +48,8 @@ fn charge(instruction: &Instruction) -> u64
         | Instruction::PopAutoEscape
         | Instruction::BuildMacro(_, _, _)
         | Instruction::Return
-        | Instruction::LoadBlocks => 0,
+        | Instruction::LoadBlocks
+        | Instruction::ExportLocals => 0,
         Instruction::EmitRaw(_)
         | Instruction::Emit
         | Instruction::Lookup(_)
@@ -100,6 +101,7 @@ fn charge(instruction: &Instruction) -> u64
         | Instruction::SetAttr(_)
         | Instruction::Iterate(_)
         | Instruction::FastRecurse
+        | Instruction::Include(_)
         | Instruction::EndCapture => 1,
     }
 }

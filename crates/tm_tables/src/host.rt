@@ -16,7 +16,7 @@ use std::alloc::Global;
 use std::rc::Rc;
 use tm_meaning::{StreamId, TemplateId};
 use tm_syntax::{Code, Name, NameMap};
-use tm_values::{Error, UndefinedBehavior, Value};
+use tm_values::{AutoEscape, Error, UndefinedBehavior, Value};
 
 /// What a render runs under: the environment, the rendered template and all objects of the caller, as one.
 /// Its meaning is the host record of the definitions.
@@ -40,6 +40,10 @@ pub trait Host {
     /// The name of a template.
     fn template_name(&self, template: &TemplateId) -> &str
         ensures { result.now ≡ (template_at (meaning self.now) template.now).name };
+
+    /// How what a template emits is escaped.
+    fn template_escape(&self, template: &TemplateId) -> AutoEscape
+        ensures { result ≡ (template_at (meaning self.now) template.now).escape };
 
     /// Whether a stream is a required block.
     fn is_required(&self, stream: &StreamId) -> bool

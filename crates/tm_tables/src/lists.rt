@@ -4,7 +4,7 @@ ghost use Rattle.tm_meaning.specs.Inheritance.{place_in};
 ghost use Rattle.tm_meaning.specs.declared.stream.TemplateId.{TemplateId as Template};
 ghost use Rattle.tm_syntax.specs.Named.{find, put};
 ghost use Rattle.tm_syntax.specs.Names.{is_among};
-ghost use Rattle.tm_tables.specs.Lists.{IsListed, listed_at, loaded_part, no_lists, with_each};
+ghost use Rattle.tm_tables.specs.Lists.{IsListed, alone_in, listed_at, loaded_part, no_lists, with_each};
 ghost use Rattle.tm_values.specs.Answer.{OkOrOutOfMemory};
 ghost use Rattle.tm_values.specs.declared.error.ErrorKind.TheVariants.{OutOfMemory};
 
@@ -176,13 +176,49 @@ impl Lists {
     {
         if let Some(loaded) = &mut self.loaded {
             if let Some(own) = Rc::get_mut(loaded) {
-                return own.add(name);
+                return own.add(alloc, name);
             }
         }
         let mut own = self.copy_loaded(alloc)?;
-        own.add(name)?;
+        own.add(alloc, name)?;
         self.loaded = Some(shared(alloc, own)?);
         Ok(())
+    }
+
+    /// The lists of a template's blocks alone, of these names, with no places; the names that were loaded stay. Fails by
+    /// OutOfMemory alone.
+    #[tactic(auto, using(crate::proofs::Alone::each_alone))]
+    pub fn own(
+        &self,
+        alloc: Global,
+        template: &TemplateId,
+        names: &Rc<BlockNames>,
+    ) -> Result<Lists, Error>
+        ensures { OkOrOutOfMemory result (λ own. own ≡ record {
+          blocks = alone_in template.now names.now.value;
+          places = [];
+          loaded = self.now.loaded;
+        }) }
+    {
+        let mut own = self.names_alone(alloc)?;
+        names.as_ref().ascend();
+        own.append(alloc, template, names)?;
+        Ok(own)
+    }
+
+    /// The names that were loaded, without lists and places. Fails by OutOfMemory alone.
+    fn names_alone(&self, alloc: Global) -> Result<Lists, Error>
+        ensures { OkOrOutOfMemory result
+            (λ alone. alone ≡ record no_lists { loaded = self.now.loaded }) }
+    {
+        let Some(loaded) = &self.loaded else {
+            return Ok(Lists::new(alloc));
+        };
+        let names = loaded.as_ref().names_alone(alloc)?;
+        Ok(Lists {
+            loaded: Some(shared(alloc, names)?),
+            places: NameTable::new(alloc),
+        })
     }
 
     /// A copy of what is loaded, which nothing else owns. Fails by OutOfMemory alone.

@@ -11,7 +11,7 @@ ghost use Rattle.tm_values.specs.declared.error.ErrorKind.TheVariants.{OutOfMemo
 
 use crate::block_names::BlockNames;
 use crate::layer::Layer;
-use crate::name_table::NameTable;
+use crate::loaded_names::LoadedNames;
 use std::alloc::{AllocError, Global};
 use std::marker::Model;
 use std::rc::Rc;
@@ -62,25 +62,35 @@ fn copy_layers(alloc: Global, layers: &[Layer]) -> Result<Vec<Layer>, AllocError
     Ok(copy)
 }
 
+/// Names that were loaded, with an owner more. Fails by OutOfMemory alone.
+fn shared(alloc: Global, names: LoadedNames) -> Result<Rc<LoadedNames>, Error>
+    ensures { OkOrOutOfMemory result (λ made. made.value ≡ names) }
+{
+    match Rc::new(alloc, names) {
+        Ok(made) => Ok(made),
+        Err(_) => Err(Error::from(ErrorKind::OutOfMemory)),
+    }
+}
+
 /// The templates with the names of their blocks, from child to root, and the names of the templates that were loaded,
-/// in order. A contract sees the lists of the templates by the names of their blocks, and the latter.
+/// in order. Copies share the latter, until one of them gets more. A contract sees the lists of the templates by the
+/// names of their blocks, and the latter.
 #[derive(Drop)]
 pub(crate) struct Loaded {
     layers: Vec<Layer>,
-    names: Vec<Name>,
-    known: NameTable<()>,
+    names: Option<Rc<LoadedNames>>,
 }
 
 impl Model for Loaded {
     ghost use Rattle.std.specs.Prelude.{[]};
     ghost use Rattle.tm_tables.specs.Layers.{AreAscending};
-    ghost use Rattle.tm_tables.specs.Lists.{HasNames, LoadedValue, with_layers};
+    ghost use Rattle.tm_tables.specs.Lists.{LoadedValue, names_in, with_layers};
 
     ghost Value = { LoadedValue };
 
-    ghost view = { λ s. record { blocks = with_layers s.layers.items []; names = s.names.items } };
+    ghost view = { λ s. record { blocks = with_layers s.layers.items []; names = names_in s.names } };
 
-    ghost invariant = { λ s. (AreAscending s.layers.items) × (HasNames s.known s.names.items) };
+    ghost invariant = { λ s. AreAscending s.layers.items };
 }
 
 impl Loaded {
@@ -90,8 +100,7 @@ impl Loaded {
     {
         Loaded {
             layers: Vec::new(alloc),
-            names: Vec::new(alloc),
-            known: NameTable::new(alloc),
+            names: None,
         }
     }
 
@@ -129,7 +138,10 @@ impl Loaded {
     pub(crate) fn has(&self, name: &str) -> bool
         ensures { result ≡ is_among name.now self.now.names }
     {
-        self.known.get(name).is_some()
+        match &self.names {
+            Some(names) => names.as_ref().has(name),
+            None => false,
+        }
     }
 
     /// A template's blocks of these names stand behind those that are there. Fails by OutOfMemory alone, and then all
@@ -155,33 +167,53 @@ impl Loaded {
     }
 
     /// The name is loaded from here on. Fails by OutOfMemory alone, and then all stays as it was.
-    pub(crate) fn add(&mut self, name: Name) -> Result<(), Error>
+    pub(crate) fn add(&mut self, alloc: Global, name: Name) -> Result<(), Error>
         ensures ok { OnOk result
             (self.new ≡ record self.old { names = self.old.names ++ name ∷ [] }) }
         ensures kind { IfErr result (λ e. e ≡ OutOfMemory ∷ []) }
         ensures err { OnErr result (self.new ≡ self.old) }
     {
-        let key = name.share()?;
-        self.names.push(name)?;
-        if self.known.insert(key, ()).is_err() {
-            self.names.pop();
-            return Err(Error::from(ErrorKind::OutOfMemory));
+        if let Some(names) = &mut self.names {
+            if let Some(own) = Rc::get_mut(names) {
+                return own.add(name);
+            }
         }
+        let mut own = self.copy_names(alloc)?;
+        own.add(name)?;
+        self.names = Some(shared(alloc, own)?);
         Ok(())
+    }
+
+    /// A copy of the names, which nothing else owns. Fails by OutOfMemory alone.
+    fn copy_names(&self, alloc: Global) -> Result<LoadedNames, Error>
+        ensures { OkOrOutOfMemory result (λ copy. copy ≡ self.now.names) }
+    {
+        match &self.names {
+            Some(names) => names.as_ref().copy(alloc),
+            None => Ok(LoadedNames::new(alloc)),
+        }
+    }
+
+    /// The same names, which are shared, and no lists. Fails by OutOfMemory alone.
+    pub(crate) fn names_alone(&self, alloc: Global) -> Result<Loaded, Error>
+        ensures { OkOrOutOfMemory result (λ copy. copy ≡ record self.now { blocks = [] }) }
+    {
+        let names = match &self.names {
+            Some(names) => Some(names.clone()?),
+            None => None,
+        };
+        Ok(Loaded {
+            layers: Vec::new(alloc),
+            names,
+        })
     }
 
     /// The same lists and names. Fails by OutOfMemory alone.
     pub(crate) fn copy(&self, alloc: Global) -> Result<Loaded, Error>
         ensures { OkOrOutOfMemory result (λ copy. copy ≡ self.now) }
     {
-        let mut loaded = Loaded {
-            layers: copy_layers(alloc, &self.layers)?,
-            names: Vec::new(alloc),
-            known: NameTable::new(alloc),
-        };
-        for name in self.names.iter() {
-            loaded.add(name.share()?)?;
-        }
+        let mut loaded = self.names_alone(alloc)?;
+        loaded.layers = copy_layers(alloc, &self.layers)?;
         Ok(loaded)
     }
 }

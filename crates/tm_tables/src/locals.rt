@@ -1,19 +1,22 @@
 //! A scope's own names.
 ghost use Rattle.std.specs.List.Sorted.{IsStrictlySortedBy};
 ghost use Rattle.std.specs.Map.{keys_of};
-ghost use Rattle.std.specs.Prelude.{◌≡◌, [], IfOk, OnErr, OnOk, MatchOption, None, Some, false};
+ghost use Rattle.std.specs.Prelude.{◌≡◌, [], ◌∷◌, ◌++◌, IfErr, IfOk, OnErr, OnOk, MatchOption, None, Some, false};
 ghost use Rattle.tm_syntax.specs.Named.{find, name_cmp, put, texts_of};
 ghost use Rattle.std.specs.BTreeMap.{is_at};
 ghost use Rattle.tm_tables.specs.Closures.{IsReplaced, others_than};
 ghost use Rattle.tm_tables.specs.Known.{is_among};
 ghost use Rattle.tm_tables.specs.Locals.{IsPlace};
-ghost use Rattle.tm_values.specs.Answer.{OrStays};
+ghost use Rattle.tm_meaning.specs.World.{exported};
+ghost use Rattle.tm_values.specs.Answer.{OkOrOutOfMemory, OrStays};
+ghost use Rattle.tm_values.specs.declared.error.ErrorKind.TheVariants.{OutOfMemory};
 
+use crate::frame::is_exported;
 use std::alloc::{AllocError, Global};
 use std::collections::BTreeMap;
 use std::marker::Model;
 use tm_syntax::Name;
-use tm_values::{Node, Value};
+use tm_values::{Error, Node, Value, ValueMap};
 
 /// How many names are told apart by their hashes, one after the other. An index has those behind them, so
 /// that no scope with many names is slow.
@@ -54,6 +57,24 @@ fn forget(pairs: &mut Vec<(Name, Value)>, name: &Name)
     while let Some(place) = place_of(pairs, name) {
         let _pair = pairs.remove(place);
     }
+}
+
+/// Puts a second owner of a value behind those that are there, with its name as its key, where the name is exported.
+/// Fails by OutOfMemory alone.
+fn add_exported(
+    alloc: Global,
+    name: &Name,
+    value: &Value,
+    pairs: &mut Vec<(Value, Value)>,
+) -> Result<(), Error>
+    ensures ok { OnOk result
+        (pairs.new.items ≡ pairs.old.items ++ exported ((name.now, value.now) ∷ [])) }
+    ensures kind { IfErr result (λ e. e ≡ OutOfMemory ∷ []) }
+{
+    if is_exported(name.as_str()) {
+        pairs.push((Value::text(alloc, name.as_str())?, value.share()?))?;
+    }
+    Ok(())
 }
 
 /// Names with what they stand for, found by the hashes of the names first. The room of the first ones stays
@@ -192,6 +213,23 @@ impl Locals {
             names.push(name.as_str())?;
         }
         Ok(in_order(names))
+    }
+
+    /// The names that are exported, each as a key of its value, which is shared. Makes n log n comparisons for n names.
+    /// Fails by OutOfMemory alone.
+    pub(crate) fn exported(&self, alloc: Global) -> Result<ValueMap, Error>
+        ensures { OkOrOutOfMemory result (λ pairs. pairs ≡ exported self.now) }
+    {
+        let mut pairs = Vec::new(alloc);
+        for pair in &self.first {
+            add_exported(alloc, &pair.0, &pair.1, &mut pairs)?;
+        }
+        for (name, value) in self.others.iter() {
+            add_exported(alloc, name, value, &mut pairs)?;
+        }
+        // Of equal keys the last one counts in a map, and the first one here.
+        pairs.reverse();
+        ValueMap::from_pairs(pairs)
     }
 
     /// No name stands for anything from here on.

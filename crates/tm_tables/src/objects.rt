@@ -2,11 +2,11 @@
 ghost use Rattle.std.specs.Prelude.{◌≡◌, ◌<◌, ◌≤◌, ◌^◌, [], ◌∷◌, List, None, OnOk, OnErr, IfErr, IfNone, IfSome};
 ghost use Rattle.std.specs.Prelude.{IsSomeAnd, MatchOption, Some, is_some, length, map, slice_get};
 ghost use Rattle.tm_syntax.specs.Named.{find};
-ghost use Rattle.tm_values.specs.Answer.{IsLent};
+ghost use Rattle.tm_values.specs.Answer.{IsAnswer, IsLent};
 ghost use Rattle.tm_tables.specs.Stated.{IsCalled, IsNamedAnswer, no_functions, no_objects, language_functions, with_object};
 ghost use Rattle.tm_tables.specs.Stated.{next_number, callables, named_objects, StatedObjects};
 ghost use Rattle.tm_tables.specs.Stated.{with_filter, without_filter, with_test, without_test, with_fallback};
-ghost use Rattle.tm_tables.specs.Stated.{IsFormatterAnswer, with_escaping, with_formatter};
+ghost use Rattle.tm_tables.specs.Stated.{IsFormatterAnswer, with_escaping, with_formatter, with_joining};
 ghost use Rattle.tm_meaning.specs.Calls.{method_object};
 
 use crate::callable::{Callable, CallableAnswer, Called};
@@ -15,6 +15,7 @@ use crate::fallback::MethodFallback;
 use crate::formatter::Formatter;
 use crate::language::{LANGUAGE, language_function};
 use crate::name_table::{NO_PLACE, NameTable};
+use crate::path_join::PathJoin;
 use crate::view::View;
 use std::alloc::Global;
 use std::marker::Model;
@@ -89,13 +90,18 @@ pub trait Parties: Drop {
     /// The escape of a template of this name.
     fn escape(&self, name: &str) -> AutoEscape
         ensures { result ≡ (stated self.now).escapes name.now };
+
+    /// The name of the template that a name means where a template of the name `parent` runs. The fault of what joins
+    /// them; OutOfMemory.
+    fn join(&self, alloc: Global, name: &str, parent: &str) -> Result<Name, Error>
+        ensures { IsAnswer result ((stated self.now).join name.now parent.now) };
 }
 
 /// Functions by number, from 0: those of the language, where they are there, and then objects of the caller;
-/// the caller's filters and tests by name; its method object and its formatter, where it gave one; and what
-/// chooses escapes.
+/// the caller's filters and tests by name; its method object, its formatter and what joins names, where it gave
+/// one; and what chooses escapes.
 #[derive(Drop)]
-pub struct Objects<C: Drop, M: Drop, F: Drop, R: Drop> {
+pub struct Objects<C: Drop, M: Drop, F: Drop, R: Drop, J: Drop> {
     language: bool,
     functions: Vec<C>,
     filters: NameTable<C>,
@@ -103,15 +109,16 @@ pub struct Objects<C: Drop, M: Drop, F: Drop, R: Drop> {
     fallback: Option<M>,
     formatter: Option<F>,
     escaping: R,
+    joining: Option<J>,
 }
 
-impl<C: Drop, M: Drop, F: Drop, R: Drop> Model for Objects<C, M, F, R> {
+impl<C: Drop, M: Drop, F: Drop, R: Drop, J: Drop> Model for Objects<C, M, F, R, J> {
     ghost use Rattle.std.specs.Coded.{codes};
     ghost use Rattle.tm_tables.specs.Stated.{Table};
 
-    ghost Value = { Table C M F R };
+    ghost Value = { Table C M F R J };
 
-    ghost coded = { Prim.hlevel (codes, C.code, M.code, F.code, R.code) };
+    ghost coded = { Prim.hlevel (codes, C.code, M.code, F.code, R.code, J.code) };
 
     ghost view = { λ o. record {
       language = o.language;
@@ -121,26 +128,27 @@ impl<C: Drop, M: Drop, F: Drop, R: Drop> Model for Objects<C, M, F, R> {
       fallback = o.fallback;
       formatter = o.formatter;
       escaping = o.escaping;
+      joining = o.joining;
     } };
 }
 
-impl<C: Drop, M: Drop, F: Drop, R: Drop> Objects<C, M, F, R> {
+impl<C: Drop, M: Drop, F: Drop, R: Drop, J: Drop> Objects<C, M, F, R, J> {
     /// No objects but what chooses escapes.
-    pub fn new(alloc: Global, escaping: R) -> Objects<C, M, F, R>
+    pub fn new(alloc: Global, escaping: R) -> Objects<C, M, F, R, J>
         ensures { result ≡ no_functions escaping }
     {
         Objects::with(alloc, false, escaping)
     }
 
     /// The functions of the language, by the numbers of their table, and what chooses escapes.
-    pub fn of_language(alloc: Global, escaping: R) -> Objects<C, M, F, R>
+    pub fn of_language(alloc: Global, escaping: R) -> Objects<C, M, F, R, J>
         ensures { result ≡ language_functions escaping }
     {
         Objects::with(alloc, true, escaping)
     }
 
     /// No objects of the caller, and the functions of the language where they are asked for.
-    fn with(alloc: Global, language: bool, escaping: R) -> Objects<C, M, F, R>
+    fn with(alloc: Global, language: bool, escaping: R) -> Objects<C, M, F, R, J>
         ensures { result ≡ no_objects language escaping }
     {
         Objects {
@@ -151,6 +159,7 @@ impl<C: Drop, M: Drop, F: Drop, R: Drop> Objects<C, M, F, R> {
             fallback: None,
             formatter: None,
             escaping,
+            joining: None,
         }
     }
 
@@ -238,6 +247,13 @@ impl<C: Drop, M: Drop, F: Drop, R: Drop> Objects<C, M, F, R> {
         self.escaping = escaping;
     }
 
+    /// Lets this join the names of templates, in place of what did.
+    pub fn set_joining(&mut self, joining: J)
+        ensures { self.new ≡ with_joining joining self.old }
+    {
+        self.joining = Some(joining);
+    }
+
     /// The object of a place among the caller's, from 0, where there is one.
     fn object(&self, number: usize) -> Option<&C>
         ensures { IsLent result (slice_get self.now.objects number) }
@@ -246,7 +262,7 @@ impl<C: Drop, M: Drop, F: Drop, R: Drop> Objects<C, M, F, R> {
     }
 }
 
-impl<C: Callable, M: Drop, F: Drop, R: Drop> Objects<C, M, F, R> {
+impl<C: Callable, M: Drop, F: Drop, R: Drop, J: Drop> Objects<C, M, F, R, J> {
     /// What the object of a place among the caller's answers; none where there is none.
     fn answer(&self, alloc: Global, place: usize, args: &[Value], view: &View<'_>) -> Option<Called>
         ensures { MatchOption (slice_get (callables C.answers self.now.objects) place)
@@ -279,10 +295,11 @@ fn named_answer<C: Callable>(
     }
 }
 
-impl<C: Callable, M: MethodFallback, F: Formatter, R: EscapeRule> Parties for Objects<C, M, F, R> {
+impl<C: Callable, M: MethodFallback, F: Formatter, R: EscapeRule, J: PathJoin> Parties
+    for Objects<C, M, F, R, J> {
     ghost use Rattle.tm_tables.specs.Stated.{stated_of};
 
-    ghost stated = { stated_of C.answers M.answers F.formats R.escapes };
+    ghost stated = { stated_of C.answers M.answers F.formats R.escapes J.joins };
 
     #[tactic(auto, using(crate::proofs::Numbers::behind, crate::proofs::Numbers::before))]
     fn call_function(
@@ -364,5 +381,12 @@ impl<C: Callable, M: MethodFallback, F: Formatter, R: EscapeRule> Parties for Ob
 
     fn escape(&self, name: &str) -> AutoEscape {
         self.escaping.escape(name)
+    }
+
+    fn join(&self, alloc: Global, name: &str, parent: &str) -> Result<Name, Error> {
+        match &self.joining {
+            Some(joining) => joining.join(alloc, name, parent),
+            None => Ok(Name::new(alloc, name)?),
+        }
     }
 }

@@ -19,9 +19,10 @@ use Rattle.tm_state.specs.declared.saved.Saved.{Saved}
 use Rattle.tm_state.specs.declared.saved.Saved.TheVariants as saved
 use Rattle.tm_state.specs.declared.saved.SavedBlock.{SavedBlock}
 use Rattle.tm_state.specs.declared.saved.SavedMacro.{SavedMacro}
+use Rattle.tm_state.specs.declared.saved.SavedInclude.{SavedInclude}
 use Rattle.tm_state.specs.declared.saved.SavedSuper.{SavedSuper}
 use Rattle.tm_state.specs.declared.nested.NestedRun.{NestedRun}
-use Rattle.tm_state.specs.Answers.{Becomes, HasOneMore, KeepsFixedAndNames, Leaves, NamedBecomes, NeedsAny, OneDeeper, StaysInPlace, call_of}
+use Rattle.tm_state.specs.Answers.{Becomes, CallDeeper, HasOneMore, KeepsFixedAndNames, Leaves, NamedBecomes, NeedsAny, OneDeeper, StaysInPlace, call_of}
 use Rattle.tm_state.specs.State.{IsSaved, behind_block, callee_of, put_back, saved_of}
 use Rattle.tm_vm.specs.declared.flow.Flow.{Flow}
 use Rattle.tm_vm.specs.declared.flow.Flow.TheVariants as flow
@@ -95,15 +96,16 @@ block_left s before w places is more same =
     ∙ ap (λ n. record { frames = before.scopes.frames; outer = n }) (ap (λ (s : SavedBlock). s.outer) is)) same
 
 -- what is put back where no memory was found for the capture
-put_back_fewer : (limit : ℕ) (s : Saved) (before w : World) → OneDeeper limit s before w → NoFewer before (put_back s w)
+put_back_fewer : (limit : ℕ) (s : Saved) (before w : World) → CallDeeper limit s before w → NoFewer before (put_back s w)
+put_back_fewer limit (saved.Include s) before w deep = absurd deep.1
 put_back_fewer limit (saved.Block s) before w deep =
-    same_as_no_fewer before (put_back (saved.Block s) w) (block_left s before w (w.places) deep.0 deep.1.0 deep.1.1)
+    same_as_no_fewer before (put_back (saved.Block s) w) (block_left s before w (w.places) deep.0.0 deep.0.1.0 deep.0.1.1)
 put_back_fewer limit (saved.Super s) before w deep =
-    same_as_no_fewer before (put_back (saved.Super s) w) (block_left s.replaced before w (s.places) (ap (λ (s : SavedSuper). s.replaced) deep.0) deep.1
-    (ap (λ (s : SavedSuper). s.places) deep.0))
+    same_as_no_fewer before (put_back (saved.Super s) w) (block_left s.replaced before w (s.places) (ap (λ (s : SavedSuper). s.replaced) deep.0.0) deep.0.1
+    (ap (λ (s : SavedSuper). s.places) deep.0.0))
 put_back_fewer limit (saved.Macro s) before w deep =
-    same_as_no_fewer before (put_back (saved.Macro s) w) (standing before (put_back (saved.Macro s) w) (ap (λ (s : SavedMacro). s.context) deep.0)
-    (ap (λ (s : SavedMacro). s.lists.places) deep.0))
+    same_as_no_fewer before (put_back (saved.Macro s) w) (standing before (put_back (saved.Macro s) w) (ap (λ (s : SavedMacro). s.context) deep.0.0)
+    (ap (λ (s : SavedMacro). s.lists.places) deep.0.0))
 
 -- and what a run keeps is kept then
 pub put_back_keeps : (s : Saved) (before w : World) → IsSaved s before → KeepsFixedAndNames before w →
@@ -119,6 +121,12 @@ put_back_keeps (saved.Super s) before w is kept = record {
   same_fuel_set = kept.same_fuel_set;
   no_more_fuel = kept.no_more_fuel;
   same_loaded = kept.same_loaded;
+}
+put_back_keeps (saved.Include s) before w is kept = record {
+  same_id = kept.same_id;
+  same_fuel_set = kept.same_fuel_set;
+  no_more_fuel = kept.no_more_fuel;
+  same_loaded = ap (λ (s : SavedInclude). s.lists.loaded) is;
 }
 put_back_keeps (saved.Macro s) before w is kept = record {
   same_id = kept.same_id;
@@ -159,14 +167,14 @@ run_goes_on p e count old new (Ok (flow.Enter b)) h q before needs leaves =
           (enters_it p e.value vs old new before q needs h.1);
       kept = subst (λ w. KeepsFixedAndNames before w) (sym world) leaves.kept;
       deepens = subst (λ r. OneDeeper p.host.limit r before new.world) (sym (ap (λ (r : NestedRun). r.saved) h.0))
-          (subst (λ w. OneDeeper p.host.limit e.value.saved before w) (sym world) leaves.lies);
+          (subst (λ w. OneDeeper p.host.limit e.value.saved before w) (sym world) leaves.lies.0);
       same_stream = ap (λ (c : Config). c.run.stream) h.1;
     }
 run_goes_on p e count old new (Err halt.Writer) h q before needs leaves = absurd h
 run_goes_on p e count old new (Err halt.Stuck) h q before needs leaves = absurd h
 run_goes_on p e count old new (Err (halt.Fault chain)) h q before needs leaves = record {
   did = λ m. absurd (let w : true ≡ false = sym h.0 ∙ m in cc w);
-  kept = subst (λ w. KeepsFixedAndNames before w) (sym h.1) (put_back_keeps e.value.saved before old.world leaves.lies.0 leaves.kept);
+  kept = subst (λ w. KeepsFixedAndNames before w) (sym h.1) (put_back_keeps e.value.saved before old.world leaves.lies.0.0 leaves.kept);
   deepens = subst (λ w. NoFewer before w) (sym h.1) (put_back_fewer p.host.limit e.value.saved before old.world leaves.lies);
   same_stream = h.2;
 }

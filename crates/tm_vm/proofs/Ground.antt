@@ -1,10 +1,10 @@
 -- The scopes that a run leaves as they were.
-use Rattle.std.proofs.Common.{◌≡◌, ◌≤◌, ◌<◌, ◌+◌, ◌-◌, ℕ, zero, suc, List, [], ◌∷◌, length, drop, refl, sym, ap, ◌∙◌, subst, arith}
+use Rattle.std.proofs.Common.{◌≡◌, ◌≤◌, ◌<◌, ◌+◌, ◌-◌, ℕ, zero, suc, List, [], ◌∷◌, Option, length, drop, refl, sym, ap, ◌∙◌, subst, arith}
 use Rattle.std.proofs.lemmas.List.{length-drop}
 use Rattle.std.proofs.Math.Seq.{drop-nil}
 use Rattle.tm_values.specs.Val.{Val}
 use Rattle.tm_syntax.specs.declared.instruction.LoopFlags.{LoopFlags}
-use Rattle.tm_meaning.specs.World.{Scope, Scopes, World, loop_scope, pop, without_first}
+use Rattle.tm_meaning.specs.World.{Scope, Scopes, World, loop_scope, owning, pop, without_first}
 use Rattle.tm_meaning.specs.Calls.{outermost}
 use Rattle.tm_meaning.specs.declared.base.Base.{Base}
 use Rattle.tm_state.specs.Answers.{StaysInPlace}
@@ -21,7 +21,7 @@ drop_drop i (suc j) (s ∷ ss) =
     let next : suc (j + i) ≡ suc j + i = omega arith in
     drop_drop i j ss ∙ ap (λ k. drop k (s ∷ ss)) next
 
-outermost_twice : (n m : ℕ) (frames : List Scope) → n ≤ m → m ≤ length frames → outermost n (outermost m frames) ≡ outermost n frames
+pub outermost_twice : (n m : ℕ) (frames : List Scope) → n ≤ m → m ≤ length frames → outermost n (outermost m frames) ≡ outermost n frames
 outermost_twice n m frames below within =
     let long = length-drop (length frames - m) frames in
     drop_drop (length (outermost m frames) - n) (length frames - m) frames
@@ -58,6 +58,16 @@ pub below_changed : (s t : Scope) (frames : List Scope) →
 below_changed s t frames =
     let less : length (s ∷ frames) - 1 ≡ length frames = omega arith in
     ap (λ k. outermost k (t ∷ frames)) less ∙ under_one t frames ∙ sym (under_one s frames) ∙ ap (λ k. outermost k (s ∷ frames)) (sym less)
+
+-- whatever closure the innermost one has of its own
+pub owning_long : (closure : Option ℕ) (frames : List Scope) → length (owning closure frames) ≡ length frames
+owning_long closure [] = refl
+owning_long closure (s ∷ ss) = refl
+
+pub below_owning : (closure : Option ℕ) (frames : List Scope) →
+    outermost (length frames - 1) (owning closure frames) ≡ outermost (length frames - 1) frames
+below_owning closure [] = refl
+below_owning closure (s ∷ ss) = below_changed s (record s { own_closure = closure }) ss
 
 -- ---------------------------------------------------------------- the ground
 pub ground_same : (n : ℕ) (w : World) → KeepsGround n w w

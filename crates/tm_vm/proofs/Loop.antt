@@ -7,7 +7,7 @@ use Rattle.std.proofs.lemmas.List.{append-nil}
 use Rattle.std.proofs.Common.{◌+◌, ◌-◌}
 use Rattle.tm_meaning.specs.World.{Scope}
 use Rattle.tm_meaning.specs.Calls.{outermost}
-use Rattle.tm_meaning.specs.World.{World, Scopes, depth, without_first}
+use Rattle.tm_meaning.specs.World.{World, Scopes, depth, owning, without_first}
 use Rattle.tm_meaning.specs.Calls.{undone, wrapped}
 use Rattle.tm_meaning.specs.Memory.{is_want_of_memory}
 use Rattle.tm_meaning.specs.declared.wrapping.Wrapping.{Wrapping}
@@ -27,12 +27,13 @@ use Rattle.tm_state.specs.declared.nested.NestedRun.{NestedRun}
 use Rattle.tm_vm.specs.declared.flow.Flow.{Flow}
 use Rattle.tm_vm.specs.declared.flow.Flow.TheVariants as flow
 use Rattle.tm_vm.specs.Answers.{Begins, ComesTo, Did, Enters, HaltsAs, KeepsGround, NoFewer, ReachesEnd, KeepsBaseScopes, SameStanding, output}
-use Rattle.tm_vm.proofs.Ground.{below_first, ground_then, standing}
+use Rattle.tm_vm.proofs.Ground.{below_first, below_owning, ground_then, outermost_long, outermost_twice, owning_long, standing}
 use Rattle.tm_state.specs.Answers.{KeepsFixed, KeepsFixedAndNames, OneDeeper, call_of}
 use Rattle.tm_state.specs.declared.saved.Saved.{Saved}
 use Rattle.tm_state.specs.declared.saved.Saved.TheVariants as saved
 use Rattle.tm_state.specs.declared.saved.SavedBlock.{SavedBlock}
 use Rattle.tm_state.specs.declared.saved.SavedMacro.{SavedMacro}
+use Rattle.tm_state.specs.declared.saved.SavedInclude.{SavedInclude}
 use Rattle.tm_vm.specs.Nested.{IsCaptured, RanNested, Went, EndsIn, WroteBeginning, IsBack, IsWrapped, StandsOn, behind, begins_in, base_in}
 use Rattle.tm_state.specs.State.{IsSaved, callee_of, put_back, undo_of}
 use Rattle.tm_meaning.specs.Inheritance.{names_left}
@@ -147,6 +148,7 @@ pub undone_is : (s : Saved) (b w : World) → IsSaved s b → undone (undo_of s 
 undone_is (saved.Block s) b w is = sym (ap (λ x. put_back (saved.Block x) w) is)
 undone_is (saved.Super s) b w is = sym (ap (λ x. put_back (saved.Super x) w) is)
 undone_is (saved.Macro s) b w is = sym (ap (λ x. put_back (saved.Macro x) w) is)
+undone_is (saved.Include s) b w is = sym (ap (λ x. put_back (saved.Include x) w) is)
 
 -- what a nested run's end leads to, by what is put back behind it
 behind_is : (e : NestedRun) (b : World) (r : Activation) (end : End) → IsSaved e.saved b →
@@ -305,6 +307,17 @@ scopes_back limit (saved.Super s) old mid new deep back =
     (back.2 ∙ ap (λ (s : SavedSuper). s.places) deep.0)
 scopes_back limit (saved.Macro s) old mid new deep back =
     standing old new (back.0 ∙ ap (λ (s : SavedMacro). s.context) deep.0) (back.1 ∙ ap (λ (s : SavedMacro). s.lists.places) deep.0)
+scopes_back limit (saved.Include s) old mid new deep back =
+    let many : s.replaced.scopes ≡ length old.scopes.frames = ap (λ (s : SavedInclude). s.replaced.scopes) deep.0 in
+    let below = ap (λ n. outermost (n - 1) new.scopes.frames) (sym many) ∙ back.1 ∙ ap (λ n. outermost (n - 1) mid.scopes.frames) many
+    ∙ ap (outermost (length old.scopes.frames - 1)) deep.1.0 ∙ below_owning None old.scopes.frames in (
+      back.0 ∙ many,
+      (
+        below,
+        back.2 ∙ ap (λ (s : SavedInclude). s.replaced.outer) deep.0,
+        back.3 ∙ ap (λ (s : SavedInclude). s.lists.places) deep.0,
+      ),
+    )
 
 pub scopes_behind : (limit : ℕ) (e : NestedRun) (old mid new : World) → OneDeeper limit e.saved old mid → IsBack e.saved mid new →
     SameStanding old new
@@ -326,6 +339,15 @@ lies_deeper limit (saved.Super s) old mid deep names =
 lies_deeper limit (saved.Macro s) old mid deep names =
     let lies = deep.1.1 in
     (ap (λ (s : SavedMacro). s.lists.loaded) deep.0 ∙ sym names, omega (arith, lies))
+lies_deeper limit (saved.Include s) old mid deep names =
+    let many : length mid.scopes.frames ≡ length old.scopes.frames = ap length deep.1.0 ∙ owning_long None old.scopes.frames in
+    let outer = deep.1.1 in (
+      (
+        many ∙ sym (ap (λ (s : SavedInclude). s.replaced.scopes) deep.0),
+        ap (λ (s : SavedInclude). s.lists.loaded) deep.0 ∙ sym names,
+      ),
+      omega (arith, many, outer),
+    )
 
 pub stands_deeper : (limit : ℕ) (e : NestedRun) (old mid : World) → OneDeeper limit e.saved old mid → mid.loaded ≡ old.loaded →
     StandsOn e.saved mid × (depth old.scopes < depth mid.scopes)
@@ -343,6 +365,16 @@ pub is_back : (s : Saved) (begun ran : World) → StandsOn s begun → NoFewer b
 is_back (saved.Block s) begun ran stands no_fewer = (left_below s.scopes begun ran stands no_fewer, refl, no_fewer.1.2)
 is_back (saved.Super s) begun ran stands no_fewer = (left_below s.replaced.scopes begun ran stands no_fewer, refl, refl)
 is_back (saved.Macro s) begun ran stands no_fewer = (refl, refl)
+is_back (saved.Include s) begun ran stands no_fewer =
+    let n = s.replaced.scopes in
+    let held : length begun.scopes.frames ≡ n = stands.0 in
+    let more = no_fewer.0 in
+    let left = outermost n ran.scopes.frames in
+    let long : length left ≡ n = outermost_long n ran.scopes.frames (omega (arith, held, more)) in
+    let below = ap (λ k. outermost (k - 1) (owning s.closure left)) (sym long) ∙ below_owning s.closure left ∙ ap (λ k. outermost (k - 1) left) long
+    ∙ outermost_twice (n - 1) n ran.scopes.frames (omega arith) (omega (arith, held, more))
+    ∙ ap (λ k. outermost (k - 1) ran.scopes.frames) (sym held) ∙ no_fewer.1.0 ∙ ap (λ k. outermost (k - 1) begun.scopes.frames) held in
+    (owning_long s.closure left ∙ long, below, refl, refl)
 
 -- the same, of a run that began in the world that was left before it
 pub was_back : (s : Saved) (old begun ran new : World) → begun ≡ old → StandsOn s old → NoFewer begun ran → new ≡ put_back s ran →
@@ -355,6 +387,10 @@ pub names_back : (host : HostValue) (s : Saved) (begun ran : World) → StandsOn
     names_left host (put_back s ran) ≤ names_left host begun
 names_back host (saved.Block s) begun ran stands less = less
 names_back host (saved.Super s) begun ran stands less = less
+names_back host (saved.Include s) begun ran stands less =
+    let same : names_left host (put_back (saved.Include s) ran) ≡ names_left host begun =
+    ap (λ ns. names_left host (record ran { loaded = ns })) stands.1 in
+    omega (arith, same)
 names_back host (saved.Macro s) begun ran stands less =
     let same : names_left host (put_back (saved.Macro s) ran) ≡ names_left host begun =
     ap (λ ns. names_left host (record ran { loaded = ns })) stands in
@@ -366,6 +402,8 @@ fixed_back (saved.Block s) old ran kept =
 fixed_back (saved.Super s) old ran kept =
     record { same_id = kept.same_id; same_fuel_set = kept.same_fuel_set; no_more_fuel = kept.no_more_fuel }
 fixed_back (saved.Macro s) old ran kept =
+    record { same_id = kept.same_id; same_fuel_set = kept.same_fuel_set; no_more_fuel = kept.no_more_fuel }
+fixed_back (saved.Include s) old ran kept =
     record { same_id = kept.same_id; same_fuel_set = kept.same_fuel_set; no_more_fuel = kept.no_more_fuel }
 
 -- behind a step of a run whose base stood over so many scopes

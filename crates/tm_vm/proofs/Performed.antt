@@ -403,6 +403,7 @@ deep_paid : (limit : ℕ) (s : Saved) (left : ℕ) (old new : World) → OneDeep
 deep_paid limit (saved.Block s) left old new h = h
 deep_paid limit (saved.Super s) left old new h = h
 deep_paid limit (saved.Macro s) left old new h = h
+deep_paid limit (saved.Include s) left old new h = h
 
 depths_paid : (limit : ℕ) (f : Base) (result : Result Flow Halt) (left : ℕ) (old new : World) →
     Depths limit f result (record old { fuel = left }) new → Depths limit f result old new

@@ -23,7 +23,7 @@ use Rattle.tm_meaning.specs.Machine.{Caches}
 use Rattle.tm_meaning.specs.Machine.{Activation, Capture, Return, Config, Program, End, Failed, Stuck, Next, More, Over, Nest, Back, after}
 use Rattle.tm_meaning.specs.Machine.{on_top, on_taken, taken, on, with_world, writes, audible, new_capture, recursion, place_of_loop, asked}
 use Rattle.tm_meaning.specs.Machine.{asked_in_place, first_run, goes, nested}
-use Rattle.tm_meaning.specs.Instructions.{closure_in, names_in, on_parts}
+use Rattle.tm_meaning.specs.Instructions.{closure_in, names_in, on_parts, on_text}
 use Rattle.tm_meaning.specs.Steps.{charge_of, closed, effect}
 use Rattle.tm_state.specs.Answers.{call_of}
 use Rattle.tm_syntax.specs.Entries.{entry_number}
@@ -39,7 +39,7 @@ use Rattle.tm_syntax.specs.Names.{is_among}
 use Rattle.tm_meaning.specs.World.{bind, need, check, find, name_of}
 use Rattle.tm_meaning.specs.Inheritance.{count_left, load, names_left}
 use Rattle.tm_meaning.specs.Instructions.{awaiting}
-use Rattle.tm_meaning.specs.Calls.{enter_super}
+use Rattle.tm_meaning.specs.Calls.{enter_include, enter_super}
 use Rattle.tm_meaning.specs.Machine.{Restart}
 use Rattle.tm_state.proofs.Blocks.{count_loaded}
 use Rattle.tm_vm.specs.declared.flow.Flow.{Flow}
@@ -110,6 +110,10 @@ module _ (Holds : Next → Type 0) (over : (e : End) → Holds (Over e)) where
   on_parts_all None names w next k = over (Stuck w)
   on_parts_all (Some own) None w next k = over (Stuck w)
   on_parts_all (Some own) (Some names) w next k = k own names
+
+  on_text_all : (t : Option (List ℕ)) (w : World) (next : List ℕ → Next) → ((t : List ℕ) → Holds (next t)) → Holds (on_text t w next)
+  on_text_all None w next k = over (Stuck w)
+  on_text_all (Some t) w next k = k t
 
 -- A parent waits only where one did, or one was loaded.
 abbrev Follows : HostValue → Config → Config → Type 0
@@ -368,6 +372,10 @@ adds p f i.FastSuper c = asked_in_place_adds p f c c.run.operands (enter_super p
 adds p f i.LoadBlocks c = on_top_all (Adds p.host 0 c) (ends_adds p.host 0 c) c.run.operands c.world _ (λ v vs.
     let inside = nat_lt f.captures (length c.captures) in
     loaded_adds p.host c vs (load p.host v c.run.parent inside c.world) (load_gives p.host v c.run.parent inside c.world))
+adds p f (i.Include missing) c = on_top_all (Adds p.host 1 c) (ends_adds p.host 1 c) c.run.operands c.world _
+    (λ v vs. asked_in_place_adds p f c vs (enter_include p.host v missing c.world))
+adds p f i.ExportLocals c = on_top_all (Adds p.host 0 c) (ends_adds p.host 0 c) c.run.operands c.world _
+    (λ v vs. on_text_all (Adds p.host 0 c) (ends_adds p.host 0 c) (text_in v) c.world _ (λ t. none_more 0 c))
 adds p f (i.StoreLocal x) c = on_top_all (Adds p.host 1 c) (ends_adds p.host 1 c) c.run.operands c.world _ (λ v vs. none_more 1 c)
 adds p f (i.Enclose x) c = after_all (Adds p.host 1 c) (ends_adds p.host 1 c) (enclose p.host x c.world) _ (λ _ w. none_more 1 c)
 adds p f i.GetClosure c = none_more 1 c
@@ -461,6 +469,8 @@ free_onward p f (i.BuildMacro x place caller) c free =
     (λ v w. goes (v ∷ rest) w c) (λ v w. inl refl))))
 free_onward p f i.LoadBlocks c free = on_top_all (Onward c) (ends_onward c) c.run.operands c.world _ (λ v rest.
     after_all (Onward c) (ends_onward c) (load p.host v c.run.parent (nat_lt f.captures (length c.captures)) c.world) _ (λ t w. inl refl))
+free_onward p f i.ExportLocals c free = on_top_all (Onward c) (ends_onward c) c.run.operands c.world _
+    (λ v rest. on_text_all (Onward c) (ends_onward c) (text_in v) c.world _ (λ t. inl refl))
 free_onward p f i.Return c free = choose_all (Onward c) (ends_onward c) (closed f c) _ _ tt tt
 free_onward p f i.PopAutoEscape c free = escape_onward c c.run.escapes
 free_onward p f _ c free = absurd cc

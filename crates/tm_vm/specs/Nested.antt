@@ -1,10 +1,10 @@
 -- A run that an instruction needed, and the machine behind it.
-use Rattle.std.specs.Prelude.{◌≡◌, ◌⊎◌, ◌+◌, ℕ, List, [], ◌∷◌, length, Option, Result, Ok, Err, true}
+use Rattle.std.specs.Prelude.{◌≡◌, ◌⊎◌, ◌+◌, ◌-◌, ℕ, List, [], ◌∷◌, length, Option, Result, Ok, Err, true}
 use Rattle.std.specs.Io.KnownBytes.{Appends}
 use Rattle.tm_meaning.specs.World.{World, without_first}
 use Rattle.tm_meaning.specs.Memory.{is_want_of_memory}
 use Rattle.tm_values.specs.declared.error.ErrorKind.TheVariants.{OutOfMemory}
-use Rattle.tm_meaning.specs.Calls.{wrapped}
+use Rattle.tm_meaning.specs.Calls.{outermost, wrapped}
 use Rattle.tm_meaning.specs.declared.wrapping.Wrapping.{Wrapping}
 use Rattle.tm_meaning.specs.Machine.{Activation, Capture, Config, End, Finished, Failed, Stuck, Next, More, Over, Program, back_with, stuck}
 use Rattle.tm_meaning.specs.Machine.{base_of}
@@ -42,20 +42,26 @@ pub record Went (p : Program) (e : NestedRun) (old new : Config) (told now : Opt
   pub leads : Leads p (base_in e old) [] (begins_in p e old) (final text (Finished captures world))
   pub goes : behind e old.run (Finished captures world) ≡ More [] new
 
--- A block's run stands on the scopes that were saved, and one of its own; and a macro's has the names loaded that were.
+-- A block's run stands on the scopes that were saved, and one of its own; a macro's has the names loaded that were; and an include's both,
+-- without a scope of its own.
 abbrev pub StandsOn : Saved → World → Type 0
 StandsOn (saved.Block s) w = length w.scopes.frames ≡ s.scopes + 1
 StandsOn (saved.Super s) w = length w.scopes.frames ≡ s.replaced.scopes + 1
 StandsOn (saved.Macro s) w = s.lists.loaded ≡ w.loaded
+StandsOn (saved.Include s) w = (length w.scopes.frames ≡ s.replaced.scopes) × (s.lists.loaded ≡ w.loaded)
 
--- The scopes are those below the run's own, where those that were saved stood, or those that were saved; the places in lists of blocks are
--- those that were saved, or from before a block's run.
+-- The scopes are those below the run's own, where those that were saved stood, or those that were saved; behind an include they are as
+-- many, and the very ones below the innermost. The places in lists of blocks are those that were saved, or from before a block's run.
 abbrev pub IsBack : Saved → World → World → Type 0
 IsBack (saved.Block s) begun w =
     (w.scopes.frames ≡ without_first begun.scopes.frames) × (w.scopes.outer ≡ s.outer) × (w.places ≡ begun.places)
 IsBack (saved.Super s) begun w =
     (w.scopes.frames ≡ without_first begun.scopes.frames) × (w.scopes.outer ≡ s.replaced.outer) × (w.places ≡ s.places)
 IsBack (saved.Macro s) begun w = (w.scopes ≡ s.context) × (w.places ≡ s.lists.places)
+IsBack (saved.Include s) begun w =
+    (length w.scopes.frames ≡ s.replaced.scopes)
+    × (outermost (s.replaced.scopes - 1) w.scopes.frames ≡ outermost (s.replaced.scopes - 1) begun.scopes.frames)
+    × (w.scopes.outer ≡ s.replaced.outer) × (w.places ≡ s.lists.places)
 
 -- The run came to an end that leads to the end of the run that waits.
 abbrev pub EndsIn : Program → NestedRun → Config → Option (List ℕ) → Option (List ℕ) → End → Type 0

@@ -7,6 +7,7 @@ mod caches;
 mod calls;
 mod captures;
 mod flow;
+mod includes;
 mod inheritance;
 mod jumps;
 mod loops;

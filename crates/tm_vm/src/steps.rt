@@ -107,6 +107,8 @@ impl Machine {
             Instruction::CallBlock(name) => self.do_call_block(alloc, host, base, name),
             Instruction::FastSuper => self.do_fast_super(alloc, host, base),
             Instruction::LoadBlocks => self.do_load_blocks(alloc, host, base),
+            Instruction::Include(missing) => self.do_include(alloc, host, base, *missing),
+            Instruction::ExportLocals => self.do_export_locals(alloc),
             Instruction::StoreLocal(name) => self.do_store_local(name),
             Instruction::Enclose(name) => self.do_enclose(alloc, host, name),
             Instruction::GetClosure => self.do_get_closure(),

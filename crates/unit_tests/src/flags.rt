@@ -81,6 +81,7 @@ static FLAGGED: [(Flags, &[&str]); 5] = [
             "a\n  {%+ if b %}\n c\n{% endif %}\nd => raw:a\n   $b if-false:4 raw: c\n raw:d",
             "a\n  {% if b +%}\n c\n{% endif +%}\nd => raw:a\n $b if-false:4 raw:\n c\n raw:\nd",
             "a\n  {% macro m() %}\n c\n{% endmacro %}\nd => raw:a\n jump:4 raw: c\n return closure #[] macro:m2 store:m raw:d",
+            "a\n  {% include b %}\n c => raw:a\n $b include raw: c",
             "\t {# c #}\r\n  {{ a }}\n {{ b }} {# #} => raw:   $a emit raw:\n  $b emit raw: ",
             "  {% raw %}\n x\n\t{% endraw %}\n  {# #} => raw: x\n",
             "  {%+ raw +%}\n x\n\t{%+ endraw +%}\n => raw:   raw:\n x\n\t",

@@ -14,6 +14,8 @@ mod errors;
 mod flags;
 mod guards;
 #[cfg(test)]
+mod imports;
+#[cfg(test)]
 mod macros;
 #[cfg(test)]
 mod names;

@@ -10,7 +10,7 @@ use tm_names::undeclared;
 use tm_values::Error;
 
 /// The names alone.
-static ALONE: [&str; 33] = [
+static ALONE: [&str; 38] = [
     "{% set x = foo %}{{ x }}{{ bar.baz }} => bar foo",
     "{{ bar.baz() }} => bar",
     "{{ super(a) }}{{ self.b() }} => a",
@@ -43,11 +43,16 @@ static ALONE: [&str; 33] = [
     "{{ b }}{{ a }}{{ ab }}{{ b }} => a ab b",
     "{% macro m(a, b=a, c=d) %}{{ b }}{{ m }}{{ e }}{{ caller() }}{% set f = 1 %}{% endmacro %}{{ m }}{{ f }}{{ caller }} => caller d e f",
     "{% macro m(a=b, b=1) %}{% endmacro %} => b",
+    "{% include a %}{% include [b, c] ignore missing %} => a b c",
+    "{% import a as a %}{{ a }} => a",
+    "{% import a as b.c %}{{ b }} => a b",
+    "{% from a import b, c as d %}{{ b }}{{ c }}{{ d }} => a c",
+    "{% with %}{% import a as b %}{% from b import c %}{% endwith %}{{ b }}{{ c }} => a b c",
     "{% call(a, b) f(c) %}{{ a }}{{ caller }}{{ d }}{% endcall %}{{ a }} => a c d f",
 ];
 
 /// With what is nested in them.
-static NESTED: [&str; 14] = [
+static NESTED: [&str; 15] = [
     "{% set x = foo %}{{ x }}{{ bar.baz }} => bar.baz foo",
     "{{ bar.baz() }} => bar.baz",
     "{{ bar[\"x\"] }}{{ b[0].y }} => b bar",
@@ -61,6 +66,7 @@ static NESTED: [&str; 14] = [
     "{{ [a.b][0].c }}{{ a.b.c }}{{ a }} => a a.b a.b.c",
     "{% for x.y in z.w %}{{ loop.index }}{{ a.loop }}{% endfor %} => a.loop x z.w",
     "{% macro m(a) %}{{ a.b }}{{ c.d }}{% endmacro %}{{ m.name }} => c.d",
+    "{% include a.b %}{% import c.d as e %}{% from e.f import g %}{{ g.h }} => a.b c.d",
     "{% call a.b.m() %}{{ c.d }}{% endcall %} => a.b.m c.d",
 ];
 

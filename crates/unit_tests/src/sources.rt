@@ -1,6 +1,6 @@
 //! Sources with their code, and what is no source of a template.
 use crate::rows::{halves, joined};
-use crate::{blocks, code, macros, syntax};
+use crate::{blocks, code, imports, macros, syntax};
 use std::alloc::Global;
 use std::process::Abort;
 use std::rc::RcStr;
@@ -202,6 +202,7 @@ fn sources_have_their_code(rt: HostRuntime) -> Result<(), Fail> {
     check_codes(&rt, rt.alloc(), &*syntax, &TOKENS)?;
     check_codes(&rt, rt.alloc(), &*syntax, &macros::CODES)?;
     check_codes(&rt, rt.alloc(), &*syntax, &blocks::CODES)?;
+    check_codes(&rt, rt.alloc(), &*syntax, &imports::CODES)?;
     Ok(())
 }
 
@@ -373,7 +374,7 @@ static REFUSED: [&str; 163] = [
 ];
 
 /// What may nest 150 deep, by its pieces.
-static NESTINGS: [&str; 31] = [
+static NESTINGS: [&str; 35] = [
     "{{|0*(|a|0*)|}}",
     "{{|0*f (|a|0*)|}}",
     "{{|0*f ( a =|a|0*)|}}",
@@ -403,12 +404,16 @@ static NESTINGS: [&str; 31] = [
     "3*{%with %}|{%macro m ( a = ( b ) ) %} {%endmacro %}|3*{%endwith %}",
     "1*{%call m ( ) %}|{{ a }}|1*{%endcall %}",
     "2*{%with %}|{%call ( a ) m ( b ) %} {%endcall %}|2*{%endwith %}",
+    "0*{%with %}|{%include a %} {%import a as b %} {%from a import b %}|0*{%endwith %}",
+    "1*{%with %}|{%include ( a ) %}|1*{%endwith %}",
+    "1*{%with %}|{%import ( a ) as ( b ) %}|1*{%endwith %}",
+    "1*{%with %}|{%from ( a ) import b %}|1*{%endwith %}",
     "{{|0*(|1|0*)|}}",
     "1*{% if a %}|{{ (1) }}|1*{% endif %}",
 ];
 
 /// A long row nests no deeper than a short one.
-static LONG: [&str; 9] = [
+static LONG: [&str; 11] = [
     "{{ a|0*and b . c|}}",
     "{{ a|0*+ b|}}",
     "{{ a|0*if c|}}",
@@ -418,6 +423,8 @@ static LONG: [&str; 9] = [
     "{%for a in b|0*, c|if d %} {%endfor %}",
     "{{ f ( a|0*, b = c|) }}",
     "{%with a = b|0*, c = d|%} {%endwith %}",
+    "{%import a as b|0*, c|%}",
+    "{%from a import b|0*, c as d|, %}",
 ];
 
 /// Whether the source spells a template; an error that isn't one of syntax is given on.
@@ -457,6 +464,7 @@ fn what_is_no_template_is_refused(rt: HostRuntime) -> Result<(), Fail> {
     check_joined(&rt, rt.alloc(), &REFUSED, 0, false)?;
     check_joined(&rt, rt.alloc(), &macros::REFUSED, 0, false)?;
     check_joined(&rt, rt.alloc(), &blocks::REFUSED, 0, false)?;
+    check_joined(&rt, rt.alloc(), &imports::REFUSED, 0, false)?;
     Ok(())
 }
 

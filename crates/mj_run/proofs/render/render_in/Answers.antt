@@ -10,6 +10,7 @@ use Rattle.tm_tables.specs.contracts.callable.BoxDynCallableCallable.TheImpl as 
 use Rattle.tm_tables.specs.contracts.fallback.BoxDynMethodFallbackMethodFallback.TheImpl as fallbacks
 use Rattle.tm_tables.specs.contracts.formatter.BoxDynFormatterFormatter.TheImpl as formatters
 use Rattle.tm_tables.specs.contracts.escape_rule.BoxDynEscapeRuleEscapeRule.TheImpl as rules
+use Rattle.tm_tables.specs.contracts.path_join.BoxDynPathJoinPathJoin.TheImpl as joins
 use Rattle.mj_run.proofs.render.render_in.Goals as goal
 
 pub returns : goal.returns
@@ -21,6 +22,7 @@ returns g c = λ members given.
     c.render_template.ensures input (is_meant_by
     (callables.ghosts (g.dyn-1.0, g.dyn-1.1)).answers (fallbacks.ghosts (g.dyn-2.0, g.dyn-2.1)).answers
     (formatters.ghosts (g.dyn-3.0, g.dyn-3.1)).formats (rules.ghosts (g.dyn-4.0, g.dyn-4.1)).escapes
+    (joins.ghosts (g.dyn-5.0, g.dyn-5.1)).joins
     input _ _ put.0 c.in_ok-template.template c.args.context start put.1 put.2 c.in_ok-template.ensures given)
 
 -- a source was refused

@@ -1,11 +1,11 @@
 use Rattle.std.proofs.Common.{Ok, subst, sym}
 use Rattle.tm_state.specs.declared.nested.NestedRun.{NestedRun}
-use Rattle.tm_state.specs.Answers.{CallLies, OneDeeper}
+use Rattle.tm_state.specs.Answers.{CallDeeper, CallLies}
 use Rattle.template_machine.proofs.state.StateOf.value_of.Goals as goal
 
 pub returns-in-Run-clause-stays : goal.returns-in-Run-clause-stays
 returns-in-Run-clause-stays g c = λ limit before lies.
     let w = c.args.self.now.world in
     c.value_of_run.ensures.stays limit before
-    (subst (λ (e : NestedRun). OneDeeper limit e.saved before w) (sym c.into_inner.ensures)
+    (subst (λ (e : NestedRun). CallDeeper limit e.saved before w) (sym c.into_inner.ensures)
     (subst (λ called. CallLies limit (Ok called) before w) c.in-Run.is lies))

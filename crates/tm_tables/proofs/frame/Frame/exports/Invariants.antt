@@ -1,7 +1,8 @@
 use Rattle.std.proofs.Common.{◌≡◌, ◌++◌}
 use Rattle.std.specs.Prelude.{filter}
 use Rattle.tm_syntax.specs.Named.{texts_of}
-use Rattle.tm_tables.specs.Scopes.{is_exported, exported_by}
+use Rattle.tm_meaning.specs.World.{is_exported}
+use Rattle.tm_tables.specs.Scopes.{exported_by}
 use Rattle.tm_tables.proofs.frame.Frame.exports.Given as goal
 
 abbrev pub invariant-loop-name : goal.invariant-loop-name

@@ -8,7 +8,7 @@ use Rattle.tm_tables.proofs.loaded.Loaded.at.Goals.{then-place-eq0, else-place-e
 
 pub returns-in-None : goal.returns-in-None
 returns-in-None c =
-    none_listed c.args.name.now c.args.place c.self.inside.layers.items c.args.self.now.blocks c.self.invariant.0
+    none_listed c.args.name.now c.args.place c.self.inside.layers.items c.args.self.now.blocks c.self.invariant
     (ap (λ v. v.blocks) c.self.view_is)
     (subst (IsLayerOf None c.args.name.now c.args.place) c.deref.ensures.value c.in-None.ensures)
 
@@ -27,5 +27,5 @@ returns-after-place-eq0 c =
       | else-place-eq0 w ↦ w.alone-is ∙ ne_eqb n 0 (λ e. omega (arith, e, w.if-place-eq0.false))
           ∙ not_alone x n at layers layer stands c.index.ensures (omega (arith, w.if-place-eq0.false))
     ] in
-    alone_listed x n at layers c.args.self.now.blocks layer c.template.result.now c.if-place-eq0.alone c.self.invariant.0
+    alone_listed x n at layers c.args.self.now.blocks layer c.template.result.now c.if-place-eq0.alone c.self.invariant
     (ap (λ v. v.blocks) c.self.view_is) stands c.index.ensures c.template.ensures alone

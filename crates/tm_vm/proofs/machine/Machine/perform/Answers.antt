@@ -186,3 +186,9 @@ returns-in-UnpackList g c = rw c.in-UnpackList.is (silent c.do_unpack_list.resul
 
 pub returns-in-UnpackLists : goal.returns-in-UnpackLists
 returns-in-UnpackLists g c = rw c.in-UnpackLists.is (silent c.do_unpack_lists.result c.do_unpack_lists.ensures)
+
+pub returns-in-Include : goal.returns-in-Include
+returns-in-Include g c = rw c.in-Include.is (needed c.do_include.result c.do_include.ensures)
+
+pub returns-in-ExportLocals : goal.returns-in-ExportLocals
+returns-in-ExportLocals g c = rw c.in-ExportLocals.is (silent c.do_export_locals.result c.do_export_locals.ensures)

@@ -1,5 +1,5 @@
 use Rattle.std.proofs.Common.{rules}
-use Rattle.template_machine.proofs.environment.EnvironmentOf+Objects+C+M+F+EscapeSetting+R.add_function.Goals as goal
+use Rattle.template_machine.proofs.environment.EnvironmentOf+Objects+C+M+F+EscapeSetting+R+J.add_function.Goals as goal
 
 pub returns-in_err-name-clause-ok : goal.returns-in_err-name-clause-ok
 returns-in_err-name-clause-ok g c = search rules fits 100

@@ -2,7 +2,7 @@ use Rattle.std.proofs.Common.{◌++◌, ◌∷◌, [], subst, sym, ◌∙◌}
 use Rattle.tm_syntax.specs.Named.{put}
 use Rattle.tm_tables.specs.Lists.{HasNames}
 use Rattle.tm_tables.proofs.Listed.{one_known, went_well}
-use Rattle.tm_tables.proofs.loaded.Loaded.add.Goals as goal
+use Rattle.tm_tables.proofs.loaded_names.LoadedNames.add.Goals as goal
 
 pub invariant_of-self-else-is_err : goal.invariant_of-self-else-is_err
 invariant_of-self-else-is_err c =
@@ -10,7 +10,5 @@ invariant_of-self-else-is_err c =
     let has : HasNames c.insert.new.self (c.self.inside.names.items ++ c.args.name ∷ []) =
     subst (λ t. HasNames t (c.self.inside.names.items ++ c.args.name ∷ [])) (sym put_in)
     (subst (λ x. HasNames (put x tt c.self.inside.known) (c.self.inside.names.items ++ c.args.name ∷ [])) (sym c.in_ok-key.ensures)
-    (one_known c.self.inside.known c.self.inside.names.items c.args.name c.self.invariant.1)) in (
-      c.self.invariant.0,
-      subst (λ ns. HasNames c.insert.new.self ns) (sym c.in_ok-push.ensures.items) has,
-    )
+    (one_known c.self.inside.known c.self.inside.names.items c.args.name c.self.invariant)) in
+    subst (λ ns. HasNames c.insert.new.self ns) (sym c.in_ok-push.ensures.items) has

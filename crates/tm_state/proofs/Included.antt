@@ -1,0 +1,137 @@
+-- A template that is included.
+use Rattle.std.proofs.Common.{◌≡◌, ◌+◌, ◌-◌, ◌≤◌, ◌∙◌, ◌||◌, ℕ, List, [], ◌∷◌, length, drop, Option, Some, None, Bool, false, nat_lt, not}
+use Rattle.std.proofs.Common.{Result, Ok, Err, refl, sym, ap, subst, arith}
+use Rattle.std.proofs.lemmas.Bool.Decides.{nat_tests}
+use Rattle.std.specs.Borrow.{Bor}
+use Rattle.std.specs.Result.{IfErr, IsErr, IsErrAnd}
+use Rattle.std.specs.declared.alloc.Global.{Global}
+use Rattle.std.specs.declared.rc.Rc.{Rc}
+use Rattle.std.specs.Map.{keys_of}
+use Rattle.tm_syntax.specs.Named.{Named, find}
+use Rattle.tm_values.specs.Val.{Val}
+use Rattle.tm_values.specs.declared.error.ErrorKind.{ErrorKind}
+use Rattle.tm_meaning.specs.Memory.{is_want_of_memory}
+use Rattle.tm_values.specs.declared.error.ErrorKind.TheVariants.{InvalidOperation}
+use Rattle.tm_values.specs.declared.escape.AutoEscape.{AutoEscape}
+use Rattle.tm_meaning.specs.World.{World, HostValue, Card, Scope, Good, check, records_of, depth, or_is, own_closure, owning, root_of, template_at}
+use Rattle.tm_meaning.specs.Calls.{Asked, ask, choices_in, enter_include, first_found, in_template, include_call, include_depth, include_found, outermost, own_blocks, no_values, refused, runs, whole}
+use Rattle.tm_meaning.specs.declared.run_text.RunText.TheVariants as texts
+use Rattle.tm_meaning.specs.declared.stream.StreamId.{StreamId}
+use Rattle.tm_meaning.specs.declared.stream.TemplateId.{TemplateId}
+use Rattle.tm_meaning.specs.declared.stream.TemplateId.TheVariants.{Entry}
+use Rattle.tm_meaning.specs.declared.wrapping.Wrapping.TheVariants.{BadInclude}
+use Rattle.tm_tables.specs.Lists.{AreBlocksOf, ListsValue, alone_in}
+use Rattle.tm_state.specs.Answers.{NeedsSuper, OneDeeper}
+use Rattle.tm_state.specs.State.{put_back, saved_include}
+use Rattle.tm_state.specs.declared.nested.RunOf.TheVariants as run_of
+use Rattle.tm_state.specs.declared.saved.Saved.TheVariants as saved
+use Rattle.tm_state.specs.declared.saved.SavedInclude.{SavedInclude}
+
+-- ---------------------------------------------------------------- its blocks and scopes
+own_named : (t : TemplateId) (bs : Named Card) → own_blocks t bs ≡ alone_in t (keys_of bs)
+own_named t [] = refl
+own_named t (b ∷ bs) = ap (λ ls. (b.0, t ∷ []) ∷ ls) (own_named t bs)
+
+length-owning : (c : Option ℕ) (frames : List Scope) → length (owning c frames) ≡ length frames
+length-owning c [] = refl
+length-owning c (s ∷ ss) = refl
+
+-- the innermost scope's own closure is put back
+owned_again : (c : Option ℕ) (frames : List Scope) → owning (own_closure frames) (outermost (length frames) (owning c frames)) ≡ frames
+owned_again c [] = refl
+owned_again c (s ∷ ss) =
+    let none : length (owning c (s ∷ ss)) - length (s ∷ ss) ≡ 0 = omega arith in
+    ap (λ n. owning s.own_closure (drop n (owning c (s ∷ ss)))) none
+
+-- ---------------------------------------------------------------- its run
+module _ (host : HostValue) (x : List ℕ) (w : World) (lent : Bor (Rc (List (List ℕ)) Global)) (there : AreBlocksOf (Some lent) (find x host.templates)) where
+  abbrev pub Begun : World
+  Begun = record w {
+    scopes = record { frames = owning None w.scopes.frames; outer = include_depth + w.scopes.outer };
+    stream = root_of (Entry x);
+    escape = (template_at host (Entry x)).escape;
+    blocks = alone_in (Entry x) (lent.now.value);
+    places = [];
+  }
+
+  begun : in_template host (Entry x) w ≡ Begun
+  begun =
+      ap (λ ls. record w {
+        scopes = record { frames = owning None w.scopes.frames; outer = include_depth + w.scopes.outer };
+        stream = root_of (Entry x);
+        escape = (template_at host (Entry x)).escape;
+        blocks = ls;
+        places = [];
+      }) (ap (λ o. own_blocks (Entry x) (or_is o host.own).blocks) there.1 ∙ own_named (Entry x) there.0.blocks
+      ∙ ap (alone_in (Entry x)) there.2)
+
+  -- it stands there
+  pub stands_begun : (v : World) (s : StreamId) (e : AutoEscape) (ls : ListsValue) → s ≡ root_of (Entry x) →
+      e ≡ (template_at host (Entry x)).escape →
+      ls ≡ record { blocks = alone_in (Entry x) (lent.now.value); places = []; loaded = w.loaded } →
+      v ≡ record w {
+        scopes = record { frames = owning None w.scopes.frames; outer = include_depth + w.scopes.outer };
+        stream = s;
+        escape = e;
+        blocks = ls.blocks;
+        places = ls.places;
+        loaded = ls.loaded;
+      } → v ≡ Begun
+  stands_begun v s e ls named escaped own at =
+      at ∙ ap (λ (l : ListsValue). record w {
+        scopes = record { frames = owning None w.scopes.frames; outer = include_depth + w.scopes.outer };
+        stream = s;
+        escape = e;
+        blocks = l.blocks;
+        places = l.places;
+        loaded = l.loaded;
+      }) own ∙ ap (λ q. record Begun { stream = q; escape = e }) named ∙ ap (λ f. record Begun { escape = f }) escaped
+
+  module _ (kept : SavedInclude) (v : World) (is : kept ≡ saved_include w) (at : v ≡ Begun) where
+    -- within the limit,
+    pub includes : (heard : Bool) (s : StreamId) → s ≡ root_of (Entry x) → nat_lt host.limit (include_depth + depth w.scopes) ≡ false →
+        (missing : Bool) → NeedsSuper heard false (record {
+          run = run_of.Stream s;
+          heard = heard;
+          value = false;
+          text = texts.Captured;
+          wrap = Some BadInclude;
+          saved = saved.Include kept;
+        }) (include_found host missing (Some (Entry x)) w) w v
+    includes heard s named within missing = (
+      refl,
+      refl,
+      is,
+      ap (λ b. ask (check (not b) InvalidOperation w) (λ _ world1. runs (include_call (Entry x) w) (in_template host (Entry x) world1))) within
+          ∙ ap (runs (include_call (Entry x) w)) (begun ∙ sym at)
+          ∙ ap (λ q. runs (record (include_call (Entry x) w) { callee = whole q }) v) (sym named),
+    )
+
+    pub includes_deeper : (limit : ℕ) → include_depth + depth w.scopes ≤ limit → OneDeeper limit (saved.Include kept) w v
+    includes_deeper limit within =
+        let long = length-owning None w.scopes.frames in
+        subst (OneDeeper limit (saved.Include kept) w) (sym at) (is, (refl, refl), omega (arith, long, within))
+
+    -- and is undone.
+    pub included_left : put_back (saved.Include kept) v ≡ w
+    included_left =
+        ap (λ q. put_back (saved.Include q) v) is ∙ ap (put_back (saved.Include (saved_include w))) at
+        ∙ ap (λ ss. record w { scopes = record w.scopes { frames = ss } }) (owned_again None w.scopes.frames)
+
+-- what the depths that are left say
+pub within_limit : (limit deep left : ℕ) → left ≡ limit - deep → include_depth ≤ left → nat_lt limit (include_depth + deep) ≡ false
+within_limit limit deep left is enough = grind (arith, nat_tests, is, enough)
+
+-- ---------------------------------------------------------------- its choice
+-- what was chosen is included
+pub chosen : (host : HostValue) (v : Val) (missing : Bool) (w : World) (vs : List Val) (found : Option TemplateId) →
+    choices_in (records_of w) v ≡ Ok vs → first_found host vs w ≡ Good found w →
+    enter_include host v missing w ≡ include_found host (missing || no_values vs) found w
+chosen host v missing w vs found named is = rw (named, is) refl
+
+-- and so its fault is that of the include
+pub refused_on : {A : Type 0} (r : Result A (List ErrorKind)) (chain : List ErrorKind) (asked : Asked) (w : World) →
+    IsErr r × IsErrAnd r (λ e. e ≡ chain) → (is_want_of_memory chain ≡ false → asked ≡ refused chain w) →
+    IfErr r (λ e. is_want_of_memory e ≡ false → asked ≡ refused e w)
+refused_on (Ok a) chain asked w same h = absurd (cc same.0)
+refused_on (Err e) chain asked w same h = subst (λ z. is_want_of_memory z ≡ false → asked ≡ refused z w) (sym same.1) h

@@ -1,5 +1,0 @@
-use Rattle.std.proofs.Common.{◌≡◌, take}
-use Rattle.tm_tables.proofs.loaded.Loaded.copy.Given as goal
-
-abbrev pub invariant-loop-name : goal.invariant-loop-name
-invariant-loop-name l = (l.loaded.blocks ≡ l.self.blocks) × (l.loaded.names ≡ take l.name-index l.name-items)

@@ -1,0 +1,56 @@
+//! The instructions of templates that others include and import.
+ghost use Rattle.tm_meaning.specs.Instructions.{export_locals_of, include_of};
+ghost use Rattle.tm_vm.specs.Answers.{program, CanGoOn, Needs, Silently};
+
+use crate::flow::Flow;
+use crate::machine::Machine;
+use std::alloc::Global;
+use tm_meaning::Base;
+use tm_parts::Halt;
+use tm_tables::Host;
+
+impl Machine {
+    /// Pops a value, and runs the first template that is there of those that it names, in place; nothing where none is
+    /// there and one may be missing, or the value names none.
+    #[inline(never)]
+    pub(crate) fn do_include<H: Host>(
+        &mut self,
+        alloc: Global,
+        host: &H,
+        base: &Base,
+        missing: bool,
+    ) -> Result<Flow, Halt>
+        requires { CanGoOn self.old.run }
+        ensures { Needs (program (H.meaning host.now) (H.code host.now))
+            (include_of
+            (program (H.meaning host.now) (H.code host.now)) base.now missing self.old)
+            self.old self.new result }
+    {
+        let heard = self.is_audible(base);
+        let Some(value) = self.run.pop() else {
+            return Err(Halt::Stuck);
+        };
+        let entry = self.state.include_run(alloc, host, &value, missing, heard)?;
+        self.run.advance();
+        match entry {
+            Some(entry) => Ok(Flow::Enter(entry)),
+            None => Ok(Flow::GoOn),
+        }
+    }
+
+    /// Replaces a captured text by the module of the innermost scope's names and the text.
+    #[inline(never)]
+    pub(crate) fn do_export_locals(&mut self, alloc: Global) -> Result<Flow, Halt>
+        requires { CanGoOn self.old.run }
+        ensures { Silently (export_locals_of self.old) self.old self.new result }
+    {
+        let Some(value) = self.run.pop() else {
+            return Err(Halt::Stuck);
+        };
+        let Ok((text, _safe)) = value.into_text() else {
+            return Err(Halt::Stuck);
+        };
+        let module = self.state.module(alloc, text)?;
+        self.push_next(module)
+    }
+}
