@@ -21,7 +21,8 @@ use std::marker::Model;
 use tm_compiler::SyntaxConfig;
 use tm_syntax::{Name, NameMap};
 use tm_tables::{
-    Callable, EscapeRule, Formatter, MethodFallback, Objects, Parties, PathJoin, language_globals,
+    Callable, EscapeRule, Formatter, MethodFallback, NO_PLACE, Objects, Parties, PathJoin,
+    language_globals,
 };
 use tm_templates::{CompiledTemplate, EscapeSetting, Source, Templates};
 use tm_values::{Error, ErrorKind, UndefinedBehavior, Value};
@@ -100,8 +101,11 @@ impl<'source, O: Drop> EnvironmentOf<'source, O> {
             (λ e. (e ≡ ErrorKind.TemplateNotFound ∷ [])
             × (find name.now self.now.templates ≡ None)) }
     {
-        match self.templates.entry(name) {
-            Some((name, compiled)) => Ok(TemplateOf::new(self, TemplateRef::Lent(name, compiled))),
+        match self.find_entry(NO_PLACE, name) {
+            Some((_place, name, compiled)) => Ok(TemplateOf::new(
+                self,
+                TemplateRef::Lent(name, compiled),
+            )),
             None => Err(Error::from(ErrorKind::TemplateNotFound)),
         }
     }
@@ -213,11 +217,30 @@ impl<'source, O: Drop> EnvironmentOf<'source, O> {
         &self.globals
     }
 
-    /// What was compiled under a name, where it was.
-    pub(crate) fn find_template(&self, name: &str) -> Option<&CompiledTemplate<'source>>
+    /// What was compiled under a name, where it was, wherever it stands, with its place and the name that it stands at.
+    #[inline(always)]
+    pub(crate) fn find_entry(
+        &self,
+        place: usize,
+        name: &str,
+    ) -> Option<(usize, &Name, &CompiledTemplate<'source>)>
+        ensures { MatchOption result (find name.now self.now.templates ≡ None)
+            (λ found. (found.1.now ≡ name.now)
+            × (find name.now self.now.templates ≡ Some found.2.now)) }
+    {
+        self.templates.entry(place, name)
+    }
+
+    /// What was compiled under a name, where it was, wherever it stands.
+    #[inline(always)]
+    pub(crate) fn find_template(
+        &self,
+        place: usize,
+        name: &str,
+    ) -> Option<&CompiledTemplate<'source>>
         ensures { IsLent result (find name.now self.now.templates) }
     {
-        self.templates.get(name)
+        self.templates.get(place, name)
     }
 }
 

@@ -9,12 +9,11 @@ ghost use Rattle.tm_vm.specs.Answers.{NoFewer};
 use crate::environment::EnvironmentOf;
 use std::alloc::Global;
 use std::marker::Model;
-use std::rc::Rc;
 use tm_meaning::{StreamId, TemplateId};
 use tm_parts::{Captures, Halt, Sink};
 use tm_state::StateData;
 use tm_syntax::{Code, Name, NameMap};
-use tm_tables::{BlockNames, CallableAnswer, Called, Host, Parties, View};
+use tm_tables::{CallableAnswer, Called, Host, NO_PLACE, Parties, TemplateEntry, View};
 use tm_templates::CompiledTemplate;
 use tm_values::{AutoEscape, Error, ErrorKind, UndefinedBehavior, Value};
 use tm_vm::Machine;
@@ -82,11 +81,19 @@ impl<'env, O: Drop> Rendering<'env, O> {
     fn template(&self, template: &TemplateId) -> &'env CompiledTemplate<'env>
         ensures { result.now ≡ meant self.now template.now }
     {
+        self.template_at(template, NO_PLACE)
+    }
+
+    /// The template that is meant, wherever it stands.
+    #[inline(always)]
+    fn template_at(&self, template: &TemplateId, place: usize) -> &'env CompiledTemplate<'env>
+        ensures { result.now ≡ meant self.now template.now }
+    {
         let TemplateId::Entry(name) = template else {
             return self.own;
         };
         self.environment
-            .find_template(name.as_str())
+            .find_template(place, name.as_str())
             .unwrap_or(self.own)
     }
 }
@@ -156,15 +163,26 @@ impl<O: Parties> Host for Rendering<'_, O> {
         self.environment.objects().join(alloc, name, running)
     }
 
-    fn blocks_of(&self, name: &str) -> Option<&Rc<BlockNames>> {
-        match self.environment.find_template(name) {
-            Some(template) => Some(template.block_names()),
+    fn joins_names(&self) -> bool {
+        self.environment.objects().joins_names()
+    }
+
+    #[inline(always)]
+    fn entry(&self, name: &str, place: usize) -> Option<TemplateEntry<'_>> {
+        match self.environment.find_entry(place, name) {
+            Some((place, name, template)) => Some(TemplateEntry {
+                name,
+                escape: template.escape(),
+                blocks: template.block_names(),
+                place,
+            }),
             None => None,
         }
     }
 
-    fn instructions(&self, stream: &StreamId) -> &Code {
-        self.template(&stream.template).stream(&stream.block)
+    fn instructions(&self, stream: &StreamId, place: usize) -> &Code {
+        self.template_at(&stream.template, place)
+            .stream(&stream.block)
     }
 
     fn call_function(

@@ -254,9 +254,9 @@ impl<'env, O: Parties> StateOf<'env, O> {
         ensures stays { StaysInPlace self.old.world self.new.world }
         ensures kept { KeepsFixed self.old.world self.new.world }
     {
-        let saved = self.enter_block(name)?;
+        let mut replaced = Saved::Block(self.enter_block(name)?);
         let result = self.rendering.run(&mut self.kept, captures, writer);
-        self.kept.put_back(Saved::Block(saved));
+        self.kept.put_back(&mut replaced);
         result
     }
 
@@ -315,11 +315,11 @@ impl<'env, O: Parties> StateOf<'env, O> {
         let NestedRun {
             run,
             text,
-            saved,
+            mut saved,
             ..
         } = run;
         let result = self.run_in_capture(run);
-        self.kept.put_back(saved);
+        self.kept.put_back(&mut saved);
         let captured = result?;
         run_value(alloc, text, captured.as_str(), self.kept.escape())
     }

@@ -44,23 +44,30 @@ impl<'source> Templates<'source> {
         }
     }
 
-    /// The template of a name, where there is one. Makes log n comparisons for n templates.
-    pub fn get(&self, name: &str) -> Option<&CompiledTemplate<'source>>
+    /// The template of a name, where there is one, wherever it stands. Makes one comparison where it stands at this place.
+    #[inline(always)]
+    pub fn get(&self, place: usize, name: &str) -> Option<&CompiledTemplate<'source>>
         ensures { IsLent result (find name.now self.now) }
     {
-        match self.place(name) {
+        match self.place_from(place, name) {
             Ok(at) => Some(&self.entries[at].1),
             Err(_) => None,
         }
     }
 
-    /// The template of a name, where there is one, with the name that it stands at.
-    pub fn entry(&self, name: &str) -> Option<(&Name, &CompiledTemplate<'source>)>
+    /// The template of a name, where there is one, wherever it stands, with its place and the name that it stands at.
+    /// Makes one comparison where it stands at this place.
+    #[inline(always)]
+    pub fn entry(
+        &self,
+        place: usize,
+        name: &str,
+    ) -> Option<(usize, &Name, &CompiledTemplate<'source>)>
         ensures { MatchOption result (find name.now self.now ≡ None)
-            (λ found. (found.0.now ≡ name.now) × (find name.now self.now ≡ Some found.1.now)) }
+            (λ found. (found.1.now ≡ name.now) × (find name.now self.now ≡ Some found.2.now)) }
     {
-        match self.place(name) {
-            Ok(at) => Some((&self.entries[at].0, &self.entries[at].1)),
+        match self.place_from(place, name) {
+            Ok(at) => Some((at, &self.entries[at].0, &self.entries[at].1)),
             Err(_) => None,
         }
     }
@@ -80,6 +87,17 @@ impl<'source> Templates<'source> {
                 self.entries.insert(at, (name, template))?;
                 Ok(())
             }
+        }
+    }
+
+    /// Where the template of a name stands, or where it would stand. Makes one comparison where it stands at this place.
+    #[inline(always)]
+    fn place_from(&self, place: usize, name: &str) -> Result<usize, usize>
+        ensures { MatchResult result (IsThere name.now self.now) (IsGapFor name.now self.now) }
+    {
+        match self.entries.get(place) {
+            Some(entry) if entry.0.is(name) => Ok(place),
+            _ => self.place(name),
         }
     }
 
