@@ -1,4 +1,5 @@
 pub mod Named
 pub mod Streams
 pub mod Endings
+pub mod Globals
 pub mod Ascending
