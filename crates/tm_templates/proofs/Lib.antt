@@ -2,4 +2,5 @@ pub mod Named
 pub mod Streams
 pub mod Endings
 pub mod Globals
+pub mod Gone
 pub mod Ascending

@@ -1,7 +1,7 @@
 //! Values by name, which are also walked in the order of the names.
 ghost use Rattle.std.specs.Map.{keys_of};
-ghost use Rattle.std.specs.Prelude.{◌≡◌, ◌<◌, [], ◌∷◌, Some, IfOk, OnOk, OnErr, IfErr, MatchResult, length, slice_get};
-ghost use Rattle.tm_syntax.specs.Named.{name_cmp, put, without};
+ghost use Rattle.std.specs.Prelude.{◌≡◌, ◌≢◌, ◌<◌, [], ◌∷◌, None, Some, IfOk, OnOk, OnErr, IfErr, MatchResult, length, slice_get};
+ghost use Rattle.tm_syntax.specs.Named.{find, name_cmp, put, without};
 ghost use Rattle.tm_tables.specs.Places.{AreOrdered, IsThere, IsGapFor};
 ghost use Rattle.tm_values.specs.Answer.{OkOrOutOfMemory};
 ghost use Rattle.tm_values.specs.declared.error.ErrorKind.TheVariants.{OutOfMemory};
@@ -99,7 +99,10 @@ impl GlobalMap {
 
     /// Drops a name, if it is there; other names stand for what they did.
     pub fn remove(&mut self, name: &str)
-        ensures { self.new ≡ without name.now self.old }
+        ensures rest { self.new ≡ without name.now self.old }
+        ensures absent { find name.now self.old ≡ None → self.new ≡ self.old }
+        ensures gone { find name.now self.new ≡ None }
+        ensures others { (x : _) → x ≢ name.now → find x self.new ≡ find x self.old }
     {
         if let Ok(place) = self.place(name) {
             let _name = self.names.remove(place);

@@ -1,5 +1,5 @@
 //! Templates by name.
-ghost use Rattle.std.specs.Prelude.{◌≡◌, ◌<◌, [], ◌∷◌, None, Some, OnOk, OnErr, IfErr, MatchOption, MatchResult, length, slice_get};
+ghost use Rattle.std.specs.Prelude.{◌≡◌, ◌≢◌, ◌<◌, [], ◌∷◌, None, Some, OnOk, OnErr, IfErr, MatchOption, MatchResult, length, slice_get};
 ghost use Rattle.tm_syntax.specs.Named.{find, put, name_cmp, without};
 ghost use Rattle.tm_values.specs.Answer.{IsLent};
 ghost use Rattle.tm_tables.specs.Places.{AreOrdered, IsThere, IsGapFor};
@@ -85,11 +85,21 @@ impl<'source> Templates<'source> {
 
     /// Drops the template of a name, if there is one; other names keep theirs.
     pub fn remove(&mut self, name: &str)
-        ensures { self.new ≡ without name.now self.old }
+        ensures rest { self.new ≡ without name.now self.old }
+        ensures absent { find name.now self.old ≡ None → self.new ≡ self.old }
+        ensures gone { find name.now self.new ≡ None }
+        ensures others { (x : _) → x ≢ name.now → find x self.new ≡ find x self.old }
     {
         if let Ok(at) = self.place(name) {
             let _removed = self.entries.remove(at);
         }
+    }
+
+    /// Drops all templates.
+    pub fn clear(&mut self)
+        ensures { self.new ≡ [] }
+    {
+        self.entries.clear();
     }
 
     /// How many templates there are.
