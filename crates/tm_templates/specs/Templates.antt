@@ -3,6 +3,7 @@ use Rattle.std.specs.Map.{keys_of}
 use Rattle.std.specs.Prelude.{◌≡◌, ℕ, List, []}
 use Rattle.tm_values.specs.declared.error.ErrorKind.{ErrorKind}
 use Rattle.tm_values.specs.declared.escape.AutoEscape.{AutoEscape}
+use Rattle.tm_values.specs.declared.escape.AutoEscape.TheVariants as escapes
 use Rattle.tm_syntax.specs.declared.tree.Tree.{Tree}
 use Rattle.tm_syntax.specs.declared.tree.Stmt.TheBlock.{hidden-the_row-Stmt-0 as statements}
 use Rattle.tm_syntax.specs.declared.instruction.Instruction.{Instruction}
@@ -21,6 +22,10 @@ pub record Compiled : Type 0 where
   pub source : List ℕ
   pub escape : AutoEscape
   pub tree : Tree
+
+-- the template of no statement, from no source, under a name; nothing is escaped
+abbrev pub empty_template : List ℕ → Compiled
+empty_template name = record { name = name; source = []; escape = escapes.None; tree = record { statements = [] } }
 
 -- the statements of a tree
 abbrev pub body : Tree → Body

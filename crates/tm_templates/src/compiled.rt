@@ -14,11 +14,12 @@ ghost use Rattle.tm_values.specs.declared.error.ErrorKind.TheVariants.{OutOfMemo
 ghost use Rattle.tm_meaning.specs.Calls.{is_required};
 ghost use Rattle.tm_meaning.specs.Tree.{part_of, template_of};
 ghost use Rattle.tm_meaning.specs.World.{card_in};
-ghost use Rattle.tm_templates.specs.Templates.{IsTemplate, IsRefused, body, block_codes, tree_of};
+ghost use Rattle.tm_templates.specs.Templates.{IsTemplate, IsRefused, body, block_codes, empty_template, tree_of};
 ghost use Rattle.tm_templates.specs.Defaults.{escape_of};
 ghost use Rattle.tm_templates.specs.Sources.{source_bytes};
 
 use crate::defaults::EscapeSetting;
+use sqlite_items::Items;
 use std::alloc::Global;
 use std::collections::BTreeSet;
 use std::marker::Model;
@@ -175,6 +176,33 @@ impl<'source> CompiledTemplate<'source> {
     {
         let text = source.shared(alloc)?;
         let tree = parse(alloc, &text, syntax)?;
+        CompiledTemplate::of_tree(alloc, name, source, escape, tree)
+    }
+
+    /// A template of no statement, from no source, under a name; nothing is escaped. Fails by OutOfMemory alone.
+    pub fn empty(alloc: Global, name: &str) -> Result<CompiledTemplate<'source>, Error>
+        ensures { OkOrOutOfMemory result (λ t. t ≡ empty_template name.now) }
+    {
+        let statements = Items::new(alloc);
+        let tree = Tree { statements };
+        CompiledTemplate::of_tree(alloc, name, Source::Lent(""), AutoEscape::None, tree)
+    }
+
+    /// The template of a tree. Fails by OutOfMemory alone.
+    fn of_tree(
+        alloc: Global,
+        name: &str,
+        source: Source<'source>,
+        escape: AutoEscape,
+        tree: Tree,
+    ) -> Result<CompiledTemplate<'source>, Error>
+        ensures { OkOrOutOfMemory result (λ t. t ≡ record {
+          name = name.now;
+          source = source_bytes source.entry;
+          escape = escape;
+          tree = tree;
+        }) }
+    {
         let streams = generate(alloc, &tree)?;
         let block_names = shared_names(alloc, &streams.blocks)?;
         let name = Name::new(alloc, name)?;

@@ -1,8 +1,8 @@
 //! Templates by name.
-ghost use Rattle.std.specs.Prelude.{◌≡◌, [], ◌∷◌, None, Some, OnOk, OnErr, IfErr, MatchOption, MatchResult};
-ghost use Rattle.tm_syntax.specs.Named.{find, put, name_cmp};
+ghost use Rattle.std.specs.Prelude.{◌≡◌, ◌≢◌, ◌<◌, [], ◌∷◌, None, Some, OnOk, OnErr, IfErr, MatchOption, MatchResult, length, slice_get};
+ghost use Rattle.tm_syntax.specs.Named.{find, put, name_cmp, without};
 ghost use Rattle.tm_values.specs.Answer.{IsLent};
-ghost use Rattle.tm_tables.specs.Places.{IsThere, IsGapFor};
+ghost use Rattle.tm_tables.specs.Places.{AreOrdered, IsThere, IsGapFor};
 
 use crate::compiled::CompiledTemplate;
 use std::alloc::Global;
@@ -99,6 +99,49 @@ impl<'source> Templates<'source> {
             Some(entry) if entry.0.is(name) => Ok(place),
             _ => self.place(name),
         }
+    }
+
+    /// Drops the template of a name, if there is one; other names keep theirs.
+    pub fn remove(&mut self, name: &str)
+        ensures rest { self.new ≡ without name.now self.old }
+        ensures absent { find name.now self.old ≡ None → self.new ≡ self.old }
+        ensures gone { find name.now self.new ≡ None }
+        ensures others { (x : _) → x ≢ name.now → find x self.new ≡ find x self.old }
+    {
+        if let Ok(at) = self.place(name) {
+            let _removed = self.entries.remove(at);
+        }
+    }
+
+    /// Drops all templates.
+    pub fn clear(&mut self)
+        ensures { self.new ≡ [] }
+    {
+        self.entries.clear();
+    }
+
+    /// How many templates there are.
+    pub fn len(&self) -> usize
+        ensures { result ≡ length self.now }
+    {
+        self.entries.len()
+    }
+
+    /// The template that stands at a place in the order of names, with its name.
+    pub fn at(&self, place: usize) -> (&Name, &CompiledTemplate<'source>)
+        requires { place < length self.now }
+        ensures entry { slice_get self.now place ≡ Some (result.0.now, result.1.now) }
+        ensures found { find result.0.now self.now ≡ Some result.1.now }
+    {
+        let entry = &self.entries[place];
+        (&entry.0, &entry.1)
+    }
+
+    /// The names ascend; this takes no step.
+    pub fn ascend(&self)
+        ensures { AreOrdered self.now }
+    {
+        let _ = &self.entries;
     }
 
     /// Where the template of a name stands, or where it would stand.
