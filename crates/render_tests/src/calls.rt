@@ -163,12 +163,15 @@ fn has_templates(environment: &Rows<'_>, wanted: &str) -> bool {
 /// Whether `x` is rendered however its template is made.
 fn renders_each(environment: &Rows<'_>) -> Result<bool, Error> {
     let mut ids = StateIds::new();
-    let owned = environment.get_template("b")?.render(&mut ids, Value::undefined())?;
-    let made = environment.template_from_str("x")?.render(&mut ids, Value::undefined())?;
-    let named = environment.template_from_named_str("n", "x")?.render_captured(
-        &mut ids,
-        Value::undefined(),
-    )?;
+    let owned = environment
+        .get_template("b")?
+        .render(&mut ids, Value::undefined())?;
+    let made = environment
+        .template_from_str("x")?
+        .render(&mut ids, Value::undefined())?;
+    let named = environment
+        .template_from_named_str("n", "x")?
+        .render_captured(&mut ids, Value::undefined())?;
     let at_once = environment.render_str(&mut ids, "x", Value::undefined())?;
     let named_at_once = environment.render_named_str(&mut ids, "n", "x", Value::undefined())?;
     Ok(

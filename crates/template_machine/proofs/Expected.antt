@@ -7,7 +7,7 @@ use Rattle.tm_tables.specs.Places.{AreOrdered}
 
 expected : AreOrdered language_globals
 unfolding IsStrictlySortedBy
-expected = ((refl, refl, tt), (refl, tt), tt, tt)
+expected = ((refl, (refl, tt)), ((refl, tt), (tt, tt)))
 
 pub expected_names : (globals : Bindings) → globals ≡ language_globals → AreOrdered globals
 expected_names globals are = subst AreOrdered (sym are) expected

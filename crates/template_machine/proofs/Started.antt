@@ -1,5 +1,5 @@
 -- The state that a render starts from.
-use Rattle.std.proofs.Common.{◌≡◌, ℕ, List, [], ◌∷◌, Option, Result, Ok, Err, map, refl, ap, ◌∙◌, sym}
+use Rattle.std.proofs.Common.{◌≡◌, ℕ, List, [], Option, Result, Ok, Err, map, refl, ap, ◌∙◌, sym}
 use Rattle.tm_values.specs.Answer.{OkOrOutOfMemory}
 use Rattle.tm_values.specs.Val.{Val}
 use Rattle.tm_values.specs.declared.error.ErrorKind.{ErrorKind}

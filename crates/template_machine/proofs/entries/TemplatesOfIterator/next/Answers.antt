@@ -1,4 +1,3 @@
-use Rattle.std.proofs.Common.{refl}
 use Rattle.template_machine.proofs.Walked.{entries_left}
 use Rattle.template_machine.proofs.entries.TemplatesOfIterator.next.Goals as goal
 
