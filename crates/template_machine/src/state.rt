@@ -268,9 +268,9 @@ impl<'env, O: Parties> StateOf<'env, O> {
         ensures stays { StaysInPlace self.old.world self.new.world }
         ensures kept { KeepsFixed self.old.world self.new.world }
     {
-        let mut replaced = Saved::Block(self.enter_block(name)?);
+        let saved = self.enter_block(name)?;
         let result = self.rendering.run(&mut self.kept, captures, writer);
-        self.kept.put_back(&mut replaced);
+        self.kept.put_back(&mut Saved::Block(saved));
         result
     }
 
