@@ -2,7 +2,7 @@
 use Rattle.std.proofs.Common.{◌≡◌, ℕ, List, [], sym, ap, ◌∙◌, Option, Some, None, Bool, false}
 use Rattle.std.specs.Option.{option_map}
 use Rattle.tm_syntax.specs.declared.instruction.Instruction.{Instruction}
-use Rattle.tm_syntax.specs.Blocks.{FoundBlock, blocks_in, code_of}
+use Rattle.tm_syntax.specs.Blocks.{FoundBlock, blocks_in, statements, code_of}
 use Rattle.tm_syntax.specs.BlockCodes.{block_code}
 use Rattle.tm_syntax.specs.declared.code.BlockCode.{BlockCode}
 use Rattle.tm_syntax.specs.Named.{Named, find, by_name}
@@ -23,16 +23,16 @@ abbrev code_or_none : Option BlockCode → List Instruction
 code_or_none None = []
 code_or_none (Some b) = b.code
 
-part_code : (o : Option FoundBlock) (found : Option BlockCode) → found ≡ option_map block_code o → code_or_none found ≡ code_of (or_empty o)
+part_code : (o : Option FoundBlock) (found : Option BlockCode) → found ≡ option_map block_code o → code_or_none found ≡ code_of (statements (or_empty o))
 part_code None found e = ap code_or_none e
 part_code (Some b) found e = ap code_or_none e
 
 -- a block that is there
-block_there : (t : Compiled) (x : List ℕ) (b : BlockCode) → find x (block_codes t.tree) ≡ Some b → b.code ≡ code_of (or_empty (found_in t x))
+block_there : (t : Compiled) (x : List ℕ) (b : BlockCode) → find x (block_codes t.tree) ≡ Some b → b.code ≡ code_of (statements (or_empty (found_in t x)))
 block_there t x b e = part_code (found_in t x) (Some b) (sym e ∙ find-codes t x)
 
 -- a block that isn't
-block_missing : (t : Compiled) (x : List ℕ) → find x (block_codes t.tree) ≡ None → [] ≡ code_of (or_empty (found_in t x))
+block_missing : (t : Compiled) (x : List ℕ) → find x (block_codes t.tree) ≡ None → [] ≡ code_of (statements (or_empty (found_in t x)))
 block_missing t x e = part_code (found_in t x) None (sym e ∙ find-codes t x)
 
 -- the same of a part that is that block

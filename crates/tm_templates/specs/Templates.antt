@@ -4,9 +4,9 @@ use Rattle.std.specs.Prelude.{◌≡◌, ℕ, List, []}
 use Rattle.tm_values.specs.declared.error.ErrorKind.{ErrorKind}
 use Rattle.tm_values.specs.declared.escape.AutoEscape.{AutoEscape}
 use Rattle.tm_syntax.specs.declared.tree.Tree.{Tree}
-use Rattle.tm_syntax.specs.declared.tree.Stmt.TheBlock.{hidden-the_row-Stmt-0 as statements}
+use Rattle.tm_syntax.specs.declared.tree.Stmt.TheBlock.{hidden-the_row-Stmt-0 as row_of}
 use Rattle.tm_syntax.specs.declared.instruction.Instruction.{Instruction}
-use Rattle.tm_syntax.specs.Blocks.{Body, body_of, blocks_in, code_of}
+use Rattle.tm_syntax.specs.Blocks.{Body, body_of, blocks_in, statements, code_of}
 use Rattle.tm_syntax.specs.BlockCodes.{compiled_blocks}
 use Rattle.tm_syntax.specs.declared.code.BlockCode.{BlockCode}
 use Rattle.tm_syntax.specs.Named.{Named, by_name}
@@ -24,7 +24,7 @@ pub record Compiled : Type 0 where
 
 -- the statements of a tree
 abbrev pub body : Tree → Body
-body tree = body_of (statements tree.statements)
+body tree = body_of (row_of tree.statements)
 
 -- the code of its blocks, by name
 abbrev pub block_codes : Tree → Named BlockCode
@@ -32,12 +32,12 @@ block_codes tree = by_name (compiled_blocks (blocks_in (body tree).row))
 
 -- a template as its meaning takes it
 abbrev pub tree_of : Compiled → TemplateTree
-tree_of t = record { name = t.name; escape = t.escape; root = body t.tree }
+tree_of t = record { name = t.name; escape = t.escape; root = statements (body t.tree) }
 
 -- These are the streams of the tree, the names of its blocks, and the stream of no block.
 pub record AreStreams (tree : Tree) (root : List Instruction) (blocks : Named BlockCode) (names : List (List ℕ))
     (nothing : List Instruction) : Type 0 where
-  pub root_is : root ≡ code_of (body tree)
+  pub root_is : root ≡ code_of (statements (body tree))
   pub blocks_are : blocks ≡ block_codes tree
   pub names_are : names ≡ keys_of (block_codes tree)
   pub nothing_is : nothing ≡ []

@@ -5,7 +5,7 @@ ghost use Rattle.std.specs.Map.{keys_of};
 ghost use Rattle.std.specs.Prelude.{◌≡◌, [], ◌∷◌, IfOk, IfErr, map as each, string_bytes};
 ghost use Rattle.std.specs.Rc.{rc_str_bytes};
 ghost use Rattle.tm_syntax.specs.Names.{undeclared};
-ghost use Rattle.tm_syntax.specs.Blocks.{code_of};
+ghost use Rattle.tm_syntax.specs.Blocks.{code_of, statements as of_statements};
 ghost use Rattle.tm_syntax.specs.declared.tree.Stmt.TheBlock.{hidden-the_row-Stmt-0 as statements};
 ghost use Rattle.tm_syntax.specs.Named.{find, name_cmp};
 ghost use Rattle.tm_delimiters.specs.Syntax.{default_syntax};
@@ -226,7 +226,7 @@ impl<'source> CompiledTemplate<'source> {
 
     /// The code of its tree.
     pub fn instructions(&self) -> &Code
-        ensures { result.now ≡ code_of (body self.now.tree) }
+        ensures { result.now ≡ code_of (of_statements (body self.now.tree)) }
     {
         &self.streams.root
     }
