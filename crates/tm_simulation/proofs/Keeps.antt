@@ -256,7 +256,7 @@ entered_puts_back u run b out w stream ends =
 pub tag_puts_back : (host : HostValue) (trees : Trees) (n : ℕ) (tree : StreamTree) (run : Run) (b : List ℕ) (out : List ℕ) (w : World) →
     PutsBack w (block_tag (under host (nests_of host trees n) tree) run b out w).world
 tag_puts_back host trees n tree run b out w =
-    let u : Under = under host (nests_of host trees n) body in
+    let u : Under = under host (nests_of host trees n) tree in
     choose_puts_back w (none_waits run.parent && audible run) _ _
     (block_asks_by (λ q. PutsBack w (in_place_of u run out q).world) host b w (λ kind e. puts_back_same w) (λ stream room.
     entered_puts_back u run b out w stream (nests_end host trees n (whole stream) (audible run) out (in_block stream b w))))
@@ -283,7 +283,7 @@ super_entered_puts_back u run out w stream x ends =
 pub super_puts_back : (host : HostValue) (trees : Trees) (n : ℕ) (tree : StreamTree) (run : Run) (out : List ℕ) (w : World) →
     PutsBack w (in_place_of (under host (nests_of host trees n) tree) run out (enter_super host w)).world
 super_puts_back host trees n tree run out w =
-    let u : Under = under host (nests_of host trees n) body in
+    let u : Under = under host (nests_of host trees n) tree in
     super_asks_by (λ q. PutsBack w (in_place_of u run out q).world) host w (λ kind e. puts_back_same w) (λ stream x room.
     super_entered_puts_back u run out w stream x (nests_end host trees n (whole stream) (audible run) out (in_super stream x w)))
 
@@ -332,7 +332,7 @@ included_gives_back u run out w t ends =
 pub include_gives_back : (host : HostValue) (trees : Trees) (n : ℕ) (tree : StreamTree) (run : Run) (out : List ℕ) (v : Val) (missing : Bool)
     (w : World) → GivesBack w (in_place_of (under host (nests_of host trees n) tree) run out (enter_include host v missing w)).world
 include_gives_back host trees n tree run out v missing w =
-    let u : Under = under host (nests_of host trees n) body in
+    let u : Under = under host (nests_of host trees n) tree in
     include_asks_by (λ q. GivesBack w (in_place_of u run out q).world) host w (λ chain h. gives_back_same w) (gives_back_same w)
     (λ t room. included_gives_back u run out w t (nests_end host trees n (whole (root_of t)) (audible run) out (in_template host t w)))
     v missing

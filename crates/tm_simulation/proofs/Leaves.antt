@@ -30,7 +30,7 @@ run_leaves host nests trees zero s e heard out w is =
 run_leaves host nests trees (suc n) s e heard out w is =
     let run = new_run heard w in
     let behind = λ (o : Outcome). restarting o.ending o
-        (λ t. run_of host nests trees n (root_of t) run o.text (record o.world { stream = root_of t })) in
+    (λ t. run_of host nests trees n (root_of t) run o.text (record o.world { stream = root_of t })) in
     ap (λ (t : StreamTree). behind (stream_run (under host nests t) t run out w)) is
     ∙ no_parent (eval (under host nests (expression e)) run e w) heard w out _
 

@@ -176,7 +176,7 @@ module _ (p : Program) (trees : Trees) (compiled : IsUnnumbered trees p) where
       let captures : nat_eq (length (captures_of b out)) (length (captures_of b x)) ≡ true = eq-eqb _ _ (same_captures b out x) in
       let scopes : nat_eq (length w.scopes.frames) (length v.scopes.frames) ≡ true = eq-eqb (length w.scopes.frames)
       (length v.scopes.frames) (sym (kept_frames k)) in
-      let ends : return_of f (cfg s stop [] v) ≡ Over (Finished (captures_of b x) v) = rw (captures, scopes) refl in
+      let ends : return_of f (cfg s stop [] v) ≡ Over (Finished [] (captures_of b x) v) = rw (captures, scopes) refl in
       at (running heard b out w end) i.Return s stop [] v there (is_over ends e.1)
 
   -- what closes a run leaves its fault as it is

@@ -134,7 +134,7 @@ pub fn a_block_puts_back_what_it_replaced()
 pub fn a_super_puts_back_what_it_replaced()
     ensures { (host : HostValue) (trees : Trees) (n : ℕ) (tree : StreamTree) (run : Run) (out : List ℕ)
         (w : World) →
-        let u = under host (nests_of host trees n) body in
+        let u = under host (nests_of host trees n) tree in
         PutsBack w (in_place_of u run out (enter_super host w)).world }
 {}
 
@@ -143,7 +143,7 @@ pub fn a_super_puts_back_what_it_replaced()
 pub fn an_include_gives_back_what_it_replaced()
     ensures { (host : HostValue) (trees : Trees) (n : ℕ) (tree : StreamTree) (run : Run) (out : List ℕ)
         (v : Val) (missing : Bool) (w : World) →
-        let u = under host (nests_of host trees n) body in
+        let u = under host (nests_of host trees n) tree in
         GivesBack w (in_place_of u run out (enter_include host v missing w)).world }
 {}
 
