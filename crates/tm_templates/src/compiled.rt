@@ -4,9 +4,8 @@ ghost use Rattle.std.specs.List.Sorted.{IsStrictlySortedBy};
 ghost use Rattle.std.specs.Map.{keys_of};
 ghost use Rattle.std.specs.Prelude.{◌≡◌, [], ◌∷◌, IfOk, IfErr, map as each, string_bytes};
 ghost use Rattle.std.specs.Rc.{rc_str_bytes};
-ghost use Rattle.tm_syntax.specs.Names.{undeclared};
-ghost use Rattle.tm_syntax.specs.Blocks.{code_of};
-ghost use Rattle.tm_syntax.specs.declared.tree.Stmt.TheBlock.{hidden-the_row-Stmt-0 as statements};
+ghost use Rattle.tm_syntax.specs.Names.{undeclared_in};
+ghost use Rattle.tm_syntax.specs.Blocks.{code_of, stream_of};
 ghost use Rattle.tm_syntax.specs.Named.{find, name_cmp};
 ghost use Rattle.tm_delimiters.specs.Syntax.{default_syntax};
 ghost use Rattle.tm_values.specs.Answer.{IsLent, OkOrOutOfMemory};
@@ -14,7 +13,7 @@ ghost use Rattle.tm_values.specs.declared.error.ErrorKind.TheVariants.{OutOfMemo
 ghost use Rattle.tm_meaning.specs.Calls.{is_required};
 ghost use Rattle.tm_meaning.specs.Tree.{part_of, template_of};
 ghost use Rattle.tm_meaning.specs.World.{card_in};
-ghost use Rattle.tm_templates.specs.Templates.{IsTemplate, IsRefused, body, block_codes, tree_of};
+ghost use Rattle.tm_templates.specs.Templates.{IsExpression, IsTemplate, IsRefused, IsRefusedExpression, block_codes, tree_of};
 ghost use Rattle.tm_templates.specs.Defaults.{escape_of};
 ghost use Rattle.tm_templates.specs.Sources.{source_bytes};
 
@@ -218,7 +217,7 @@ impl<'source> CompiledTemplate<'source> {
         nested: bool,
     ) -> Result<BTreeSet<String>, Error>
         ensures ok { IfOk result (λ names. each string_bytes (keys names)
-            ≡ undeclared nested (statements self.now.tree.statements)) }
+            ≡ undeclared_in nested self.now.tree) }
         ensures memory { IfErr result (λ e. e ≡ OutOfMemory ∷ []) }
     {
         undeclared(alloc, &self.tree, nested)
@@ -226,7 +225,7 @@ impl<'source> CompiledTemplate<'source> {
 
     /// The code of its tree.
     pub fn instructions(&self) -> &Code
-        ensures { result.now ≡ code_of (body self.now.tree) }
+        ensures { result.now ≡ code_of (stream_of self.now.tree) }
     {
         &self.streams.root
     }
