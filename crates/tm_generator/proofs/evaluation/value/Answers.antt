@@ -8,5 +8,5 @@ use Rattle.tm_generator.proofs.evaluation.value.Goals as goal
 pub returns-clause-code : goal.returns-clause-code
 returns-clause-code c =
     c.in_ok-new.ensures ∙ c.in_ok-number_caches.ensures.ok ∙ ap numbered (c.finish-instructions.ensures
-    ∙ ap finished c.in_ok-push_expr.ensures.ok ∙ made_whole (expr_code c.args.expr.now) c.new.result (ap (λ b. b.code) c.new.ensures)
-    (ap (λ b. b.outs) c.new.ensures) (ap (λ b. b.exits) c.new.ensures))
+    ∙ ap finished c.in_ok-push_expr.ensures.ok ∙ made_whole (expr_code c.args.expr.now) c.new-code.result (ap (λ b. b.code) c.new-code.ensures)
+    (ap (λ b. b.outs) c.new-code.ensures) (ap (λ b. b.exits) c.new-code.ensures))
