@@ -7,7 +7,7 @@ use Rattle.tm_values.specs.declared.error.ErrorKind.{ErrorKind}
 use Rattle.tm_meaning.specs.World.{World}
 use Rattle.tm_meaning.specs.Tree.{Trees}
 use Rattle.tm_values.specs.Val.{Val}
-use Rattle.tm_meaning.specs.Meaning.{Ending, done, leave, next, fault, left_by, Outcome, rendered}
+use Rattle.tm_meaning.specs.Meaning.{Ending, done, leave, next, fault, left_by, left_of, Outcome, rendered}
 use Rattle.tm_meaning.specs.Machine.{Capture, End, Finished, Failed, Stuck, Program, base_of, new_capture, put_in, put_out, run_from, running}
 use Rattle.tm_meaning.specs.Steps.{Final, final, step, Reaches}
 use Rattle.tm_meaning.specs.Compiled.{IsCompiled}
@@ -56,6 +56,18 @@ finished_is leave us captures new text out left w same = ended_is leave us [] ca
 finished_is next us captures new text out left w same = ended_is next us [] captures new text out left w same refl
 finished_is (fault chain) us captures new text out left w same = let ends : Finished us new left
     ≡ Failed chain w = ap (λ (o : Final). o.end) same in absurd (cc)
+
+-- the operands that are left are the values that are meant
+operands_are : (e : Ending) (us : List Val) (captures new : List Capture) (text out : List ℕ) (left w : World) →
+    final text (Finished us new left) ≡ final_by e captures out w → us ≡ left_by e
+operands_are (done vs) us captures new text out left w same =
+    let ends : Finished us new left ≡ Finished vs (put_in captures out) w = ap (λ (o : Final). o.end) same in cc
+operands_are leave us captures new text out left w same =
+    let ends : Finished us new left ≡ Finished [] (put_in captures out) w = ap (λ (o : Final). o.end) same in cc
+operands_are next us captures new text out left w same =
+    let ends : Finished us new left ≡ Finished [] (put_in captures out) w = ap (λ (o : Final). o.end) same in cc
+operands_are (fault chain) us captures new text out left w same =
+    let ends : Finished us new left ≡ Failed chain w = ap (λ (o : Final). o.end) same in absurd (cc)
 
 not_failed : (vs : List Val) (captures : List Capture) (text out : List ℕ) (left w : World) (answer : List ErrorKind) (e : Ending) →
     final text (Failed answer left) ≡ final (put_out captures out) (Finished vs (put_in captures out) w) →
@@ -129,6 +141,11 @@ module _ (p : Program) (trees : Trees) (compiled : IsCompiled trees p) (captures
   run_done us fresh (text, appended, reaches) counted =
       let same = finished_is m.ending us captures new text m.text left m.world (one_end reaches (reached fresh)) in
       run_as_meant same.1 (written text same.0 appended) counted
+
+  -- and the machine's operands are the values that are left
+  pub run_leaves : (us : List Val) → IsFresh captures → ComesTo (Finished us new left) → us ≡ left_of m
+  run_leaves us fresh (text, appended, reaches) =
+      operands_are m.ending us captures new text m.text left m.world (one_end reaches (reached fresh))
 
   pub run_halted : (why : Halt) → IsFresh captures → HaltsAs why left ComesTo →
       WroteBeginning p (base_of true captures w)
