@@ -33,7 +33,7 @@ const ITEMS_JSON: &str = "{
 }";
 
 /// The files that hold text.
-static FILES: [(&str, &str); 20] = [
+static FILES: [(&str, &str); 22] = [
     ("hello.txt", "Hello {{ name }}!\n"),
     ("tag.txt", "a{% x %}"),
     ("call.txt", "a{{ nope() }}b"),
@@ -44,6 +44,8 @@ static FILES: [(&str, &str); 20] = [
         "{% extends 'layout.txt' %}{% block x %}{{ who }}{% endblock %}",
     ),
     ("over.txt", "{% extends '-' %}"),
+    ("mail.txt", "{% include \"part.txt\" %}!"),
+    ("part.txt", "Hi {{ who }}"),
     ("-x", "never read"),
     ("main.txt", "Hi {{ who }}!"),
     ("c.json", "{\"who\":\"A\"}"),
@@ -167,6 +169,10 @@ const ROWS: &str = r#"Words and files.
 - 0 3 1 -Dwho=A child.txt layout.txt child.txt => <A> => -
 - 0 1 1 turn.txt => first => -
 - 0 2 1 turn.txt turn.txt => later => -
+- 0 3 1 --json c.json mail.txt part.txt => Hi A! => -
+- 0 3 1 --json c.json -D who=B mail.txt part.txt => Hi B! => -
+- 1 2 1 --limit 10 mail.txt part.txt =>  => InvalidOperation
+- 1 1 1 mail.txt =>  => TemplateNotFound
 - 1 1 1 child.txt =>  => TemplateNotFound
 - 1 2 1 child.txt main.txt =>  => TemplateNotFound
 - 1 2 1 hello.txt tag.txt =>  => SyntaxError

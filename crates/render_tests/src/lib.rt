@@ -10,6 +10,8 @@ mod caches;
 #[cfg(test)]
 mod callbacks;
 #[cfg(test)]
+mod calls;
+#[cfg(test)]
 mod includes;
 #[cfg(test)]
 mod limited;

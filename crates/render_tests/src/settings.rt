@@ -50,7 +50,7 @@ fn is_set(environment: &Rows<'_>, wanted: &str) -> bool {
 /// Whether the globals of an environment have these names.
 fn has_globals(alloc: Global, environment: &Rows<'_>, wanted: &str) -> Result<bool, Error> {
     let mut names = Vec::new(alloc);
-    for &(name, _) in environment.globals()?.iter() {
+    for (name, _) in environment.globals() {
         names.push(name)?;
     }
     Ok(are(&names, wanted))

@@ -1,6 +1,7 @@
 -- What a run of a template's code answered is what its trees mean.
 use Rattle.std.proofs.Common.{◌≡◌, inl, inr, ℕ, List, [], ◌∷◌, Bool, true, false, Option, Result, Ok, Err, IsErrAnd, refl, sym, ap}
-use Rattle.std.proofs.Common.{◌∙◌, length, subst}
+use Rattle.std.proofs.Common.{◌∙◌, length, subst, String, string_bytes}
+use Rattle.std.specs.declared.alloc.Global.{Global}
 use Rattle.std.specs.Io.KnownBytes.{Appends}
 use Rattle.tm_meaning.specs.Memory.{is_want_of_memory}
 use Rattle.tm_values.specs.declared.error.ErrorKind.{ErrorKind}
@@ -22,6 +23,7 @@ use Rattle.tm_simulation.proofs.Simulation.{render_runs}
 use Rattle.tm_vm.specs.Answers.{HaltsAs, ReachesEnd}
 use Rattle.tm_vm.specs.Nested.{WroteBeginning}
 use Rattle.template_machine.specs.Environment.{TemplateValue}
+use Rattle.template_machine.specs.Renders.{CapturedValue, StateValue, IsCaptured, RenderedCaptured, captured_as_meant, captured_by_memory}
 use Rattle.template_machine.specs.Renders.{answer_by, IsFresh, Ran, run_as_meant, run_by_writer, run_by_memory}
 use Rattle.template_machine.specs.Renders.{Rendered, as_meant, by_writer, by_memory, RenderedText, text_as_meant, text_by_memory}
 use Rattle.template_machine.specs.Renders.{BlockWritten, block_as_meant, block_by_writer, block_by_memory}
@@ -232,3 +234,31 @@ text_failed m left old told now (halt.Fault kinds) (run_by_memory chain is memor
 pub passed : {T E : Type 0} (r : Result T E) (P : Result T E → Type 0) (e : E) → IsErrAnd r (λ x. x ≡ e) → P (Err e) → P r
 passed (Ok x) P e is p = absurd is
 passed (Err y) P e is p = subst (λ x. P (Err x)) (sym is) p
+
+-- the text of a run in a capture of its own is a render's
+pub text_of_captured : (m : Outcome) (w : World) (r : Result (String Global) (List ErrorKind)) → IsCaptured r m w → RenderedText m r
+text_of_captured m w (Ok text) is = text_as_meant (is.0, w, is.1)
+text_of_captured m w (Err chain) is = by_kind (is_want_of_memory chain) refl
+  where
+    by_kind : (b : Bool) → is_want_of_memory chain ≡ b → RenderedText m (Err chain)
+    by_kind true e = text_by_memory e
+    by_kind false e = text_as_meant (ap (λ (x : Ending). answer_by x m.world) (is e).0)
+
+-- and so it is with its state
+pub captured_done : {O : Type 0} (t r : TemplateValue O) (m : Outcome) (w : World) (text : String Global) (s : StateValue O)
+    (c : CapturedValue (StateValue O)) → r ≡ t → s ≡ record { template = r; world = w } → c ≡ record { output = string_bytes text; state = s } →
+    IsCaptured (Ok text) m w → RenderedCaptured t m (Ok c)
+captured_done {O} t r m w text s c r_is s_is c_is is =
+    captured_as_meant (
+      ap (λ (x : CapturedValue (StateValue O)). x.output) c_is ∙ is.0,
+      ap (λ (x : CapturedValue (StateValue O)). x.state.template) c_is ∙ ap (λ (x : StateValue O). x.template) s_is ∙ r_is,
+      is.1 ∙ sym (ap (λ (x : CapturedValue (StateValue O)). Ok x.state.world) c_is ∙ ap (λ (x : StateValue O). Ok x.world) s_is),
+    )
+
+pub captured_failed : {O : Type 0} (t : TemplateValue O) (m : Outcome) (w : World) (chain : List ErrorKind) → IsCaptured (Err chain) m w →
+    RenderedCaptured t m (Err chain)
+captured_failed t m w chain is = of_text (text_of_captured m w (Err chain) is)
+  where
+    of_text : RenderedText m (Err chain) → RenderedCaptured t m (Err chain)
+    of_text (text_as_meant e) = captured_as_meant e
+    of_text (text_by_memory e) = captured_by_memory e

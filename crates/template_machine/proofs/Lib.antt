@@ -6,3 +6,5 @@ mod Runs
 mod Started
 mod StateCalls
 mod Texts
+mod Walked
+mod Expected

@@ -2,6 +2,7 @@
 use Rattle.std.proofs.Common.{◌≡◌, ℕ, List, refl, sym, ap, ◌∙◌, Option, Some, None}
 use Rattle.std.specs.Map.{keys_of}
 use Rattle.std.specs.Option.{option_map}
+use Rattle.tm_values.specs.declared.escape.AutoEscape.{AutoEscape}
 use Rattle.tm_syntax.specs.BlockCodes.{block_code}
 use Rattle.tm_syntax.specs.Blocks.{blocks_in}
 use Rattle.tm_syntax.specs.Named.{by_name, find}
@@ -52,6 +53,13 @@ module _ {O : Type 0} (stated : O → StatedObjects) (t : TemplateValue O) where
         keys-carded (by_name bs) ∙ sym (keys-turned block_code (by_name bs))
             ∙ sym (are ∙ ap keys_of (by_name-turned block_code bs)),
       )
+
+  -- and its escape
+  pub escape_found : (x : List ℕ) (c : Compiled) (e : AutoEscape) → find x t.environment.templates ≡ Some c → e ≡ c.escape →
+      option_map (λ (t : Template). t.escape) (find x (host_of stated t).templates) ≡ Some e
+  escape_found x c e found is =
+      ap (option_map (λ (t : Template). t.escape)) (find-turned as_template x t.environment.templates ∙ ap (option_map as_template) found)
+      ∙ ap (λ f. Some f) (sym is)
 
   pub blocks_missing : (x : List ℕ) → find x t.environment.templates ≡ None → find x (host_of stated t).templates ≡ None
   blocks_missing x none = find-turned as_template x t.environment.templates ∙ ap (option_map as_template) none

@@ -1,5 +1,5 @@
 -- The state that a render starts from.
-use Rattle.std.proofs.Common.{◌≡◌, ℕ, List, [], ◌∷◌, Option, Result, Ok, Err, IfOk, map, refl, ap, ◌∙◌, sym}
+use Rattle.std.proofs.Common.{◌≡◌, ℕ, List, [], Option, Result, Ok, Err, map, refl, ap, ◌∙◌, sym}
 use Rattle.tm_values.specs.Answer.{OkOrOutOfMemory}
 use Rattle.tm_values.specs.Val.{Val}
 use Rattle.tm_values.specs.declared.error.ErrorKind.{ErrorKind}
@@ -52,8 +52,8 @@ pub first_at : {O : Type 0} (stated : O → StatedObjects) (t : TemplateValue O)
     (fuel : Option ℕ) (id number : ℕ) (context : Val)
     (made : Result World (List ErrorKind)) → meant t t.id ≡ t.template → root ≡ t.id → own ≡ t.template → names ≡ keys_of (block_codes own.tree) →
     escape ≡ own.escape → fuel ≡ t.environment.fuel → id ≡ number →
-    OkOrOutOfMemory made (λ s. s ≡ started id root names escape fuel context) → IfOk made (λ s. s ≡ first stated t number context)
-first_at stated t root own names escape fuel id number context (Err e) is root_is own_is names_are escape_is fuel_is id_is made_is = tt
+    OkOrOutOfMemory made (λ s. s ≡ started id root names escape fuel context) → OkOrOutOfMemory made (λ s. s ≡ first stated t number context)
+first_at stated t root own names escape fuel id number context (Err e) is root_is own_is names_are escape_is fuel_is id_is made_is = made_is
 first_at stated t root own names escape fuel id number context (Ok s) is root_is own_is names_are escape_is fuel_is id_is made_is =
     made_is
     ∙ ap (λ n. started n root names escape fuel context) id_is

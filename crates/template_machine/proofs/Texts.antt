@@ -1,5 +1,5 @@
 -- The text of what a call gives is what was meant.
-use Rattle.std.proofs.Common.{◌≡◌, ◌∙◌, ℕ, List, [], ◌∷◌, Result, Ok, Err, String, string_bytes, false, refl, ap}
+use Rattle.std.proofs.Common.{◌≡◌, ◌∙◌, List, [], ◌∷◌, Result, Ok, Err, String, string_bytes, false, refl, ap}
 use Rattle.std.specs.declared.alloc.Global.{Global}
 use Rattle.tm_values.specs.Answer.{IsAnswer, is_memory_alone}
 use Rattle.tm_values.specs.Val.{Val}

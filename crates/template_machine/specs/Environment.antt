@@ -1,5 +1,5 @@
 -- Environments and templates as plain data, over all objects of the caller as one.
-use Rattle.std.specs.Prelude.{◌≡◌, ℕ, List, [], map as each, Ok, Err, Option, Some, None}
+use Rattle.std.specs.Prelude.{◌≡◌, ℕ, List, [], map as each, Ok, Err, Option, Some, None, codes}
 use Rattle.tm_values.specs.Answer.{Answer, refused}
 use Rattle.tm_values.specs.declared.error.ErrorKind.TheVariants.{TemplateNotFound}
 use Rattle.tm_values.specs.Val.{Val, function}
@@ -16,7 +16,7 @@ use Rattle.tm_meaning.specs.World.{Bindings, HostValue, Template, World, name_of
 use Rattle.tm_meaning.specs.Tree.{TemplateTree, Trees, template_of, trees_of}
 use Rattle.tm_tables.specs.Language.{language_globals}
 use Rattle.tm_tables.specs.Stated.{Table, StatedObjects, language_functions, with_object, next_number}
-use Rattle.tm_templates.specs.Templates.{Compiled, IsTemplate, tree_of}
+use Rattle.tm_templates.specs.Templates.{Compiled, IsTemplate, empty_template, tree_of}
 use Rattle.tm_templates.specs.declared.defaults.EscapeSetting.{EscapeSetting}
 use Rattle.tm_templates.specs.declared.defaults.EscapeSetting.TheVariants as escapes
 
@@ -71,6 +71,18 @@ IsEntryOf e name t = (t.environment ≡ e) × (t.id ≡ Entry name) × (find nam
 -- The template is what a source is in the environment, under a name, and none of its entries.
 abbrev pub IsMadeIn : {O : Type 0} → (O → StatedObjects) → EnvironmentValue O → List ℕ → List ℕ → TemplateValue O → Type 0
 IsMadeIn stated e name source t = (t.environment ≡ e) × (t.id ≡ Own) × IsTemplateOf stated e name source t.template
+
+-- what no template runs under: one of no statement, under a name that no template has by itself
+abbrev pub unknown_template : {O : Type 0} → EnvironmentValue O → TemplateValue O
+unknown_template e = record { environment = e; id = Own; template = empty_template (codes "<unknown>") }
+
+-- what was compiled under a name, as the environment's entry of the name
+abbrev pub named_entry : {O : Type 0} → EnvironmentValue O → List ℕ × Compiled → List ℕ × TemplateValue O
+named_entry e t = (t.0, record { environment = e; id = Entry t.0; template = t.1 })
+
+-- the templates by name, each as the environment's entry
+abbrev pub entries_of : {O : Type 0} → EnvironmentValue O → Named (TemplateValue O)
+entries_of e = each (named_entry e) e.templates
 
 -- the value as the global of a name
 abbrev pub with_global : {O : Type 0} → List ℕ → Val → EnvironmentValue O → EnvironmentValue O

@@ -5,7 +5,7 @@ use Rattle.std.specs.Io.KnownBytes.{Appends}
 use Rattle.std.specs.declared.alloc.Global.{Global}
 use Rattle.tm_values.specs.Answer.{Answer}
 use Rattle.tm_meaning.specs.Memory.{is_want_of_memory}
-use Rattle.tm_values.specs.Val.{Val, boolean}
+use Rattle.tm_values.specs.Val.{Val, boolean, undefined}
 use Rattle.tm_values.specs.declared.error.ErrorKind.{ErrorKind}
 use Rattle.tm_values.specs.declared.error.ErrorKind.TheVariants.{InvalidOperation, WriteFailure}
 use Rattle.tm_syntax.specs.Named.{put}
@@ -52,6 +52,10 @@ greatest = 2 ^ 64 - 1
 -- the world that a render starts from, as the state of this number over this context value
 abbrev pub first : {O : Type 0} → (O → StatedObjects) → TemplateValue O → ℕ → Val → World
 first stated t id context = first_world (host_of stated t) t.id id t.environment.fuel context
+
+-- the world of a state of this number in which nothing runs: that of a render, without its scope
+abbrev pub idle : {O : Type 0} → (O → StatedObjects) → TemplateValue O → ℕ → World
+idle stated t id = record (first stated t id (undefined false)) { scopes = record { frames = []; outer = 0 } }
 
 -- what a template means from a world, where objects state this
 abbrev pub meaning_from : {O : Type 0} → (O → StatedObjects) → TemplateValue O → World → Outcome
@@ -122,6 +126,17 @@ pub data Rendered {O : Type 0} (t : TemplateValue O) (m : Outcome) (result : Res
 pub data RenderedText (m : Outcome) (result : Result (String Global) (List ErrorKind)) : Type 0 where
   text_as_meant : IsRenderedText result m → RenderedText m result
   text_by_memory : IsMemory result → RenderedText m result
+
+-- The answer is the whole text that was meant, with the template's state and its world, or an error of its chain.
+abbrev pub IsCapturedEnd : {O : Type 0} → TemplateValue O → Result (CapturedValue (StateValue O)) (List ErrorKind) → Outcome → Type 0
+IsCapturedEnd t (Ok c) m = (c.output ≡ m.text) × (c.state.template ≡ t) × (answer_of m ≡ Ok c.state.world)
+IsCapturedEnd t (Err answer) m = answer_of m ≡ Err answer
+
+-- How a render to a text and a state ended: as was meant, or since no memory was found.
+pub data RenderedCaptured {O : Type 0} (t : TemplateValue O) (m : Outcome)
+    (result : Result (CapturedValue (StateValue O)) (List ErrorKind)) : Type 0 where
+  captured_as_meant : IsCapturedEnd t result m → RenderedCaptured t m result
+  captured_by_memory : IsMemory result → RenderedCaptured t m result
 
 -- How a render of a source ended, whose template has this name: refused, since it spells no template or no memory was found, and no state
 -- was numbered; or rendered, as the template that it spells.

@@ -5,12 +5,18 @@ use Rattle.tm_syntax.specs.Named.{Named, find}
 use Rattle.tm_meaning.specs.declared.stream.TemplateId.{TemplateId}
 use Rattle.tm_meaning.specs.declared.stream.TemplateId.TheVariants.{Own, Entry}
 use Rattle.tm_templates.specs.Templates.{Compiled}
+use Rattle.template_machine.specs.declared.rendering.OwnTemplate.{OwnTemplate}
+use Rattle.template_machine.specs.declared.rendering.OwnTemplate.TheVariants as own
 use Rattle.template_machine.specs.declared.template.TemplateRef.{TemplateRef}
 use Rattle.template_machine.specs.declared.template.TemplateRef.TheVariants.{Lent, Owned}
 
 abbrev pub held_template : TemplateRef → Compiled
 held_template (Lent x t) = t.now
 held_template (Owned t) = t.value
+
+abbrev pub own_template : OwnTemplate → Compiled
+own_template (own.Lent t) = t.now
+own_template (own.Owned t) = t.value
 
 -- An entry of the environment is known by its name.
 abbrev pub entry_id : Option (Bor (List ℕ)) → TemplateId

@@ -1,29 +1,34 @@
 //! The environment.
-ghost use Rattle.std.specs.Prelude.{◌≡◌, ◌≢◌, ◌<◌, [], ◌∷◌, Some, None, codes, min, OnOk, OnErr, IfOk, IfErr};
-ghost use Rattle.std.specs.Prelude.{MatchResult, length, slice_get};
-ghost use Rattle.tm_syntax.specs.Named.{find, pairs_of, put, without};
+ghost use Rattle.std.specs.Prelude.{◌≡◌, ◌≢◌, ◌+◌, ◌<◌, [], ◌∷◌, Some, None, codes, min, OnOk, OnErr, IfOk, IfErr};
+ghost use Rattle.std.specs.Prelude.{MatchOption, MatchResult, length, slice_get};
+ghost use Rattle.tm_syntax.specs.Named.{find, put, without};
+ghost use Rattle.tm_tables.specs.Places.{AreOrdered};
 ghost use Rattle.tm_tables.specs.Stated.{no_functions, with_filter, without_filter, with_test, without_test};
 ghost use Rattle.tm_tables.specs.Stated.{with_escaping, with_fallback, with_formatter, with_joining};
-ghost use Rattle.tm_templates.specs.Templates.{Compiled, IsRefused};
+ghost use Rattle.tm_templates.specs.Templates.{empty_template, Compiled, IsRefused};
 ghost use Rattle.tm_values.specs.Answer.{IsLent, OkOrOutOfMemory};
 ghost use Rattle.tm_values.specs.Val.{function};
 ghost use Rattle.std.specs.Prelude.{string_bytes};
 ghost use Rattle.tm_templates.specs.Sources.{source_bytes};
-ghost use Rattle.template_machine.specs.Renders.{greatest, IsUnnumbered, RenderedSource};
+ghost use Rattle.template_machine.specs.Renders.{greatest, idle, IsUnnumbered, RenderedSource};
 ghost use Rattle.template_machine.specs.Environment.{IsTemplateOf, IsEntryOf, IsMadeIn, empty_environment};
 ghost use Rattle.template_machine.specs.Environment.{new_environment, with_function, with_global, with_objects};
-ghost use Rattle.template_machine.specs.Environment.{greatest_limit};
+ghost use Rattle.template_machine.specs.Environment.{entries_of, greatest_limit, unknown_template};
 
+use crate::entries::{Globals, TemplatesOf};
 use crate::ids::StateIds;
+use crate::rendering::Rendering;
+use crate::state::StateOf;
 use crate::template::{TemplateOf, TemplateRef};
 use std::alloc::Global;
 use std::marker::Model;
 use tm_compiler::SyntaxConfig;
 use tm_syntax::{Name, NameMap};
 use tm_tables::{
-    Callable, EscapeRule, Formatter, MethodFallback, Objects, Parties, PathJoin, language_globals,
+    Callable, EscapeRule, Formatter, MethodFallback, NO_PLACE, Objects, Parties, PathJoin,
+    language_globals,
 };
-use tm_templates::{CompiledTemplate, EscapeSetting, Source, Templates};
+use tm_templates::{CompiledTemplate, EscapeSetting, GlobalMap, Source, Templates};
 use tm_values::{Error, ErrorKind, UndefinedBehavior, Value};
 
 /// How deep scopes may lie at most.
@@ -32,13 +37,16 @@ const GREATEST_LIMIT: usize = 500;
 /// The name of a template that was given none.
 const UNNAMED: &str = "<string>";
 
+/// The name of the template of a state that is of none.
+const UNKNOWN: &str = "<unknown>";
+
 /// Templates by name, the caller's objects, and the settings of renders.
 pub struct EnvironmentOf<'source, O: Drop> {
     alloc: Global,
     templates: Templates<'source>,
     syntax: SyntaxConfig,
     objects: O,
-    globals: NameMap<Value>,
+    globals: GlobalMap,
     undefined: UndefinedBehavior,
     fuel: Option<u64>,
     limit: usize,
@@ -100,10 +108,40 @@ impl<'source, O: Drop> EnvironmentOf<'source, O> {
             (λ e. (e ≡ ErrorKind.TemplateNotFound ∷ [])
             × (find name.now self.now.templates ≡ None)) }
     {
-        match self.templates.entry(name) {
-            Some((name, compiled)) => Ok(TemplateOf::new(self, TemplateRef::Lent(name, compiled))),
+        match self.find_entry(NO_PLACE, name) {
+            Some((_place, name, compiled)) => Ok(TemplateOf::new(
+                self,
+                TemplateRef::Lent(name, compiled),
+            )),
             None => Err(Error::from(ErrorKind::TemplateNotFound)),
         }
+    }
+
+    /// Drops the template of a name, if there is one; other names keep theirs.
+    pub fn remove_template(&mut self, name: &str)
+        ensures rest { self.new ≡ record self.old { templates = without name.now self.old.templates } }
+        ensures absent { find name.now self.old.templates ≡ None → self.new ≡ self.old }
+        ensures gone { find name.now self.new.templates ≡ None }
+        ensures others { (x : _) → x ≢ name.now →
+            find x self.new.templates ≡ find x self.old.templates }
+    {
+        self.templates.remove(name);
+    }
+
+    /// Drops all templates.
+    pub fn clear_templates(&mut self)
+        ensures { self.new ≡ record self.old { templates = [] } }
+    {
+        self.templates.clear();
+    }
+
+    /// The templates with their names, each once, in the order of the names. This takes no memory.
+    pub fn templates(&self) -> TemplatesOf<'_, 'source, O>
+        ensures entries { result ≡ entries_of self.now }
+        ensures order { AreOrdered self.now.templates }
+    {
+        self.templates.ascend();
+        TemplatesOf::new(self)
     }
 
     /// Sets the fuel of each later render; none is the greatest u64.
@@ -170,8 +208,7 @@ impl<'source, O: Drop> EnvironmentOf<'source, O> {
         ensures err { OnErr result (self.new ≡ self.old) }
     {
         let name = Name::new(self.alloc, name)?;
-        self.globals.insert(name, value)?;
-        Ok(())
+        self.globals.insert(name, value)
     }
 
     /// Drops the global of a name, a function's too; the functions keep their numbers. Other names stand for
@@ -183,15 +220,16 @@ impl<'source, O: Drop> EnvironmentOf<'source, O> {
         ensures others { (x : _) → x ≢ name.now →
             find x self.new.globals ≡ find x self.old.globals }
     {
-        let _removed = self.globals.remove(name);
+        self.globals.remove(name);
     }
 
-    /// The globals with their values, functions among them, in the order of their names. Fails by OutOfMemory alone.
-    pub fn globals(&self) -> Result<Vec<(&str, &Value)>, Error>
-        ensures { OkOrOutOfMemory result (λ pairs. pairs_of pairs.items ≡ self.now.globals) }
+    /// The globals with their values, functions among them, each once, in the order of the names. This takes no memory.
+    pub fn globals(&self) -> Globals<'_>
+        ensures pairs { result ≡ self.now.globals }
+        ensures order { AreOrdered self.now.globals }
     {
-        let pairs = self.globals.pairs(self.alloc)?;
-        Ok(pairs)
+        self.globals.ascend();
+        Globals::new(&self.globals)
     }
 
     /// The allocator of what the environment makes.
@@ -207,17 +245,50 @@ impl<'source, O: Drop> EnvironmentOf<'source, O> {
     }
 
     /// The globals by name.
-    pub(crate) fn global_names(&self) -> &NameMap<Value>
+    pub(crate) fn global_values(&self) -> &NameMap<Value>
         ensures { result.now ≡ self.now.globals }
     {
-        &self.globals
+        self.globals.values()
     }
 
-    /// What was compiled under a name, where it was.
-    pub(crate) fn find_template(&self, name: &str) -> Option<&CompiledTemplate<'source>>
+    /// The template of a state that is of none. Fails by OutOfMemory alone.
+    pub(crate) fn unknown(&self) -> Result<CompiledTemplate<'source>, Error>
+        ensures { OkOrOutOfMemory result (λ t. t ≡ empty_template (codes "<unknown>")) }
+    {
+        CompiledTemplate::empty(self.alloc, UNKNOWN)
+    }
+
+    /// The templates by name.
+    pub(crate) fn compiled_templates(&self) -> &Templates<'source>
+        ensures { result.now ≡ self.now.templates }
+    {
+        &self.templates
+    }
+
+    /// What was compiled under a name, where it was, wherever it stands, with its place and the name that it stands at.
+    #[inline(always)]
+    pub(crate) fn find_entry(
+        &self,
+        place: usize,
+        name: &str,
+    ) -> Option<(usize, &Name, &CompiledTemplate<'source>)>
+        ensures { MatchOption result (find name.now self.now.templates ≡ None)
+            (λ found. (found.1.now ≡ name.now)
+            × (find name.now self.now.templates ≡ Some found.2.now)) }
+    {
+        self.templates.entry(place, name)
+    }
+
+    /// What was compiled under a name, where it was, wherever it stands.
+    #[inline(always)]
+    pub(crate) fn find_template(
+        &self,
+        place: usize,
+        name: &str,
+    ) -> Option<&CompiledTemplate<'source>>
         ensures { IsLent result (find name.now self.now.templates) }
     {
-        self.templates.get(name)
+        self.templates.get(place, name)
     }
 }
 
@@ -335,6 +406,25 @@ impl<'source, O: Parties> EnvironmentOf<'source, O> {
         let template = self.template_from_named_str(name, source)?;
         template.render(ids, context)
     }
+
+    /// The next state of the counter, of no template: under the name `<unknown>`, without blocks, and nothing is escaped. No
+    /// scope is open. InvalidOperation where the counter is full, OutOfMemory where there is no memory.
+    pub fn empty_state(&self, ids: &mut StateIds) -> Result<StateOf<'_, O>, Error>
+        ensures full { ids.old ≡ greatest →
+            (result ≡ Err (ErrorKind.InvalidOperation ∷ [])) × (ids.new ≡ ids.old) }
+        ensures next { ids.old < greatest → ids.new ≡ ids.old + 1 }
+        ensures state { IfOk result (λ s. s ≡ record {
+          template = unknown_template self.now;
+          world = idle O.stated (unknown_template self.now) ids.old;
+        }) }
+        ensures memory { ids.old < greatest → IfErr result (λ e. e ≡ ErrorKind.OutOfMemory ∷ []) }
+    {
+        let id = ids.next()?;
+        let rendering = Rendering::unknown(self)?;
+        let mut state = rendering.state_at(id, Value::undefined())?;
+        state.pop_scope();
+        Ok(StateOf::new(rendering, state))
+    }
 }
 
 impl<'source, C: Drop, M: Drop, F: Drop, R: Drop, J: Drop> EnvironmentOf<
@@ -349,7 +439,7 @@ impl<'source, C: Drop, M: Drop, F: Drop, R: Drop, J: Drop> EnvironmentOf<
     ) -> Result<EnvironmentOf<'source, Objects<C, M, F, EscapeSetting<R>, J>>, Error>
         ensures { OkOrOutOfMemory result (λ e. e ≡ new_environment) }
     {
-        let globals = language_globals(alloc)?;
+        let globals = GlobalMap::of(alloc, language_globals(alloc)?)?;
         Ok(EnvironmentOf::with(
             alloc,
             Objects::of_language(alloc, EscapeSetting::ByName),
@@ -365,7 +455,7 @@ impl<'source, C: Drop, M: Drop, F: Drop, R: Drop, J: Drop> EnvironmentOf<
         EnvironmentOf::with(
             alloc,
             Objects::new(alloc, EscapeSetting::Never),
-            NameMap::new(alloc),
+            GlobalMap::new(alloc),
         )
     }
 
@@ -373,7 +463,7 @@ impl<'source, C: Drop, M: Drop, F: Drop, R: Drop, J: Drop> EnvironmentOf<
     fn with(
         alloc: Global,
         objects: Objects<C, M, F, EscapeSetting<R>, J>,
-        globals: NameMap<Value>,
+        globals: GlobalMap,
     ) -> EnvironmentOf<'source, Objects<C, M, F, EscapeSetting<R>, J>>
         ensures { result ≡ record (empty_environment objects) { globals = globals } }
     {

@@ -1,6 +1,7 @@
 //! Templates in an environment, and their renders. All public names of the project come from here.
 #![tactic(auto)]
 
+mod entries;
 mod environment;
 mod formatting;
 mod ids;
@@ -8,6 +9,7 @@ mod rendering;
 mod state;
 mod template;
 
+pub use entries::{Globals, Templates, TemplatesOf};
 pub use environment::{BoxedObjects, Environment, EnvironmentOf};
 pub use formatting::escape_formatter;
 pub use ids::StateIds;

@@ -1,30 +1,52 @@
 //! What a render runs under.
-ghost use Rattle.std.specs.Prelude.{◌≡◌};
+ghost use Rattle.std.specs.Prelude.{◌≡◌, [], ◌∷◌, IfErr, IfOk};
 ghost use Rattle.tm_state.specs.Answers.{KeepsFixed};
-ghost use Rattle.template_machine.specs.Environment.{meant};
-ghost use Rattle.template_machine.specs.Renders.{meaning_from, IsFresh, Ran};
-ghost use Rattle.template_machine.specs.TemplateRef.{entry_id};
+ghost use Rattle.template_machine.specs.Environment.{meant, unknown_template};
+ghost use Rattle.template_machine.specs.Renders.{first, meaning_from, IsFresh, Ran};
+ghost use Rattle.template_machine.specs.TemplateRef.{entry_id, own_template};
+ghost use Rattle.tm_values.specs.Answer.{OkOrOutOfMemory};
 ghost use Rattle.tm_vm.specs.Answers.{NoFewer};
 
 use crate::environment::EnvironmentOf;
 use std::alloc::Global;
 use std::marker::Model;
-use std::rc::Rc;
 use tm_meaning::{StreamId, TemplateId};
 use tm_parts::{Captures, Halt, Sink};
 use tm_state::StateData;
 use tm_syntax::{Code, Name, NameMap};
-use tm_tables::{BlockNames, CallableAnswer, Called, Host, Parties, View};
+use tm_tables::{CallableAnswer, Called, Host, NO_PLACE, Parties, TemplateEntry, View};
 use tm_templates::CompiledTemplate;
 use tm_values::{AutoEscape, Error, ErrorKind, UndefinedBehavior, Value};
 use tm_vm::Machine;
+
+/// The template that is rendered, or of which a state is.
+#[derive(Drop)]
+pub(crate) enum OwnTemplate<'env> {
+    /// One that outlives the state.
+    Lent(&'env CompiledTemplate<'env>),
+    /// One of the state alone.
+    Owned(Box<CompiledTemplate<'env>>),
+}
+
+impl<'env> OwnTemplate<'env> {
+    /// What was compiled.
+    #[inline(always)]
+    fn compiled(&self) -> &CompiledTemplate<'env>
+        ensures { result.now ≡ own_template self.now }
+    {
+        match self {
+            OwnTemplate::Lent(compiled) => compiled,
+            OwnTemplate::Owned(compiled) => &**compiled,
+        }
+    }
+}
 
 /// The environment and the template that is rendered: the machine's one party.
 #[derive(Drop)]
 pub(crate) struct Rendering<'env, O: Drop> {
     environment: &'env EnvironmentOf<'env, O>,
     name: Option<&'env Name>,
-    own: &'env CompiledTemplate<'env>,
+    own: OwnTemplate<'env>,
 }
 
 impl<'env, O: Drop> Model for Rendering<'env, O> {
@@ -37,12 +59,12 @@ impl<'env, O: Drop> Model for Rendering<'env, O> {
 
     ghost coded = { Prim.hlevel (codes, coded_Val, statement.the_row.coded, O.code) };
 
-    ghost use Rattle.template_machine.specs.TemplateRef.{entry_id};
+    ghost use Rattle.template_machine.specs.TemplateRef.{entry_id, own_template};
 
     ghost view = { λ r. record {
       environment = r.environment.now;
       id = entry_id r.name;
-      template = r.own.now;
+      template = own_template r.own;
     } };
 }
 
@@ -51,12 +73,12 @@ impl<'env, O: Drop> Rendering<'env, O> {
     pub(crate) fn new(
         environment: &'env EnvironmentOf<'env, O>,
         name: Option<&'env Name>,
-        own: &'env CompiledTemplate<'env>,
+        own: OwnTemplate<'env>,
     ) -> Rendering<'env, O>
         ensures { result ≡ record {
           environment = environment.entry.now;
           id = entry_id name.entry;
-          template = own.entry.now;
+          template = own_template own.entry;
         } }
     {
         Rendering {
@@ -64,6 +86,17 @@ impl<'env, O: Drop> Rendering<'env, O> {
             name,
             own,
         }
+    }
+
+    /// What no template runs under. Fails by OutOfMemory alone.
+    pub(crate) fn unknown(
+        environment: &'env EnvironmentOf<'env, O>,
+    ) -> Result<Rendering<'env, O>, Error>
+        ensures { OkOrOutOfMemory result (λ r. r ≡ unknown_template environment.entry.now) }
+    {
+        let compiled = environment.unknown()?;
+        let owned = Box::new(environment.allocator(), compiled)?;
+        Ok(Rendering::new(environment, None, OwnTemplate::Owned(owned)))
     }
 
     /// The allocator of what the environment makes.
@@ -79,19 +112,57 @@ impl<'env, O: Drop> Rendering<'env, O> {
     }
 
     /// The template that is meant.
-    fn template(&self, template: &TemplateId) -> &'env CompiledTemplate<'env>
+    fn template(&self, template: &TemplateId) -> &CompiledTemplate<'env>
         ensures { result.now ≡ meant self.now template.now }
     {
+        self.template_at(template, NO_PLACE)
+    }
+
+    /// The template that is meant, wherever it stands.
+    #[inline(always)]
+    fn template_at(&self, template: &TemplateId, place: usize) -> &CompiledTemplate<'env>
+        ensures { result.now ≡ meant self.now template.now }
+    {
+        let own = self.own.compiled();
         let TemplateId::Entry(name) = template else {
-            return self.own;
+            return own;
         };
         self.environment
-            .find_template(name.as_str())
-            .unwrap_or(self.own)
+            .find_template(place, name.as_str())
+            .unwrap_or(own)
+    }
+
+    /// What the template is in its environment. OutOfMemory where the owners of a name can't be counted.
+    fn id(&self) -> Result<TemplateId, Error>
+        ensures ok { IfOk result (λ id. id ≡ self.now.id) }
+        ensures memory { IfErr result (λ e. e ≡ ErrorKind.OutOfMemory ∷ []) }
+    {
+        match self.name {
+            Some(name) => Ok(TemplateId::Entry(name.share()?)),
+            None => Ok(TemplateId::Own),
+        }
     }
 }
 
 impl<O: Parties> Rendering<'_, O> {
+    /// The state of a number that a render starts from. Fails by OutOfMemory alone.
+    pub(crate) fn state_at(&self, id: u64, context: Value) -> Result<StateData, Error>
+        requires { meant self.now self.now.id ≡ self.now.template }
+        ensures { OkOrOutOfMemory result (λ s. s ≡ first O.stated self.now id context) }
+    {
+        let template = self.id()?;
+        let own = self.own.compiled();
+        StateData::new(
+            self.allocator(),
+            id,
+            template,
+            own.block_names(),
+            own.escape(),
+            self.environment.fuel(),
+            context,
+        )
+    }
+
     /// Runs the stream that a state names, heard, over captures and a writer, and gives the captures that are left.
     pub(crate) fn run<W: Sink>(
         &self,
@@ -129,7 +200,7 @@ impl<O: Parties> Host for Rendering<'_, O> {
     ghost code = { code };
 
     fn globals(&self) -> &NameMap<Value> {
-        self.environment.global_names()
+        self.environment.global_values()
     }
 
     fn recursion_limit(&self) -> usize {
@@ -156,15 +227,26 @@ impl<O: Parties> Host for Rendering<'_, O> {
         self.environment.objects().join(alloc, name, running)
     }
 
-    fn blocks_of(&self, name: &str) -> Option<&Rc<BlockNames>> {
-        match self.environment.find_template(name) {
-            Some(template) => Some(template.block_names()),
+    fn joins_names(&self) -> bool {
+        self.environment.objects().joins_names()
+    }
+
+    #[inline(always)]
+    fn entry(&self, name: &str, place: usize) -> Option<TemplateEntry<'_>> {
+        match self.environment.find_entry(place, name) {
+            Some((place, name, template)) => Some(TemplateEntry {
+                name,
+                escape: template.escape(),
+                blocks: template.block_names(),
+                place,
+            }),
             None => None,
         }
     }
 
-    fn instructions(&self, stream: &StreamId) -> &Code {
-        self.template(&stream.template).stream(&stream.block)
+    fn instructions(&self, stream: &StreamId, place: usize) -> &Code {
+        self.template_at(&stream.template, place)
+            .stream(&stream.block)
     }
 
     fn call_function(

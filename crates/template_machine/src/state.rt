@@ -16,7 +16,7 @@ ghost use Rattle.template_machine.specs.Renders.{BlockWritten, IsCalled, IsCaptu
 ghost use Rattle.tm_meaning.specs.Machine.{new_capture};
 ghost use Rattle.tm_vm.specs.Answers.{NoFewer};
 
-use crate::environment::BoxedObjects;
+use crate::environment::{BoxedObjects, EnvironmentOf};
 use crate::rendering::Rendering;
 use crate::template::TemplateOf;
 use std::marker::Model;
@@ -26,7 +26,7 @@ use tm_printing::to_text;
 use tm_state::{CallResult, NestedRun, RunOf, Saved, SavedBlock, StateData};
 use tm_syntax::{CaptureMode, Name};
 use tm_tables::{Host, NO_PLACE, Parties};
-use tm_values::{AutoEscape, Error, ErrorKind, Value};
+use tm_values::{AutoEscape, Error, ErrorKind, UndefinedBehavior, Value};
 use tm_vm::{Machine, run_value};
 
 /// The state of a render. A contract sees the template that was rendered, and a world of the definitions.
@@ -67,6 +67,20 @@ impl<'env, O: Drop> StateOf<'env, O> {
         ensures { result ≡ record { template = rendering.entry; world = kept } }
     {
         StateOf { rendering, kept }
+    }
+
+    /// The environment that the state is of.
+    pub fn env(&self) -> &'env EnvironmentOf<'env, O>
+        ensures { result.now ≡ self.now.template.environment }
+    {
+        self.rendering.environment()
+    }
+
+    /// What is done with undefined values.
+    pub fn undefined_behavior(&self) -> UndefinedBehavior
+        ensures { result ≡ self.now.template.environment.undefined }
+    {
+        self.env().undefined_behavior()
     }
 
     /// The fuel consumed and the fuel left, which together are the fuel that was set; none where no fuel was set.
@@ -256,7 +270,7 @@ impl<'env, O: Parties> StateOf<'env, O> {
     {
         let saved = self.enter_block(name)?;
         let result = self.rendering.run(&mut self.kept, captures, writer);
-        self.kept.put_back(Saved::Block(saved));
+        self.kept.put_back(&mut Saved::Block(saved));
         result
     }
 
@@ -315,11 +329,11 @@ impl<'env, O: Parties> StateOf<'env, O> {
         let NestedRun {
             run,
             text,
-            saved,
+            mut saved,
             ..
         } = run;
         let result = self.run_in_capture(run);
-        self.kept.put_back(saved);
+        self.kept.put_back(&mut saved);
         let captured = result?;
         run_value(alloc, text, captured.as_str(), self.kept.escape())
     }
@@ -456,6 +470,14 @@ impl<S: Drop> CapturedOf<S> {
         ensures text { self.new.output ≡ self.old.output }
     {
         function(&mut self.state)
+    }
+
+    /// The text that went to no writer.
+    pub fn into_output(self) -> String
+        ensures { string_bytes result ≡ self.output }
+    {
+        let CapturedOf { output, .. } = self;
+        output
     }
 
     /// The text that went to no writer, and the state that the render left, which may be changed from then on.

@@ -5,15 +5,16 @@ ghost use Rattle.tm_syntax.specs.Names.{undeclared};
 ghost use Rattle.tm_syntax.specs.declared.tree.Stmt.TheBlock.{hidden-the_row-Stmt-0 as statements};
 ghost use Rattle.tm_meaning.specs.World.{root_of};
 ghost use Rattle.template_machine.specs.TemplateRef.{entry_id, held_id, held_template, IsHeldOf};
-ghost use Rattle.template_machine.specs.Renders.{first, greatest, meaning, meaning_from, IsFresh, Ran, Rendered, RenderedText};
+ghost use Rattle.template_machine.specs.Environment.{meant};
+ghost use Rattle.template_machine.specs.Renders.{first, greatest, idle, meaning, meaning_from};
+ghost use Rattle.template_machine.specs.Renders.{IsCaptured, IsFresh, Ran, Rendered, RenderedCaptured, RenderedText};
 
 use crate::environment::{BoxedObjects, EnvironmentOf};
 use crate::ids::StateIds;
-use crate::rendering::Rendering;
+use crate::rendering::{OwnTemplate, Rendering};
 use crate::state::{CapturedOf, StateOf};
 use std::collections::BTreeSet;
 use std::marker::Model;
-use tm_meaning::{StreamId, TemplateId};
 use tm_parts::{Captures, Halt, NullWriter, Sink};
 use tm_state::StateData;
 use tm_syntax::{CaptureMode, Name};
@@ -132,22 +133,13 @@ impl<'env, 'source, O: Drop> TemplateOf<'env, 'source, O> {
         }
     }
 
-    /// What it is in its environment. OutOfMemory where the owners of a name can't be counted.
-    fn id(&self) -> Result<TemplateId, Error>
-        ensures ok { IfOk result (λ id. id ≡ self.now.id) }
-        ensures memory { IfErr result (λ e. e ≡ ErrorKind.OutOfMemory ∷ []) }
-    {
-        match self.entry_name() {
-            Some(name) => Ok(TemplateId::Entry(name.share()?)),
-            None => Ok(TemplateId::Own),
-        }
-    }
-
     /// What its renders run under.
     pub(crate) fn rendering(&self) -> Rendering<'_, O>
-        ensures { result ≡ self.now }
+        ensures same { result ≡ self.now }
+        ensures meant { meant self.now self.now.id ≡ self.now.template }
     {
-        Rendering::new(self.environment, self.entry_name(), self.compiled())
+        let own = OwnTemplate::Lent(self.compiled());
+        Rendering::new(self.environment, self.entry_name(), own)
     }
 }
 
@@ -162,15 +154,25 @@ impl<'env, 'source, O: Parties> TemplateOf<'env, 'source, O> {
         ensures rendered { ids.old < greatest →
             RenderedText (meaning O.stated self.now ids.old context) result }
     {
-        let alloc = self.environment.allocator();
         let mut state = self.first_state(ids, context)?;
-        let mut captures = Captures::new(alloc);
-        captures.begin(alloc, CaptureMode::Capture)?;
-        let mut captures = self.run_over(&mut state, captures, &mut NullWriter)?;
-        match captures.end() {
-            Some((_mode, text)) => Ok(text),
-            None => unreachable!(),
-        }
+        self.run_in_capture(&mut state)
+    }
+
+    /// Renders the template as `render` does, and gives the text with the state that is left.
+    pub fn render_captured(
+        &self,
+        ids: &mut StateIds,
+        context: Value,
+    ) -> Result<CapturedOf<StateOf<'_, O>>, Error>
+        ensures full { ids.old ≡ greatest →
+            (result ≡ Err (ErrorKind.InvalidOperation ∷ [])) × (ids.new ≡ ids.old) }
+        ensures next { ids.old < greatest → ids.new ≡ ids.old + 1 }
+        ensures rendered { ids.old < greatest →
+            RenderedCaptured self.now (meaning O.stated self.now ids.old context) result }
+    {
+        let mut state = self.first_state(ids, context)?;
+        let text = self.run_in_capture(&mut state)?;
+        Ok(CapturedOf::new(text, StateOf::new(self.rendering(), state)))
     }
 
     /// Renders the template over a context value, as the next state of the counter, into a writer.
@@ -197,6 +199,21 @@ impl<'env, 'source, O: Parties> TemplateOf<'env, 'source, O> {
         Ok(CapturedOf::new(String::new(alloc), StateOf::new(self.rendering(), first)))
     }
 
+    /// The next state of the counter, of this template, in which nothing runs: as at the start of a render, but
+    /// without a scope. InvalidOperation where the counter is full, OutOfMemory where there is no memory.
+    pub fn new_state(&self, ids: &mut StateIds) -> Result<StateOf<'_, O>, Error>
+        ensures full { ids.old ≡ greatest →
+            (result ≡ Err (ErrorKind.InvalidOperation ∷ [])) × (ids.new ≡ ids.old) }
+        ensures next { ids.old < greatest → ids.new ≡ ids.old + 1 }
+        ensures state { IfOk result (λ s.
+            s ≡ record { template = self.now; world = idle O.stated self.now ids.old }) }
+        ensures memory { ids.old < greatest → IfErr result (λ e. e ≡ ErrorKind.OutOfMemory ∷ []) }
+    {
+        let mut state = self.first_state(ids, Value::undefined())?;
+        state.pop_scope();
+        Ok(StateOf::new(self.rendering(), state))
+    }
+
     /// The state that a render starts from. InvalidOperation where the counter is full, OutOfMemory where there is no memory.
     fn first_state(&self, ids: &mut StateIds, context: Value) -> Result<StateData, Error>
         ensures full { ids.old ≡ greatest →
@@ -206,18 +223,21 @@ impl<'env, 'source, O: Parties> TemplateOf<'env, 'source, O> {
         ensures memory { ids.old < greatest → IfErr result (λ e. e ≡ ErrorKind.OutOfMemory ∷ []) }
     {
         let id = ids.next()?;
-        let environment = self.environment;
-        let compiled = self.compiled();
-        let template = self.id()?;
-        StateData::new(
-            environment.allocator(),
-            id,
-            template,
-            compiled.block_names(),
-            compiled.escape(),
-            environment.fuel(),
-            context,
-        )
+        self.rendering().state_at(id, context)
+    }
+
+    /// Runs the stream that a state names in a capture, and gives its text.
+    fn run_in_capture(&self, state: &mut StateData) -> Result<String, Error>
+        ensures { IsCaptured result (meaning_from O.stated self.now state.old) state.new }
+    {
+        let alloc = self.environment.allocator();
+        let mut captures = Captures::new(alloc);
+        captures.begin(alloc, CaptureMode::Capture)?;
+        let mut captures = self.run_over(state, captures, &mut NullWriter)?;
+        match captures.end() {
+            Some((_mode, text)) => Ok(text),
+            None => unreachable!(),
+        }
     }
 
     /// Runs the stream that a state names over captures and a writer, and gives the captures that are left.

@@ -88,7 +88,7 @@ by_names t [] ls = refl
 by_names t (b ∷ bs) ls = by_names t bs _
 
 module _ (host : HostValue) (x : List ℕ) (old : World) (lent : Bor (Rc (List (List ℕ)) Global)) (fresh : is_among x old.loaded ≡ false)
-    (there : AreBlocksOf (Some lent) (find x host.templates)) where
+    (there : AreBlocksOf lent (find x host.templates)) where
   abbrev Behind : World
   Behind = record old { loaded = old.loaded ++ x ∷ []; blocks = with_each (Entry x) (lent.now.value) old.blocks }
 

@@ -7,21 +7,27 @@ use Rattle.std.specs.Result.{IfErr, IsErr, IsErrAnd}
 use Rattle.std.specs.declared.alloc.Global.{Global}
 use Rattle.std.specs.declared.rc.Rc.{Rc}
 use Rattle.std.specs.Map.{keys_of}
+use Rattle.std.specs.Option.{option_map}
 use Rattle.tm_syntax.specs.Named.{Named, find}
-use Rattle.tm_values.specs.Val.{Val}
+use Rattle.tm_values.specs.Val.{Val, undefined, none, boolean, number, text, list, map, keywords, exports}
+use Rattle.tm_values.specs.Val.{function, macro, loop, namespace, text_in}
 use Rattle.tm_values.specs.declared.error.ErrorKind.{ErrorKind}
 use Rattle.tm_meaning.specs.Memory.{is_want_of_memory}
 use Rattle.tm_values.specs.declared.error.ErrorKind.TheVariants.{InvalidOperation}
 use Rattle.tm_values.specs.declared.escape.AutoEscape.{AutoEscape}
-use Rattle.tm_meaning.specs.World.{World, HostValue, Card, Scope, Good, check, records_of, depth, or_is, own_closure, owning, root_of, template_at}
+use Rattle.tm_meaning.specs.World.{World, HostValue, Card, Scope, Template, Good, check, records_of, depth, or_is}
+use Rattle.tm_meaning.specs.World.{own_closure, owning, root_of, template_at}
 use Rattle.tm_meaning.specs.Calls.{Asked, ask, choices_in, enter_include, first_found, in_template, include_call, include_depth, include_found, outermost, own_blocks, no_values, refused, runs, whole}
 use Rattle.tm_meaning.specs.declared.run_text.RunText.TheVariants as texts
 use Rattle.tm_meaning.specs.declared.stream.StreamId.{StreamId}
 use Rattle.tm_meaning.specs.declared.stream.TemplateId.{TemplateId}
 use Rattle.tm_meaning.specs.declared.stream.TemplateId.TheVariants.{Entry}
 use Rattle.tm_meaning.specs.declared.wrapping.Wrapping.TheVariants.{BadInclude}
-use Rattle.tm_tables.specs.Lists.{AreBlocksOf, ListsValue, alone_in}
-use Rattle.tm_state.specs.Answers.{NeedsSuper, OneDeeper}
+use Rattle.tm_tables.specs.Lists.{AreBlocksOf, IsEntry, ListsValue, alone_in}
+use Rattle.tm_tables.specs.declared.template_entry.TemplateEntry.{TemplateEntry}
+use Rattle.tm_meaning.specs.Inheritance.{joined}
+use Rattle.tm_values.specs.Records.{RecordData}
+use Rattle.tm_state.specs.Answers.{IsChosen, IsFirst, IsNamed, IsThere, NeedsSuper, OneDeeper}
 use Rattle.tm_state.specs.State.{put_back, saved_include}
 use Rattle.tm_state.specs.declared.nested.RunOf.TheVariants as run_of
 use Rattle.tm_state.specs.declared.saved.Saved.TheVariants as saved
@@ -44,7 +50,8 @@ owned_again c (s ∷ ss) =
     ap (λ n. owning s.own_closure (drop n (owning c (s ∷ ss)))) none
 
 -- ---------------------------------------------------------------- its run
-module _ (host : HostValue) (x : List ℕ) (w : World) (lent : Bor (Rc (List (List ℕ)) Global)) (there : AreBlocksOf (Some lent) (find x host.templates)) where
+module _ (host : HostValue) (x : List ℕ) (w : World) (lent : Bor (Rc (List (List ℕ)) Global))
+    (there : AreBlocksOf lent (find x host.templates)) where
   abbrev pub Begun : World
   Begun = record w {
     scopes = record { frames = owning None w.scopes.frames; outer = include_depth + w.scopes.outer };
@@ -118,16 +125,59 @@ module _ (host : HostValue) (x : List ℕ) (w : World) (lent : Bor (Rc (List (Li
         ap (λ q. put_back (saved.Include q) v) is ∙ ap (put_back (saved.Include (saved_include w))) at
         ∙ ap (λ ss. record w { scopes = record w.scopes { frames = ss } }) (owned_again None w.scopes.frames)
 
+-- its escape is that of the template that is there
+pub escape_there : (host : HostValue) (e : TemplateEntry) → IsThere e host → e.escape ≡ (template_at host (Entry e.name.now)).escape
+escape_there host e there =
+    let found = there.2.1 in
+    let same : Some there.2.0.escape ≡ Some e.escape = ap (option_map (λ (t : Template). t.escape)) (sym found) ∙ there.1 in
+    let is : there.2.0.escape ≡ e.escape = cc same in
+    sym is ∙ sym (ap (λ o. (or_is o host.own).escape) found)
+
 -- what the depths that are left say
 pub within_limit : (limit deep left : ℕ) → left ≡ limit - deep → include_depth ≤ left → nat_lt limit (include_depth + deep) ≡ false
 within_limit limit deep left is enough = grind (arith, nat_tests, is, enough)
 
 -- ---------------------------------------------------------------- its choice
+-- a text is the one choice
+text_alone : (r : RecordData) (v : Val) (x : List ℕ) → text_in v ≡ Some x → choices_in r v ≡ Ok (v ∷ [])
+text_alone r (text s safe) x is = refl
+text_alone r (undefined silent) x is = absurd (cc is)
+text_alone r none x is = absurd (cc is)
+text_alone r (boolean b) x is = absurd (cc is)
+text_alone r (number n) x is = absurd (cc is)
+text_alone r (list vs) x is = absurd (cc is)
+text_alone r (map ps) x is = absurd (cc is)
+text_alone r (keywords ps) x is = absurd (cc is)
+text_alone r (exports ps s) x is = absurd (cc is)
+text_alone r (function n) x is = absurd (cc is)
+text_alone r (macro m) x is = absurd (cc is)
+text_alone r (loop s n) x is = absurd (cc is)
+text_alone r (namespace s n) x is = absurd (cc is)
+
+-- the first choice is there, or those behind it are tried
+module _ (host : HostValue) (v : Val) (vs : List Val) (w : World) (name : List ℕ) (is : text_in v ≡ Some name) where
+  first_there : (e : TemplateEntry) → IsNamed (Some e) host name w → IsFirst (Some e) host (v ∷ vs) w
+  first_there e named =
+      let at = named.2 in (
+        rw (is, named.1, at.2.1) (ap (λ y. Good (Some (Entry y)) w) (sym at.0)),
+        subst (λ y. IsEntry (Some e) y (find y host.templates)) (sym at.0) at,
+      )
+
+  first_missing : IsNamed None host name w → first_found host (v ∷ vs) w ≡ first_found host vs w
+  first_missing named = rw (is, named.1, named.2) refl
+
+-- so it is with a text
+pub only_one : (host : HostValue) (v : Val) (w : World) (name : List ℕ) (found : Option TemplateEntry) → text_in v ≡ Some name →
+    IsNamed found host name w → IsChosen found false host v w
+only_one host v w name (Some e) is named = (v ∷ [], text_alone (records_of w) v name is, refl, first_there host v [] w name is e named)
+only_one host v w name None is named = (v ∷ [], text_alone (records_of w) v name is, refl, first_missing host v [] w name is named)
+
 -- what was chosen is included
-pub chosen : (host : HostValue) (v : Val) (missing : Bool) (w : World) (vs : List Val) (found : Option TemplateId) →
-    choices_in (records_of w) v ≡ Ok vs → first_found host vs w ≡ Good found w →
-    enter_include host v missing w ≡ include_found host (missing || no_values vs) found w
-chosen host v missing w vs found named is = rw (named, is) refl
+pub chosen : (host : HostValue) (v : Val) (missing : Bool) (w : World) (e : TemplateEntry) (names_none : Bool) →
+    IsChosen (Some e) names_none host v w →
+    enter_include host v missing w ≡ include_found host (missing || names_none) (Some (Entry e.name.now)) w
+chosen host v missing w e names_none is =
+    rw (is.1, is.3.0) (ap (λ b. include_found host (missing || b) (Some (Entry e.name.now)) w) (sym is.2))
 
 -- and so its fault is that of the include
 pub refused_on : {A : Type 0} (r : Result A (List ErrorKind)) (chain : List ErrorKind) (asked : Asked) (w : World) →

@@ -9,12 +9,14 @@ use Rattle.std.specs.Borrow.{Bor}
 use Rattle.std.specs.Global.{Box}
 use Rattle.std.specs.declared.rc.Rc.{Rc}
 use Rattle.tm_syntax.specs.Named.{find, put_each}
-use Rattle.tm_tables.specs.Lists.{AreBlocksOf}
+use Rattle.tm_tables.specs.Lists.{IsEntry}
+use Rattle.tm_tables.specs.declared.template_entry.TemplateEntry.{TemplateEntry}
+use Rattle.tm_meaning.specs.Inheritance.{joined}
 use Rattle.tm_values.specs.Val.{Val, undefined}
 use Rattle.tm_tables.specs.Stated.{is_for_memory}
-use Rattle.tm_meaning.specs.World.{World, HostValue, Object, Stated, Loop, Res, Good, Bad, depth, owning, plain_scope}
+use Rattle.tm_meaning.specs.World.{World, HostValue, Object, Stated, Loop, Res, Good, Bad, depth, owning, plain_scope, records_of}
 use Rattle.tm_meaning.specs.Calls.{Asked, has, refused, recurs, runs, NestedCall, MakesFurther, replied, found_call}
-use Rattle.tm_meaning.specs.Calls.{as_printed, as_truth, first_found, include_depth, is_changed}
+use Rattle.tm_meaning.specs.Calls.{as_printed, as_truth, choices_in, first_found, include_depth, is_changed, no_values}
 use Rattle.tm_meaning.specs.declared.reply.Call.{Call}
 use Rattle.tm_meaning.specs.declared.reply.Call.TheVariants as calls
 use Rattle.tm_meaning.specs.declared.stream.TemplateId.TheVariants.{Entry}
@@ -223,8 +225,20 @@ abbrev pub IncludeLies : ℕ → Option (Box NestedRun) → World → World → 
 IncludeLies limit (Some e) old new = OneDeeper limit e.value.saved old new
 IncludeLies limit None old new = StaysInPlace old new
 
--- The first template of these choices that is there, with the names of its blocks; or none is there.
-abbrev pub IsFirst : Option (List ℕ × Bor (Rc (List (List ℕ)) Global)) → HostValue → List Val → World → Type 0
+-- The template that a name means in the template that runs; or none is there.
+abbrev pub IsNamed : Option TemplateEntry → HostValue → List ℕ → World → Type 0
+IsNamed found host name w = (x : List ℕ) × (joined host name w ≡ Good x w) × IsEntry found x (find x host.templates)
+
+-- This template is there.
+abbrev pub IsThere : TemplateEntry → HostValue → Type 0
+IsThere e host = IsEntry (Some e) e.name.now (find e.name.now host.templates)
+
+-- The first template of these choices that is there; or none is there.
+abbrev pub IsFirst : Option TemplateEntry → HostValue → List Val → World → Type 0
 IsFirst None host vs w = first_found host vs w ≡ Good None w
-IsFirst (Some found) host vs w =
-    (first_found host vs w ≡ Good (Some (Entry found.0)) w) × AreBlocksOf (Some found.1) (find found.0 host.templates)
+IsFirst (Some e) host vs w = (first_found host vs w ≡ Good (Some (Entry e.name.now)) w) × IsThere e host
+
+-- The first of those that a value names, and whether it names none.
+abbrev pub IsChosen : Option TemplateEntry → Bool → HostValue → Val → World → Type 0
+IsChosen found none host v w =
+    (vs : List Val) × (choices_in (records_of w) v ≡ Ok vs) × (none ≡ no_values vs) × IsFirst found host vs w

@@ -1,13 +1,12 @@
 //! Templates that others include, and the modules that imports make.
 ghost use Rattle.std.specs.Prelude.{◌≡◌, ◌+◌, ◌≤◌, ◌∷◌, [], IfErr, IfOk, None, OnErr, OnOk, Some, false};
-ghost use Rattle.tm_definitions.specs.Iteration.{IsAnswerRead};
-ghost use Rattle.tm_meaning.specs.Calls.{choices_in, enter_include, first_found, include_depth, include_found, refused};
+ghost use Rattle.tm_meaning.specs.Calls.{enter_include, first_found, include_depth, include_found, refused};
+ghost use Rattle.tm_meaning.specs.Inheritance.{joined};
 ghost use Rattle.tm_meaning.specs.Memory.{is_want_of_memory};
-ghost use Rattle.tm_meaning.specs.World.{Bad, depth, module_of, owning, records_of};
-ghost use Rattle.tm_state.specs.Answers.{IncludeLies, IsFirst, KeepsFixedAndNames, NeedsInclude, NeedsSuper, OneDeeper};
-ghost use Rattle.tm_state.specs.State.{saved_include, saved_of};
-ghost use Rattle.tm_syntax.specs.Named.{find};
-ghost use Rattle.tm_tables.specs.Lists.{AreBlocksOf};
+ghost use Rattle.tm_meaning.specs.World.{Bad, depth, module_of, owning};
+ghost use Rattle.tm_state.specs.Answers.{IncludeLies, IsChosen, IsFirst, IsNamed, IsThere, KeepsFixedAndNames, NeedsInclude};
+ghost use Rattle.tm_state.specs.Answers.{NeedsSuper, OneDeeper};
+ghost use Rattle.tm_state.specs.State.{saved_include};
 ghost use Rattle.tm_values.specs.Answer.{OkOrOutOfMemory};
 
 use crate::nested::{NestedRun, RunOf};
@@ -15,12 +14,11 @@ use crate::saved::{Saved, SavedBlock, SavedInclude};
 use crate::state::StateData;
 use std::alloc::Global;
 use std::mem;
-use std::rc::Rc;
 use tm_meaning::{RunText, StreamId, TemplateId, Wrapping};
 use tm_operations::collection;
 use tm_syntax::Name;
-use tm_tables::{BlockNames, Host, Lists};
-use tm_values::{AutoEscape, Error, ErrorKind, Node, SharedText, Value};
+use tm_tables::{Host, Lists, TemplateEntry};
+use tm_values::{Error, ErrorKind, SharedText, Value};
 
 /// How much deeper a template runs that is included.
 const INCLUDE_DEPTH: usize = 10;
@@ -48,11 +46,10 @@ impl StateData {
         ensures unchanged { OnErr result (self.new ≡ self.old) }
         ensures kept { KeepsFixedAndNames self.old self.new }
     {
-        let choices = self.choices(alloc, value)?;
-        let names_none = choices.as_slice().is_empty();
-        match self.first_found(alloc, host, choices.as_slice())? {
-            Some((name, blocks)) => {
-                let run = self.template_run(alloc, host, name, blocks, heard)?;
+        let (found, names_none) = self.chosen(alloc, host, value)?;
+        match found {
+            Some(entry) => {
+                let run = self.template_run(alloc, host, entry, heard)?;
                 Ok(Some(run))
             }
             None if missing || names_none => Ok(None),
@@ -60,65 +57,92 @@ impl StateData {
         }
     }
 
-    /// What names a template, or several: a text, or the items of what has some, which are shared. InvalidOperation for
-    /// other values, and for a namespace whose record isn't there; OutOfMemory.
-    fn choices(&self, alloc: Global, value: &Value) -> Result<Rc<Vec<Value>>, Error>
-        ensures { IsAnswerRead result (λ items. items.value.items)
-            (choices_in (records_of self.now) value.now) }
+    /// The first template that is there of those that a value names: of a text, or of the items of what has some; and
+    /// whether the value names none. InvalidOperation for other values, for a namespace whose record isn't there, and
+    /// where a choice that is reached is no text; the fault of what joins names; OutOfMemory.
+    fn chosen<'a, H: Host>(
+        &self,
+        alloc: Global,
+        host: &'a H,
+        value: &Value,
+    ) -> Result<(Option<TemplateEntry<'a>>, bool), Error>
+        ensures ok { IfOk result (λ r.
+            IsChosen r.0 r.1 (H.meaning host.now) value.now self.now) }
+        ensures err { IfErr result (λ e. is_want_of_memory e ≡ false → (missing : _) →
+            enter_include (H.meaning host.now) value.now missing self.now ≡ refused e self.now) }
     {
-        let Node::Text(_, _) = &value.node else {
-            return collection(alloc, value, self);
-        };
-        let mut one = Vec::new(alloc);
-        one.push(value.share()?)?;
-        Ok(Rc::new(alloc, one)?)
+        if let Some(name) = value.as_str() {
+            return Ok((self.named(alloc, host, name)?, false));
+        }
+        let choices = collection(alloc, value, self)?;
+        let found = self.first_found(alloc, host, choices.as_slice())?;
+        Ok((found, choices.as_slice().is_empty()))
     }
 
-    /// The first template that is there of these choices, each by its name in the template that runs, with the names of
-    /// its blocks. InvalidOperation where a choice that is reached is no text; the fault of what joins names;
-    /// OutOfMemory.
+    /// The first template that is there of these choices, each by its name in the template that runs. InvalidOperation
+    /// where a choice that is reached is no text; the fault of what joins names; OutOfMemory.
     fn first_found<'a, H: Host>(
         &self,
         alloc: Global,
         host: &'a H,
         choices: &[Value],
-    ) -> Result<Option<(Name, &'a Rc<BlockNames>)>, Error>
+    ) -> Result<Option<TemplateEntry<'a>>, Error>
         ensures ok { IfOk result (λ found.
             IsFirst found (H.meaning host.now) choices.now self.now) }
         ensures err { IfErr result (λ e. is_want_of_memory e ≡ false →
             first_found (H.meaning host.now) choices.now self.now ≡ Bad e self.now) }
     {
-        let running = host.template_name(&self.stream.template);
         for choice in choices {
             let Some(text) = choice.as_str() else {
                 return Err(Error::from(ErrorKind::InvalidOperation));
             };
-            let name = host.joined_name(alloc, text, running)?;
-            if let Some(blocks) = host.blocks_of(name.as_str()) {
-                return Ok(Some((name, blocks)));
+            if let Some(entry) = self.named(alloc, host, text)? {
+                return Ok(Some(entry));
             }
         }
         Ok(None)
     }
 
-    /// The run of the template of a name, which has blocks of these names, in the scopes that stand. InvalidOperation
-    /// where it would lie deeper than the limit; OutOfMemory. Then the state stays as it was.
+    /// The template that a name means in the template that runs, where it is there. The fault of what joins names;
+    /// OutOfMemory.
+    #[inline(always)]
+    fn named<'a, H: Host>(
+        &self,
+        alloc: Global,
+        host: &'a H,
+        name: &str,
+    ) -> Result<Option<TemplateEntry<'a>>, Error>
+        ensures ok { IfOk result (λ found.
+            IsNamed found (H.meaning host.now) name.now self.now) }
+        ensures err { IfErr result (λ e. is_want_of_memory e ≡ false →
+            joined (H.meaning host.now) name.now self.now ≡ Bad e self.now) }
+    {
+        if !host.joins_names() {
+            return Ok(host.entry(name, self.template_place));
+        }
+        let joined = host.joined_name(alloc, name, host.template_name(&self.stream.template))?;
+        Ok(host.entry(joined.as_str(), self.template_place))
+    }
+
+    /// The run of a template, in the scopes that stand. InvalidOperation where it would lie deeper than the limit;
+    /// OutOfMemory. Then the state stays as it was.
     fn template_run<H: Host>(
         &mut self,
         alloc: Global,
         host: &H,
-        name: Name,
-        blocks: &Rc<BlockNames>,
+        entry: TemplateEntry<'_>,
         heard: bool,
     ) -> Result<Box<NestedRun>, Error>
-        requires { AreBlocksOf (Some blocks) (find name (H.meaning host.now).templates) }
+        requires { IsThere entry (H.meaning host.now) }
         ensures ok { IfOk result (λ run. (missing : _) → NeedsSuper heard false run.value
-            (include_found (H.meaning host.now) missing (Some (TemplateId.Entry name)) self.old)
+            (include_found (H.meaning host.now) missing
+            (Some (TemplateId.Entry entry.entry.name.now)) self.old)
             self.old self.new) }
         ensures deeper { IfOk result (λ run.
             OneDeeper (H.meaning host.now).limit run.value.saved self.old self.new) }
         ensures err { IfErr result (λ e. is_want_of_memory e ≡ false → (missing : _) →
-            include_found (H.meaning host.now) missing (Some (TemplateId.Entry name)) self.old
+            include_found (H.meaning host.now) missing
+            (Some (TemplateId.Entry entry.entry.name.now)) self.old
             ≡ refused e self.old) }
         ensures unchanged { OnErr result (self.new ≡ self.old) }
         ensures kept { KeepsFixedAndNames self.old self.new }
@@ -126,12 +150,11 @@ impl StateData {
         if self.depths_left(host) < INCLUDE_DEPTH {
             return Err(Error::from(ErrorKind::InvalidOperation));
         }
-        let template = TemplateId::Entry(name);
-        let lists = self.lists.own(alloc, &template, blocks)?;
-        let replaced = self.saved_block()?;
-        let escape = host.template_escape(&template);
+        let template = TemplateId::Entry(entry.name.share()?);
+        let lists = self.lists.own(alloc, &template, entry.blocks)?;
         let running = StreamId::root(template.share()?);
-        let saved = self.run_template(host, running, escape, lists, replaced);
+        let block = self.shared_block()?;
+        let saved = self.run_template(host, &entry, running, block, lists);
         let run = NestedRun {
             run: RunOf::Stream(StreamId::root(template)),
             heard,
@@ -145,16 +168,17 @@ impl StateData {
 
     /// Lets a template run in the scopes that stand, deeper, whose innermost one has no closure of its own meanwhile,
     /// with its own escape and lists, and gives what that replaces.
+    #[inline(always)]
     fn run_template<H: Host>(
         &mut self,
         host: &H,
+        entry: &TemplateEntry<'_>,
         stream: StreamId,
-        escape: AutoEscape,
+        block: Option<Name>,
         lists: Lists,
-        replaced: SavedBlock,
     ) -> SavedInclude
         requires fits { depth self.old.scopes + include_depth ≤ (H.meaning host.now).limit }
-        requires before { replaced ≡ saved_of self.old }
+        requires same { block ≡ self.old.block }
         ensures saved { result ≡ saved_include self.old }
         ensures runs { self.new ≡ record self.old {
           scopes = record {
@@ -162,19 +186,25 @@ impl StateData {
             outer = include_depth + self.old.scopes.outer;
           };
           stream = stream;
-          escape = escape;
+          escape = entry.now.escape;
           blocks = lists.blocks;
           places = lists.places;
           loaded = lists.loaded;
         } }
     {
-        let _outer = self.go_deeper(host, INCLUDE_DEPTH);
+        self.template_place = entry.place;
+        let scopes = self.height();
+        let outer = self.go_deeper(host, INCLUDE_DEPTH);
         let closure = self.context.own_closure();
         self.context.set_own_closure(None);
-        self.stream = stream;
-        self.escape = escape;
         SavedInclude {
-            replaced,
+            replaced: SavedBlock {
+                stream: mem::replace(&mut self.stream, stream),
+                block,
+                escape: mem::replace(&mut self.escape, entry.escape),
+                scopes,
+                outer,
+            },
             closure,
             lists: mem::replace(&mut self.lists, lists),
         }

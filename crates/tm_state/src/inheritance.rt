@@ -14,7 +14,7 @@ use crate::state::StateData;
 use std::alloc::Global;
 use tm_meaning::{RunText, StreamId, TemplateId, Wrapping};
 use tm_syntax::Name;
-use tm_tables::Host;
+use tm_tables::{Host, NO_PLACE};
 use tm_values::{Error, ErrorKind, Value};
 
 impl StateData {
@@ -91,18 +91,25 @@ impl StateData {
         Ok((stream, name.share()?, next))
     }
 
+    /// The block that runs, where one does. Fails by OutOfMemory alone, where the owners of its name can't be counted.
+    pub(crate) fn shared_block(&self) -> Result<Option<Name>, Error>
+        ensures ok { IfOk result (λ block. block ≡ self.now.block) }
+        ensures kind { IfErr result (λ e. e ≡ ErrorKind.OutOfMemory ∷ []) }
+    {
+        match &self.block {
+            Some(name) => Ok(Some(name.share()?)),
+            None => Ok(None),
+        }
+    }
+
     /// What is put back behind a block. Fails by OutOfMemory alone, where the owners of a name can't be counted.
     pub(crate) fn saved_block(&self) -> Result<SavedBlock, Error>
         ensures ok { IfOk result (λ saved. saved ≡ saved_of self.now) }
         ensures kind { IfErr result (λ e. e ≡ ErrorKind.OutOfMemory ∷ []) }
     {
-        let block = match &self.block {
-            Some(name) => Some(name.share()?),
-            None => None,
-        };
         Ok(SavedBlock {
             stream: self.stream.share()?,
-            block,
+            block: self.shared_block()?,
             escape: self.escape,
             scopes: self.height(),
             outer: self.context.outer(),
@@ -195,11 +202,11 @@ impl StateData {
         if self.lists.is_loaded(name.as_str()) {
             return Err(Error::from(ErrorKind::InvalidOperation));
         }
-        let Some(blocks) = host.blocks_of(name.as_str()) else {
+        let Some(entry) = host.entry(name.as_str(), NO_PLACE) else {
             return Err(Error::from(ErrorKind::TemplateNotFound));
         };
         let template = TemplateId::Entry(name.share()?);
-        self.lists.append(alloc, &template, blocks)?;
+        self.lists.append(alloc, &template, entry.blocks)?;
         self.lists.add_loaded(alloc, name)?;
         Ok(template)
     }

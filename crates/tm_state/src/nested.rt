@@ -3,7 +3,8 @@ ghost use Rattle.std.specs.Prelude.{◌≡◌, [], ◌∷◌, IfOk, IfErr};
 
 use crate::saved::Saved;
 use std::alloc::Global;
-use tm_meaning::{RunText, StreamId, Wrapping};
+use std::mem;
+use tm_meaning::{RunText, StreamId, TemplateId, Wrapping};
 use tm_values::{Error, ErrorKind, Value};
 
 /// What runs.
@@ -33,6 +34,16 @@ pub struct NestedRun {
 }
 
 impl NestedRun {
+    /// Takes what runs; nothing is left that runs.
+    #[inline(always)]
+    pub fn take_run(&mut self) -> RunOf
+        ensures run { result ≡ self.old.run }
+        ensures rest { self.new ≡ record self.old { run = self.new.run } }
+    {
+        let own = StreamId::root(TemplateId::Own);
+        mem::replace(&mut self.run, RunOf::Stream(own))
+    }
+
     /// This, boxed; OutOfMemory where there is no memory for it.
     pub fn boxed(self, alloc: Global) -> Result<Box<NestedRun>, Error>
         ensures ok { IfOk result (λ boxed. boxed.value ≡ self) }

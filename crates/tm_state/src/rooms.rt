@@ -30,8 +30,8 @@ impl Rooms {
     }
 
     /// Keeps the room of these scopes, where there is memory for that.
-    pub(crate) fn keep_scopes(&mut self, scopes: Context) {
-        let _kept = self.scopes.push(scopes.into_room());
+    pub(crate) fn keep_scopes(&mut self, scopes: &mut Context) {
+        let _kept = self.scopes.push(scopes.take_room());
     }
 
     /// Room for values, in which there are none.

@@ -178,6 +178,7 @@ impl StateData {
     }
 
     /// A run, boxed. Where there is no memory for that, what it replaced is put back; OutOfMemory.
+    #[inline(always)]
     pub(crate) fn boxed(&mut self, alloc: Global, run: NestedRun) -> Result<Box<NestedRun>, Error>
         ensures ok { IfOk result (λ boxed. boxed.value ≡ run) }
         ensures stays { OnOk result (self.new ≡ self.old) }
@@ -187,16 +188,16 @@ impl StateData {
         match Box::new(alloc, run) {
             Ok(run) => Ok(run),
             Err(failed) => {
-                let NestedRun { saved, .. } = failed.value;
-                self.put_back(saved);
+                let mut run = failed.value;
+                self.put_back(&mut run.saved);
                 Err(Error::from(ErrorKind::OutOfMemory))
             }
         }
     }
 
-    /// Puts back what a run replaced, and leaves the scopes that it opened.
-    pub fn put_back(&mut self, saved: Saved)
-        ensures { self.new ≡ put_back saved self.old }
+    /// Puts back what a run replaced, and leaves the scopes that it opened. What it left stands in its place.
+    pub fn put_back(&mut self, saved: &mut Saved)
+        ensures { self.new ≡ put_back saved.old self.old }
     {
         match saved {
             Saved::Block(saved) => self.leave_block(saved),
@@ -207,34 +208,27 @@ impl StateData {
     }
 
     /// Leaves the scopes that a block opened, and puts back what it replaced.
-    fn leave_block(&mut self, saved: SavedBlock)
-        ensures { self.new ≡ behind_block saved self.old }
+    #[inline(always)]
+    fn leave_block(&mut self, saved: &mut SavedBlock)
+        ensures { self.new ≡ behind_block saved.old self.old }
     {
-        let SavedBlock {
-            stream,
-            block,
-            escape,
-            scopes,
-            outer,
-        } = saved;
-        self.context.cut_to(scopes, outer);
-        self.stream = stream;
-        self.block = block;
-        self.escape = escape;
+        self.context.cut_to(saved.scopes, saved.outer);
+        mem::swap(&mut self.stream, &mut saved.stream);
+        mem::swap(&mut self.block, &mut saved.block);
+        self.escape = saved.escape;
     }
 
     /// Leaves the scopes that a `super()` opened, and puts back what it replaced.
-    fn leave_super(&mut self, saved: SavedSuper)
-        ensures { self.new ≡ behind_super saved self.old }
+    fn leave_super(&mut self, saved: &mut SavedSuper)
+        ensures { self.new ≡ behind_super saved.old self.old }
     {
-        let SavedSuper { replaced, places } = saved;
-        self.leave_block(replaced);
-        self.lists.replace_places(places);
+        self.leave_block(&mut saved.replaced);
+        self.lists.swap_places(&mut saved.places);
     }
 
     /// Leaves a macro's scopes, and puts back what it replaced.
-    fn leave_macro(&mut self, saved: SavedMacro)
-        ensures { self.new ≡ behind_macro saved self.old }
+    fn leave_macro(&mut self, saved: &mut SavedMacro)
+        ensures { self.new ≡ behind_macro saved.old self.old }
     {
         let SavedMacro {
             context,
@@ -243,26 +237,21 @@ impl StateData {
             escape,
             lists,
         } = saved;
-        let left = mem::replace(&mut self.context, context);
-        self.rooms.keep_scopes(left);
-        self.stream = stream;
-        self.block = block;
-        self.escape = escape;
-        self.lists = lists;
+        mem::swap(&mut self.context, context);
+        self.rooms.keep_scopes(context);
+        mem::swap(&mut self.stream, stream);
+        mem::swap(&mut self.block, block);
+        self.escape = *escape;
+        mem::swap(&mut self.lists, lists);
     }
 
     /// Leaves the scopes that an include opened, and puts back what it replaced. Names that it gave stay.
-    fn leave_include(&mut self, saved: SavedInclude)
-        ensures { self.new ≡ behind_include saved self.old }
+    fn leave_include(&mut self, saved: &mut SavedInclude)
+        ensures { self.new ≡ behind_include saved.old self.old }
     {
-        let SavedInclude {
-            replaced,
-            closure,
-            lists: before,
-        } = saved;
-        self.leave_block(replaced);
-        self.context.set_own_closure(closure);
-        self.lists = before;
+        self.leave_block(&mut saved.replaced);
+        self.context.set_own_closure(saved.closure);
+        mem::swap(&mut self.lists, &mut saved.lists);
     }
 
     /// Room for a run's operands, of which there are none.

@@ -28,8 +28,8 @@ use tm_operations::{check_settable, dict, namespace, range};
 use tm_printing::check_emission;
 use tm_syntax::{LoopFlags, Name, NameMap};
 use tm_tables::{
-    BlockNames, Closures, Context, Frame, FuelTracker, Host, Lists, LoopState, View, following_at,
-    position_at, previous_at,
+    BlockNames, Closures, Context, Frame, FuelTracker, Host, Lists, LoopState, NO_PLACE, View,
+    following_at, position_at, previous_at,
 };
 use tm_values::{
     AutoEscape, Error, ErrorKind, LoopPosition, Node, Records, UndefinedUse, Value, ValueMap,
@@ -53,6 +53,7 @@ pub struct StateData {
     pub(crate) fuel: FuelTracker,
     pub(crate) fuel_is_set: bool,
     pub(crate) rooms: Rooms,
+    pub(crate) template_place: usize,
 }
 
 impl Model for StateData {
@@ -117,6 +118,7 @@ impl StateData {
             fuel: FuelTracker::new(fuel.unwrap_or(u64::MAX)),
             fuel_is_set: fuel.is_some(),
             rooms: Rooms::new(alloc),
+            template_place: NO_PLACE,
         })
     }
 
@@ -305,6 +307,7 @@ impl StateData {
                 fuel: FuelTracker::new(0),
                 fuel_is_set: false,
                 rooms: Rooms::new(alloc),
+                template_place: NO_PLACE,
             },
         )
     }
@@ -314,6 +317,12 @@ impl StateData {
         ensures { result.now ≡ self.now.stream }
     {
         &self.stream
+    }
+
+    /// Where the template stands that was included last, as a hint for the look-ups of a host.
+    #[inline(always)]
+    pub fn template_place(&self) -> usize {
+        self.template_place
     }
 
     /// How what is emitted is escaped.

@@ -205,14 +205,21 @@ module _ {A : Type 0} where
       find x seen ≡ Some p.1
   read x ps seen i p e o t at = ap (find x) (sym e) ∙ find-read x ps i p o (subst (λ l. IsThere x l i) (sym e) t) at
 
-  -- a pair of this name is what the name stands for, wherever it stands
+  -- a name stands where a pair of it does,
+  stands : (x : List ℕ) (ps : Named A) (i : ℕ) (p : List ℕ × A) → slice_get ps i ≡ Some p → same_name p.0 x ≡ true → IsThere x ps i
+  stands x ps i p at same = record {
+    in_range = slice_get_within ps i p at;
+    same_name = λ d. ap (λ (q : List ℕ × A). name_cmp q.0 x) (get_or_from_slice_get ps i p d at) ∙ compare_equal p.0 x same;
+  }
+
+  pub stands_lent : (x : List ℕ) (ps lent seen : Named A) (i : ℕ) (p : List ℕ × A) → lent ≡ ps → ps ≡ seen →
+      slice_get lent i ≡ Some p → same_name p.0 x ≡ true → IsThere x seen i
+  stands_lent x ps lent seen i p e f at same = subst (λ l. IsThere x l i) (e ∙ f) (stands x lent i p at same)
+
+  -- and for the rest of that pair, wherever it stands
   find-held : (x : List ℕ) (ps : Named A) (i : ℕ) (p : List ℕ × A) → AreOrdered ps → slice_get ps i ≡ Some p →
       same_name p.0 x ≡ true → find x ps ≡ Some p.1
-  find-held x ps i p o at same =
-      find-read x ps i p o (record {
-        in_range = slice_get_within ps i p at;
-        same_name = λ d. ap (λ (q : List ℕ × A). name_cmp q.0 x) (get_or_from_slice_get ps i p d at) ∙ compare_equal p.0 x same;
-      }) (sym (get_or_from_slice_get ps i p p at))
+  find-held x ps i p o at same = find-read x ps i p o (stands x ps i p at same) (sym (get_or_from_slice_get ps i p p at))
 
   -- the same of what is lent of the names
   pub held : (x : List ℕ) (ps lent seen : Named A) (i : ℕ) (p : List ℕ × A) → lent ≡ ps → ps ≡ seen → AreOrdered ps →

@@ -2,7 +2,7 @@
 use Rattle.std.specs.Borrow.{Bor}
 use Rattle.std.specs.Map.{keys_of}
 use Rattle.std.specs.Prelude.{◌≡◌, ℕ, List, [], ◌∷◌, length, Bool, nat_eq, Option, Some, None, is_some}
-use Rattle.std.specs.Prelude.{option_and_then, slice_get, map as each}
+use Rattle.std.specs.Prelude.{option_and_then, option_map, slice_get, map as each}
 use Rattle.std.specs.declared.alloc.Global.{Global}
 use Rattle.std.specs.declared.rc.Rc.{Rc}
 use Rattle.tm_syntax.specs.Named.{Named, find, put}
@@ -11,6 +11,7 @@ use Rattle.tm_meaning.specs.World.{Template}
 use Rattle.tm_meaning.specs.declared.stream.TemplateId.{TemplateId}
 use Rattle.tm_meaning.specs.Inheritance.{behind_all}
 use Rattle.tm_tables.specs.Layers.{LayerValue}
+use Rattle.tm_tables.specs.declared.template_entry.TemplateEntry.{TemplateEntry}
 
 -- the templates that have a block of each name, and the names of the templates that were loaded
 pub record LoadedValue : Type 0 where
@@ -74,10 +75,14 @@ abbrev pub IsListed : TemplateId → Bool → List ℕ → ℕ → Named (List T
 IsListed t alone x n blocks =
     (l : List TemplateId) × (find x blocks ≡ Some l) × (slice_get l n ≡ Some t) × (alone ≡ nat_eq (length l) 1)
 
--- These are the names of the blocks of the template that was found; or none was.
-abbrev pub AreBlocksOf : Option (Bor (Rc (List (List ℕ)) Global)) → Option Template → Type 0
-AreBlocksOf (Some names) found = (t : Template) × (found ≡ Some t) × (keys_of t.blocks ≡ names.now.value)
-AreBlocksOf None found = found ≡ None
+-- These are the names of the blocks of the template that was found.
+abbrev pub AreBlocksOf : Bor (Rc (List (List ℕ)) Global) → Option Template → Type 0
+AreBlocksOf names found = (t : Template) × (found ≡ Some t) × (keys_of t.blocks ≡ names.now.value)
+
+-- This is the template that was found at a name, with its escape; or none was.
+abbrev pub IsEntry : Option TemplateEntry → List ℕ → Option Template → Type 0
+IsEntry (Some e) x found = (e.name.now ≡ x) × (option_map (λ (t : Template). t.escape) found ≡ Some e.escape) × AreBlocksOf e.blocks found
+IsEntry None x found = found ≡ None
 
 -- A table has the names that are among these.
 abbrev pub HasNames : Named (Unit {0}) → List (List ℕ) → Type 0

@@ -18,6 +18,7 @@ use crate::frame::{Found, Frame};
 use crate::locals::in_order;
 use std::alloc::Global;
 use std::marker::Model;
+use std::mem;
 use tm_meaning::LoopMark;
 use tm_syntax::{Name, NameMap};
 use tm_values::{Error, ErrorKind, Records, Value, ValueMap};
@@ -89,9 +90,10 @@ impl Context {
         Ok(Context { frames, outer })
     }
 
-    /// The room of these scopes for those of a macro: their names stand for nothing any more.
-    pub fn into_room(self) -> Context {
-        let Context { mut frames, .. } = self;
+    /// Takes the room of these scopes for those of a macro: their names stand for nothing any more.
+    pub fn take_room(&mut self) -> Context {
+        let none = Vec::new(self.allocator());
+        let mut frames = mem::replace(&mut self.frames, none);
         frames.truncate(2);
         for frame in &mut frames {
             frame.clear();

@@ -1,19 +1,18 @@
 //! What the machine asks of the environment and the objects of the caller.
-ghost use Rattle.std.specs.Prelude.{◌≡◌, List, Some, None, MatchOption, IsSomeAnd, is_some, slice_get};
+ghost use Rattle.std.specs.Prelude.{◌≡◌, List, Ok, Some, None, MatchOption, IsSomeAnd, false, is_some, slice_get};
 ghost use Rattle.tm_syntax.specs.declared.instruction.Instruction.{Instruction};
 ghost use Rattle.tm_meaning.specs.World.{HostValue as Meaning, template_at, card_at};
 ghost use Rattle.tm_meaning.specs.declared.stream.StreamId.{StreamId as Stream};
 ghost use Rattle.tm_meaning.specs.Calls.{is_required, method_object};
 ghost use Rattle.tm_syntax.specs.Named.{find};
 ghost use Rattle.tm_values.specs.Answer.{IsAnswer};
-ghost use Rattle.tm_tables.specs.Lists.{AreBlocksOf};
+ghost use Rattle.tm_tables.specs.Lists.{IsEntry};
 ghost use Rattle.tm_tables.specs.Stated.{IsCalled, IsFormatterAnswer, IsNamedAnswer};
 
-use crate::block_names::BlockNames;
 use crate::callable::{CallableAnswer, Called};
+use crate::template_entry::TemplateEntry;
 use crate::view::View;
 use std::alloc::Global;
-use std::rc::Rc;
 use tm_meaning::{StreamId, TemplateId};
 use tm_syntax::{Code, Name, NameMap};
 use tm_values::{AutoEscape, Error, UndefinedBehavior, Value};
@@ -54,12 +53,17 @@ pub trait Host {
     fn joined_name(&self, alloc: Global, name: &str, running: &str) -> Result<Name, Error>
         ensures { IsAnswer result ((meaning self.now).join name.now running.now) };
 
-    /// The names of the blocks of the template of a name, where there is one.
-    fn blocks_of(&self, name: &str) -> Option<&Rc<BlockNames>>
-        ensures { AreBlocksOf result (find name.now (meaning self.now).templates) };
+    /// Whether something joins the names of templates. Where nothing does, each means the template of that name.
+    fn joins_names(&self) -> bool
+        ensures { result ≡ false → (name : _) → (running : _) →
+            (meaning self.now).join name running ≡ Ok name };
 
-    /// The instructions of a stream.
-    fn instructions(&self, stream: &StreamId) -> &Code
+    /// The template of a name, where there is one, wherever it stands.
+    fn entry(&self, name: &str, place: usize) -> Option<TemplateEntry<'_>>
+        ensures { IsEntry result name.now (find name.now (meaning self.now).templates) };
+
+    /// The instructions of a stream, wherever its template stands.
+    fn instructions(&self, stream: &StreamId, place: usize) -> &Code
         ensures { result.now ≡ code self.now stream.now };
 
     /// What the function of a number answers, or which one of the language it is; none where there is no such function.

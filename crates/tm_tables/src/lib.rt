@@ -23,6 +23,7 @@ mod name_table;
 mod objects;
 mod path_join;
 mod plain;
+mod template_entry;
 mod view;
 
 pub use block_names::BlockNames;
@@ -43,4 +44,5 @@ pub use name_table::{NO_PLACE, NameTable};
 pub use objects::{Objects, Parties};
 pub use path_join::PathJoin;
 pub use plain::{Answering, Plain};
+pub use template_entry::TemplateEntry;
 pub use view::View;

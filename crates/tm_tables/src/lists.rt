@@ -139,6 +139,14 @@ impl Lists {
         mem::replace(&mut self.places, places)
     }
 
+    /// These are the places from here on, and those that were stand in their place.
+    pub fn swap_places(&mut self, places: &mut NameTable<usize>)
+        ensures before { places.new ≡ self.old.places }
+        ensures now { self.new ≡ record self.old { places = places.old } }
+    {
+        mem::swap(&mut self.places, places);
+    }
+
     /// A template's blocks of these names stand behind those that are there. Fails by OutOfMemory alone, and then all
     /// stays as it was.
     pub fn append(
@@ -201,6 +209,10 @@ impl Lists {
         }) }
     {
         let mut own = self.names_alone(alloc)?;
+        let has_no_blocks = names.as_ref().is_empty();
+        if has_no_blocks {
+            return Ok(own);
+        }
         names.as_ref().ascend();
         own.append(alloc, template, names)?;
         Ok(own)

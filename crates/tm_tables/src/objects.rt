@@ -1,6 +1,6 @@
 //! The functions, filters and tests that templates call, and what stands in for methods and for the formatter.
 ghost use Rattle.std.specs.Prelude.{◌≡◌, ◌<◌, ◌≤◌, ◌^◌, [], ◌∷◌, List, None, OnOk, OnErr, IfErr, IfNone, IfSome};
-ghost use Rattle.std.specs.Prelude.{IsSomeAnd, MatchOption, Some, is_some, length, map, slice_get};
+ghost use Rattle.std.specs.Prelude.{IsSomeAnd, MatchOption, Ok, Some, false, is_some, length, map, slice_get};
 ghost use Rattle.tm_syntax.specs.Named.{find};
 ghost use Rattle.tm_values.specs.Answer.{IsAnswer, IsLent};
 ghost use Rattle.tm_tables.specs.Stated.{IsCalled, IsNamedAnswer, no_functions, no_objects, language_functions, with_object};
@@ -90,6 +90,11 @@ pub trait Parties: Drop {
     /// The escape of a template of this name.
     fn escape(&self, name: &str) -> AutoEscape
         ensures { result ≡ (stated self.now).escapes name.now };
+
+    /// Whether something joins the names of templates. Where nothing does, each means the template of that name.
+    fn joins_names(&self) -> bool
+        ensures { result ≡ false → (name : _) → (parent : _) →
+            (stated self.now).join name parent ≡ Ok name };
 
     /// The name of the template that a name means where a template of the name `parent` runs. The fault of what joins
     /// them; OutOfMemory.
@@ -381,6 +386,10 @@ impl<C: Callable, M: MethodFallback, F: Formatter, R: EscapeRule, J: PathJoin> P
 
     fn escape(&self, name: &str) -> AutoEscape {
         self.escaping.escape(name)
+    }
+
+    fn joins_names(&self) -> bool {
+        self.joining.is_some()
     }
 
     fn join(&self, alloc: Global, name: &str, parent: &str) -> Result<Name, Error> {

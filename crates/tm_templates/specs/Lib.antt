@@ -1,3 +1,4 @@
 pub mod Defaults
+pub mod Globals
 pub mod Sources
 pub mod Templates

@@ -5,6 +5,7 @@ use Rattle.tm_values.specs.declared.error.ErrorKind.{ErrorKind}
 use Rattle.tm_values.specs.declared.escape.AutoEscape.{AutoEscape}
 use Rattle.tm_values.specs.declared.escape.AutoEscape.TheVariants as escapes
 use Rattle.tm_syntax.specs.declared.tree.Tree.{Tree}
+use Rattle.tm_syntax.specs.declared.tree.Tree.TheVariants as trees
 use Rattle.tm_syntax.specs.declared.instruction.Instruction.{Instruction}
 use Rattle.tm_syntax.specs.Blocks.{StreamTree, stream_of, stream_blocks, code_of}
 use Rattle.tm_syntax.specs.BlockCodes.{compiled_blocks}
@@ -21,6 +22,10 @@ pub record Compiled : Type 0 where
   pub source : List ℕ
   pub escape : AutoEscape
   pub tree : Tree
+
+-- the template of no statement, from no source, under a name; nothing is escaped
+abbrev pub empty_template : List ℕ → Compiled
+empty_template name = record { name = name; source = []; escape = escapes.None; tree = trees.Statements [] }
 
 -- the code of its blocks, by name
 abbrev pub block_codes : Tree → Named BlockCode

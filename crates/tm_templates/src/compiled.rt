@@ -13,16 +13,18 @@ ghost use Rattle.tm_values.specs.declared.error.ErrorKind.TheVariants.{OutOfMemo
 ghost use Rattle.tm_meaning.specs.Calls.{is_required};
 ghost use Rattle.tm_meaning.specs.Tree.{part_of, template_of};
 ghost use Rattle.tm_meaning.specs.World.{card_in};
-ghost use Rattle.tm_templates.specs.Templates.{IsExpression, IsTemplate, IsRefused, IsRefusedExpression, block_codes, tree_of};
+ghost use Rattle.tm_templates.specs.Templates.{IsExpression, IsTemplate, IsRefused, IsRefusedExpression};
+ghost use Rattle.tm_templates.specs.Templates.{block_codes, empty_template, tree_of};
 ghost use Rattle.tm_templates.specs.Defaults.{escape_of};
 ghost use Rattle.tm_templates.specs.Sources.{source_bytes};
 
 use crate::defaults::EscapeSetting;
+use sqlite_items::Items;
 use std::alloc::Global;
 use std::collections::BTreeSet;
 use std::marker::Model;
 use std::rc::{Rc, RcStr};
-use tm_compiler::{BlockCode, Code, Name, NameMap, Streams, SyntaxConfig, Tree, generate, parse};
+use tm_compiler::{BlockCode, Code, Name, NameMap, Streams, SyntaxConfig, Tree, generate, parse, parse_expr};
 use tm_names::undeclared;
 use tm_tables::{BlockNames, EscapeRule};
 use tm_values::{AutoEscape, Error};
@@ -174,6 +176,45 @@ impl<'source> CompiledTemplate<'source> {
     {
         let text = source.shared(alloc)?;
         let tree = parse(alloc, &text, syntax)?;
+        CompiledTemplate::of_tree(alloc, name, source, escape, tree)
+    }
+
+    /// A template of no statement, from no source, under a name; nothing is escaped. Fails by OutOfMemory alone.
+    pub fn empty(alloc: Global, name: &str) -> Result<CompiledTemplate<'source>, Error>
+        ensures { OkOrOutOfMemory result (λ t. t ≡ empty_template name.now) }
+    {
+        let tree = Tree::Statements(Items::new(alloc));
+        CompiledTemplate::of_tree(alloc, name, Source::Lent(""), AutoEscape::None, tree)
+    }
+
+    /// Compiles an expression's source. Nothing that it writes is escaped. SyntaxError where the source spells no
+    /// expression, OutOfMemory where there is no memory.
+    pub fn expression(
+        alloc: Global,
+        source: Source<'source>,
+    ) -> Result<CompiledTemplate<'source>, Error>
+        ensures compiled { IfOk result (IsExpression (source_bytes source.entry)) }
+        ensures refused { IfErr result (IsRefusedExpression (source_bytes source.entry)) }
+    {
+        let tree = parse_expr(alloc, source.as_str())?;
+        CompiledTemplate::of_tree(alloc, EXPRESSION, source, AutoEscape::None, tree)
+    }
+
+    /// The template of a tree. Fails by OutOfMemory alone.
+    fn of_tree(
+        alloc: Global,
+        name: &str,
+        source: Source<'source>,
+        escape: AutoEscape,
+        tree: Tree,
+    ) -> Result<CompiledTemplate<'source>, Error>
+        ensures { OkOrOutOfMemory result (λ t. t ≡ record {
+          name = name.now;
+          source = source_bytes source.entry;
+          escape = escape;
+          tree = tree;
+        }) }
+    {
         let streams = generate(alloc, &tree)?;
         let block_names = shared_names(alloc, &streams.blocks)?;
         let name = Name::new(alloc, name)?;

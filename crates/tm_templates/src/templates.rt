@@ -1,8 +1,8 @@
 //! Templates by name.
-ghost use Rattle.std.specs.Prelude.{◌≡◌, [], ◌∷◌, None, Some, OnOk, OnErr, IfErr, MatchOption, MatchResult};
-ghost use Rattle.tm_syntax.specs.Named.{find, put, name_cmp};
+ghost use Rattle.std.specs.Prelude.{◌≡◌, ◌≢◌, ◌<◌, [], ◌∷◌, None, Some, OnOk, OnErr, IfErr, MatchOption, MatchResult, length, slice_get};
+ghost use Rattle.tm_syntax.specs.Named.{find, put, name_cmp, without};
 ghost use Rattle.tm_values.specs.Answer.{IsLent};
-ghost use Rattle.tm_tables.specs.Places.{IsThere, IsGapFor};
+ghost use Rattle.tm_tables.specs.Places.{AreOrdered, IsThere, IsGapFor};
 
 use crate::compiled::CompiledTemplate;
 use std::alloc::Global;
@@ -44,23 +44,30 @@ impl<'source> Templates<'source> {
         }
     }
 
-    /// The template of a name, where there is one. Makes log n comparisons for n templates.
-    pub fn get(&self, name: &str) -> Option<&CompiledTemplate<'source>>
+    /// The template of a name, where there is one, wherever it stands. Makes one comparison where it stands at this place.
+    #[inline(always)]
+    pub fn get(&self, place: usize, name: &str) -> Option<&CompiledTemplate<'source>>
         ensures { IsLent result (find name.now self.now) }
     {
-        match self.place(name) {
+        match self.place_from(place, name) {
             Ok(at) => Some(&self.entries[at].1),
             Err(_) => None,
         }
     }
 
-    /// The template of a name, where there is one, with the name that it stands at.
-    pub fn entry(&self, name: &str) -> Option<(&Name, &CompiledTemplate<'source>)>
+    /// The template of a name, where there is one, wherever it stands, with its place and the name that it stands at.
+    /// Makes one comparison where it stands at this place.
+    #[inline(always)]
+    pub fn entry(
+        &self,
+        place: usize,
+        name: &str,
+    ) -> Option<(usize, &Name, &CompiledTemplate<'source>)>
         ensures { MatchOption result (find name.now self.now ≡ None)
-            (λ found. (found.0.now ≡ name.now) × (find name.now self.now ≡ Some found.1.now)) }
+            (λ found. (found.1.now ≡ name.now) × (find name.now self.now ≡ Some found.2.now)) }
     {
-        match self.place(name) {
-            Ok(at) => Some((&self.entries[at].0, &self.entries[at].1)),
+        match self.place_from(place, name) {
+            Ok(at) => Some((at, &self.entries[at].0, &self.entries[at].1)),
             Err(_) => None,
         }
     }
@@ -81,6 +88,60 @@ impl<'source> Templates<'source> {
                 Ok(())
             }
         }
+    }
+
+    /// Where the template of a name stands, or where it would stand. Makes one comparison where it stands at this place.
+    #[inline(always)]
+    fn place_from(&self, place: usize, name: &str) -> Result<usize, usize>
+        ensures { MatchResult result (IsThere name.now self.now) (IsGapFor name.now self.now) }
+    {
+        match self.entries.get(place) {
+            Some(entry) if entry.0.is(name) => Ok(place),
+            _ => self.place(name),
+        }
+    }
+
+    /// Drops the template of a name, if there is one; other names keep theirs.
+    pub fn remove(&mut self, name: &str)
+        ensures rest { self.new ≡ without name.now self.old }
+        ensures absent { find name.now self.old ≡ None → self.new ≡ self.old }
+        ensures gone { find name.now self.new ≡ None }
+        ensures others { (x : _) → x ≢ name.now → find x self.new ≡ find x self.old }
+    {
+        if let Ok(at) = self.place(name) {
+            let _removed = self.entries.remove(at);
+        }
+    }
+
+    /// Drops all templates.
+    pub fn clear(&mut self)
+        ensures { self.new ≡ [] }
+    {
+        self.entries.clear();
+    }
+
+    /// How many templates there are.
+    pub fn len(&self) -> usize
+        ensures { result ≡ length self.now }
+    {
+        self.entries.len()
+    }
+
+    /// The template that stands at a place in the order of names, with its name.
+    pub fn at(&self, place: usize) -> (&Name, &CompiledTemplate<'source>)
+        requires { place < length self.now }
+        ensures entry { slice_get self.now place ≡ Some (result.0.now, result.1.now) }
+        ensures found { find result.0.now self.now ≡ Some result.1.now }
+    {
+        let entry = &self.entries[place];
+        (&entry.0, &entry.1)
+    }
+
+    /// The names ascend; this takes no step.
+    pub fn ascend(&self)
+        ensures { AreOrdered self.now }
+    {
+        let _ = &self.entries;
     }
 
     /// Where the template of a name stands, or where it would stand.

@@ -417,15 +417,6 @@ above_base heard ks first f old new e above stays =
     let long = then.0 in
     (omega (arith, base, long), ground_then (length first.scopes.frames) first old new above.1 (subst (λ n. KeepsGround n old new) base then.1))
 
--- what a step gives boxed, taken out
-pub unboxed : (p : Program) {n : Next} (b : Box NestedRun) (e : NestedRun) (c : Config) (told now : Option (List ℕ)) → e ≡ b.value →
-    Did p (Ok (flow.Enter b)) told now c n → Enters p e c n × (now ≡ told)
-unboxed p {n = n} b e c told now same did = (subst (λ x. Enters p x c n) (sym same) did.0, did.1)
-
-pub deeper : (limit : ℕ) (b : Box NestedRun) (e : NestedRun) (old new : World) → e ≡ b.value → OneDeeper limit b.value.saved old new →
-    OneDeeper limit e.saved old new
-deeper limit b e old new same h = subst (λ (x : NestedRun). OneDeeper limit x.saved old new) (sym same) h
-
 -- ---------------------------------------------------------------- wraps
 want_wrapped : (wrap : Option Wrapping) (chain : List ErrorKind) → is_want_of_memory (wrapped wrap chain) ≡ is_want_of_memory chain
 want_wrapped None chain = refl

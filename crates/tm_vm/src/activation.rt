@@ -138,10 +138,10 @@ impl Activation {
         }
     }
 
-    /// The operands that are left, in whose room there may be others.
-    pub(crate) fn into_operands(self) -> Vec<Value> {
-        let Activation { operands, .. } = self;
-        operands.into_values()
+    /// Takes the operands that are left, in whose room there may be others.
+    #[inline(always)]
+    pub(crate) fn take_room(&mut self, alloc: Global) -> Vec<Value> {
+        mem::replace(&mut self.operands, Stack::new(alloc)).into_values()
     }
 
     /// Uses a filter by its cache number, and gives where it stands. Stuck where it can't be used by that;

@@ -115,14 +115,13 @@ impl Machine {
         &mut self,
         alloc: Global,
         count: usize,
-        run: Box<NestedRun>,
+        mut run: Box<NestedRun>,
     ) -> Result<Flow, Halt>
         requires { CanGoOn self.old.run }
         ensures { EntersAsValue run.value count result self.old self.new }
     {
         if let Err(error) = self.captures.begin(alloc, CaptureMode::Capture) {
-            let NestedRun { saved, .. } = Box::into_inner(run);
-            self.state.put_back(saved);
+            self.state.put_back(&mut run.saved);
             return Err(Halt::Fault(error));
         }
         self.run.drop_operands(count);

@@ -15,11 +15,11 @@ use crate::flow::Flow;
 use std::alloc::Global;
 use std::marker::Model;
 use std::mem;
-use tm_meaning::{Base, RunText, StreamId, Wrapping};
+use tm_meaning::{Base, RunText, StreamId, TemplateId, Wrapping};
 use tm_parts::{Captures, Halt, Sink};
 use tm_state::{NestedRun, RunOf, Saved, StateData};
 use tm_syntax::Code;
-use tm_tables::Host;
+use tm_tables::{Host, NO_PLACE};
 use tm_values::{Error, ErrorKind, Value};
 
 /// A halt of a nested run, as it is told: a fault is wrapped in the kind, where there is one.
@@ -38,34 +38,6 @@ fn wrapped(alloc: Global, wrap: Option<Wrapping>, halt: Halt) -> Halt
         },
         Halt::Writer => Halt::Writer,
         Halt::Stuck => Halt::Stuck,
-    }
-}
-
-/// The run of what is called, from its first place and over so many captures, in a room that the state keeps; none where
-/// its stream has no such macro, or one that takes other arguments.
-fn first_run<H: Host>(
-    alloc: Global,
-    host: &H,
-    state: &mut StateData,
-    run: RunOf,
-    floor: usize,
-) -> Option<Activation>
-    ensures first { result ≡ first_run (program (H.meaning host.now) (H.code host.now))
-        (callee_of run) floor }
-    ensures unchanged { state.new ≡ state.old }
-{
-    match run {
-        RunOf::Stream(stream) => {
-            let room = state.take_operands(alloc);
-            Some(Activation::over(alloc, stream, floor, 0, room))
-        }
-        RunOf::Macro(stream, number, args) => {
-            let (place, count) = host.instructions(&stream).entry(number)?;
-            if count != args.len() {
-                return None;
-            }
-            Some(Activation::over(alloc, stream, floor, place, args))
-        }
     }
 }
 
@@ -108,18 +80,19 @@ impl Machine {
         host: &H,
         run: RunOf,
         captures: Captures,
-        mut state: StateData,
+        state: StateData,
     ) -> Result<Machine, StateData>
         ensures { IsAtFirst (first_run (program (H.meaning host.now) (H.code host.now))
             (callee_of run) (length captures)) captures state result }
     {
-        match first_run(alloc, host, &mut state, run, captures.depth()) {
-            Some(run) => Ok(Machine {
-                run,
-                captures,
-                state,
-            }),
-            None => Err(state),
+        let own = StreamId::root(TemplateId::Own);
+        let mut machine = Machine::new(alloc, own, captures, state);
+        match machine.begin(alloc, host, run) {
+            Some(_idle) => Ok(machine),
+            None => {
+                let (_captures, state) = machine.into_parts();
+                Err(state)
+            }
         }
     }
 
@@ -176,44 +149,40 @@ impl Machine {
         &mut self,
         alloc: Global,
         host: &H,
-        entry: NestedRun,
+        mut entry: Box<NestedRun>,
         writer: &mut W,
     ) -> Result<(), Halt>
-        requires { StandsOn entry.saved self.old.world }
-        ensures ran { RanNested (program (H.meaning host.now) (H.code host.now)) entry self.old self.new
-            (W.written writer.old) (W.written writer.new) result }
+        requires { StandsOn entry.value.saved self.old.world }
+        ensures ran { RanNested (program (H.meaning host.now) (H.code host.now)) entry.value
+            self.old self.new (W.written writer.old) (W.written writer.new) result }
         ensures beginning { WroteBeginning (program (H.meaning host.now) (H.code host.now))
-            (base_in entry self.old)
-            (begins_in (program (H.meaning host.now) (H.code host.now)) entry self.old)
+            (base_in entry.value self.old)
+            (begins_in (program (H.meaning host.now) (H.code host.now)) entry.value self.old)
             (W.written writer.old) (W.written writer.new) }
         ensures failures { W.failures writer.new ≡ failures_after result (W.failures writer.old) }
         ensures kept { KeepsFixed self.old.world self.new.world }
         ensures names { names_left (H.meaning host.now) self.new.world
             ≤ names_left (H.meaning host.now) self.old.world }
-        ensures back { IsBack entry.saved self.old.world self.new.world }
+        ensures back { IsBack entry.value.saved self.old.world self.new.world }
         ensures same_run { StaysRun self.old.run self.new.run }
     {
-        let NestedRun {
-            run,
-            heard,
-            value,
-            text,
-            wrap,
-            saved,
-        } = entry;
+        let nested = &mut *entry;
+        let run = nested.take_run();
+        let wrap = nested.wrap;
+        let value = nested.value;
         let Some(waiting) = self.begin(alloc, host, run) else {
-            self.put_back(saved);
+            self.put_back(&mut nested.saved);
             let refusal = Halt::Fault(Error::from(ErrorKind::InvalidOperation));
             return Err(wrapped(alloc, wrap, refusal));
         };
-        let result = self.run(alloc, host, heard, writer);
-        self.resume(waiting);
-        self.put_back(saved);
+        let result = self.run(alloc, host, nested.heard, writer);
+        self.resume(alloc, waiting);
+        self.put_back(&mut nested.saved);
         if let Err(halt) = result {
             return Err(wrapped(alloc, wrap, halt));
         }
         if value {
-            return self.push_captured(alloc, text);
+            return self.push_captured(alloc, nested.text);
         }
         Ok(())
     }
@@ -240,21 +209,42 @@ impl Machine {
             (callee_of run) (length self.old.captures)) result self.old self.new }
     {
         let floor = self.captures.depth();
-        let first = first_run(alloc, host, &mut self.state, run, floor)?;
-        Some(mem::replace(&mut self.run, first))
+        match run {
+            RunOf::Stream(stream) => {
+                let room = self.state.take_operands(alloc);
+                Some(self.enter(Activation::over(alloc, stream, floor, 0, room)))
+            }
+            RunOf::Macro(stream, number, args) => {
+                let code = host.instructions(&stream, NO_PLACE);
+                let (place, count) = code.entry(number)?;
+                if count != args.len() {
+                    return None;
+                }
+                Some(self.enter(Activation::over(alloc, stream, floor, place, args)))
+            }
+        }
+    }
+
+    /// Begins a run, and gives the one that waits.
+    #[inline(always)]
+    fn enter(&mut self, run: Activation) -> Activation
+        ensures waiting { result ≡ self.old.run }
+        ensures begun { self.new ≡ record self.old { run = run } }
+    {
+        mem::replace(&mut self.run, run)
     }
 
     /// Goes on with a run that waited, and keeps the room of the one that is over.
-    fn resume(&mut self, waiting: Activation)
+    fn resume(&mut self, alloc: Global, waiting: Activation)
         ensures { self.new ≡ record self.old { run = waiting } }
     {
-        let over = mem::replace(&mut self.run, waiting);
-        self.state.keep_operands(over.into_operands());
+        self.state.keep_operands(self.run.take_room(alloc));
+        self.run = waiting;
     }
 
     /// Puts back in the state what a run replaced, and leaves the scopes that it opened.
-    fn put_back(&mut self, saved: Saved)
-        ensures { self.new ≡ record self.old { world = put_back saved self.old.world } }
+    fn put_back(&mut self, saved: &mut Saved)
+        ensures { self.new ≡ record self.old { world = put_back saved.old self.old.world } }
     {
         self.state.put_back(saved);
     }
@@ -263,7 +253,7 @@ impl Machine {
     fn code<'host, H: Host>(&self, host: &'host H) -> &'host Code
         ensures { result.now ≡ H.code host.now self.now.run.stream }
     {
-        host.instructions(&self.run.stream)
+        host.instructions(&self.run.stream, self.state.template_place())
     }
 
     /// Runs to the end of the stream, or of the last one of its parents; `heard` says whether its text is.
@@ -298,12 +288,7 @@ impl Machine {
                 match self.step(alloc, host, &base, code, writer) {
                     Ok(Flow::GoOn) => {}
                     Ok(Flow::Enter(entry)) => {
-                        if let Err(halt) = self.run_nested(
-                            alloc,
-                            host,
-                            Box::into_inner(entry),
-                            writer,
-                        ) {
+                        if let Err(halt) = self.run_nested(alloc, host, entry, writer) {
                             return Err(halt);
                         }
                     }

@@ -165,6 +165,17 @@ impl Machine {
             && !self.run.has_loop()
     }
 
+    /// Ends the run behind its last instruction, at once where it has closed all and no parent waits, or as `finish`.
+    #[inline(always)]
+    fn end_run(&mut self, alloc: Global, base: &Base, size: usize) -> Result<Flow, Halt>
+        ensures { Finishes result base.now self.old self.new (finish size base.now self.old) }
+    {
+        if self.run.place == size && self.is_closed(base) && self.run.none_waits() {
+            return Ok(Flow::Done);
+        }
+        self.finish(alloc, base, size)
+    }
+
     /// Ends the run behind its last instruction, or restarts it in the root of the parent that waits; stuck where it has
     /// left something open.
     #[inline(never)]
@@ -212,7 +223,7 @@ impl Machine {
     {
         let instructions = code.as_slice();
         let Some(instruction) = instructions.get(self.place()) else {
-            return self.finish(alloc, base, instructions.len());
+            return self.end_run(alloc, base, instructions.len());
         };
         if let Err(_exhausted) = self.charge(instruction) {
             return Err(Halt::Fault(Error::from(ErrorKind::OutOfFuel)));

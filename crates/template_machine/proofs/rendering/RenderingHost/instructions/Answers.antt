@@ -7,6 +7,6 @@ use Rattle.template_machine.proofs.rendering.RenderingHost.instructions.Goals as
 
 pub returns : goal.returns
 returns g c =
-    c.stream.ensures ∙ ap (λ (t : Compiled). code_of (part_of (tree_of t) c.args.stream.now.block)) c.template.ensures
+    c.stream.ensures ∙ ap (λ (t : Compiled). code_of (part_of (tree_of t) c.args.stream.now.block)) c.template_at.ensures
     ∙ ap (λ (t : TemplateTree). code_of (part_of t c.args.stream.now.block))
     (sym (tree_meant g.O.Parties.stated c.args.self.now c.args.stream.now.template))

@@ -5,6 +5,6 @@ use Rattle.template_machine.proofs.template.TemplateOf.run_over.Goals as goal
 
 pub returns : goal.returns
 returns g c =
-    subst (λ (t : TemplateValue g.row.O.Denot). Ran (meaning_from g.O.Parties.stated t c.args.state.now) c.run.result c.run.new.state
-    c.args.captures (g.W.Sink.written c.args.writer.now) (g.W.Sink.written c.run.new.writer) (g.W.Sink.failures c.args.writer.now)
-    (g.W.Sink.failures c.run.new.writer)) c.rendering.ensures c.run.ensures.ran
+    subst (λ (t : TemplateValue g.row.O.Denot). Ran (meaning_from g.O.Parties.stated t c.args.state.now) c.run-2.result c.run-2.new.state
+    c.args.captures (g.W.Sink.written c.args.writer.now) (g.W.Sink.written c.run-2.new.writer) (g.W.Sink.failures c.args.writer.now)
+    (g.W.Sink.failures c.run-2.new.writer)) c.rendering.ensures.same c.run-2.ensures.ran

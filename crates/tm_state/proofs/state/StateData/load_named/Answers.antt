@@ -15,10 +15,10 @@ returns-clause-ok g c =
     let fresh : is_among x w.loaded ≡ false =
     ap (λ (v : World). is_among x v.loaded) (sym c.self.view_is) ∙ ap (λ y. is_among y held) (sym c.as_str.ensures)
     ∙ sym c.is_loaded.ensures ∙ c.if-is_loaded.false in
-    let there = subst (λ y. AreBlocksOf (Some c.in-Some.blocks) (find y host.templates)) c.as_str-2.ensures c.in-Some.ensures in
+    let there = subst (λ y. AreBlocksOf c.in-Some.entry.blocks (find y host.templates)) c.as_str-2.ensures c.in-Some.ensures.2 in
     let added = c.in_ok-add_loaded.ensures.ok in
     let behind = c.in_ok-append.ensures.ok in
-    loads_into host x w c.in-Some.blocks fresh there c.in_ok-share.field-0 c.add_loaded.new.self.blocks c.add_loaded.new.self.places
+    loads_into host x w c.in-Some.entry.blocks fresh there c.in_ok-share.field-0 c.add_loaded.new.self.blocks c.add_loaded.new.self.places
     c.add_loaded.new.self.loaded c.self.view_is c.in_ok-share.ensures (ap (λ (l : ListsValue). l.blocks) added ∙ ap (λ (l : ListsValue). l.blocks) behind)
     (ap (λ (l : ListsValue). l.places) added ∙ ap (λ (l : ListsValue). l.places) behind)
     (ap (λ (l : ListsValue). l.loaded) added ∙ ap (λ (l : ListsValue). l.loaded ++ x ∷ []) behind)
@@ -32,7 +32,7 @@ returns-clause-fewer g c =
     let fresh : is_among x w.loaded ≡ false =
     ap (λ (v : World). is_among x v.loaded) (sym c.self.view_is) ∙ ap (λ y. is_among y held) (sym c.as_str.ensures)
     ∙ sym c.is_loaded.ensures ∙ c.if-is_loaded.false in
-    let there = subst (λ y. AreBlocksOf (Some c.in-Some.blocks) (find y host.templates)) c.as_str-2.ensures c.in-Some.ensures in
+    let there = subst (λ y. AreBlocksOf c.in-Some.entry.blocks (find y host.templates)) c.as_str-2.ensures c.in-Some.ensures.2 in
     let added = c.in_ok-add_loaded.ensures.ok in
-    fewer_into host x w c.in-Some.blocks fresh there c.add_loaded.new.self.blocks c.add_loaded.new.self.loaded c.self.view_is
+    fewer_into host x w c.in-Some.entry.blocks fresh there c.add_loaded.new.self.blocks c.add_loaded.new.self.loaded c.self.view_is
     (ap (λ (l : ListsValue). l.loaded) added ∙ ap (λ (l : ListsValue). l.loaded ++ x ∷ []) c.in_ok-append.ensures.ok)

@@ -2,7 +2,6 @@ use Rattle.std.proofs.Common.{◌≡◌, ℕ, List, Result, Ok, Err, IsErrAnd, r
 use Rattle.std.specs.Prelude.{IfErr}
 use Rattle.tm_templates.specs.Sources.{source_bytes}
 use Rattle.tm_templates.specs.Templates.{IsRefused}
-use Rattle.tm_templates.proofs.Ascending.{blocks-ascend}
 use Rattle.tm_templates.proofs.compiled.CompiledTemplate.with_escape.Goals as goal
 
 -- an error that was passed on
@@ -20,6 +19,3 @@ returns-in_err-tree-clause-refused c =
 
 pub returns-clause-refused : goal.returns-clause-refused
 returns-clause-refused c = search rules fits 100
-
-pub shared_names-requires : goal.shared_names-requires
-shared_names-requires c = blocks-ascend c.in_ok-tree.tree c.in_ok-streams.streams.blocks c.in_ok-streams.ensures.blocks

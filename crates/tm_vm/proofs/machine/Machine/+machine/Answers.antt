@@ -4,15 +4,16 @@ use Rattle.tm_meaning.specs.Inheritance.{names_left}
 use Rattle.tm_meaning.specs.Machine.{Config, base_of}
 use Rattle.tm_state.specs.State.{put_back}
 use Rattle.tm_parts.specs.Halts.{failures_after}
-use Rattle.tm_vm.specs.Answers.{program}
+use Rattle.tm_vm.specs.Answers.{HaltsAs, program}
 use Rattle.tm_vm.specs.declared.flow.Flow.TheVariants as flow
 use Rattle.tm_vm.proofs.Loop.{at_base, fixed_same, fixed_then, stands_first, stands_next, stands_again, stands_behind, beginning_at, beginning_in}
 use Rattle.tm_parts.specs.declared.halt.Halt.TheVariants as halt
 use Rattle.tm_state.specs.declared.nested.NestedRun.{NestedRun}
-use Rattle.tm_vm.specs.Nested.{IsWrapped}
+use Rattle.tm_vm.specs.Nested.{EndsIn, IsWrapped, RanNested, Went, WroteBeginning, base_in, begins_in}
+use Rattle.tm_state.specs.declared.nested.RunOf.{RunOf}
 use Rattle.tm_vm.proofs.Ground.{no_fewer_same, over_same}
-use Rattle.tm_vm.proofs.Loop.{as_value, began, ended_at, first_of, in_place, refused_ends, stands_deeper, was_back, wrapped_ends}
-use Rattle.tm_vm.proofs.Loop.{ended_in, done_at, whole_at, scopes_behind, was_there, above_base, unboxed, deeper}
+use Rattle.tm_vm.proofs.Loop.{as_value, began, ended_at, in_place, refused_ends, stands_deeper, was_back, wrapped_ends}
+use Rattle.tm_vm.proofs.Loop.{ended_in, done_at, whole_at, scopes_behind, was_there, above_base}
 use Rattle.tm_vm.proofs.Weight.{less_behind, parents_behind}
 use Rattle.tm_vm.proofs.machine.Machine.+machine.Goals as goal
 
@@ -68,9 +69,9 @@ run-steps-preserved-in-Ok-GoOn g t c =
 pub run-run_nested-requires : goal.run-run_nested-requires
 run-run_nested-requires g t c κs within =
     let limit = (g.H.Host.meaning c.args.host.now).limit in
-    let e = c.into_inner.result in
+    let e = c.in-Ok-Enter.entry.value in
     let step = rw c.in-Ok-Enter.field-0-is at c.in-Ok-Enter.ensures.performs in
-    let deep = deeper limit c.in-Ok-Enter.entry e c.steps.self.world c.step.new.self.world c.into_inner.ensures step.depths in
+    let deep = step.depths in
     let stands = stands_deeper limit e c.steps.self.world c.step.new.self.world deep step.names in
     let more = stands.1 in
     let fits = deep.2 in
@@ -85,11 +86,11 @@ run-returns-in-Err-run_nested-clause-ended g t c =
     let now = g.W.Sink.written c.steps.writer in
     let at = g.W.Sink.written c.step.new.writer in
     let new = g.W.Sink.written c.run_nested.new.writer in
-    let e = c.into_inner.result in
+    let e = c.in-Ok-Enter.entry.value in
     let step = rw c.in-Ok-Enter.field-0-is at c.in-Ok-Enter.ensures.performs in
     let did = at_base p c.steps.self c.step.new.self now at (Ok (flow.Enter c.in-Ok-Enter.entry)) c.base-base.result
     (base_of c.args.heard a.captures a.world) c.base-base.ensures step.did in
-    let enters = unboxed p c.in-Ok-Enter.entry e c.step.new.self now at c.into_inner.ensures did in
+    let enters = did in
     ended_in e c.step.new.self at new c.in-Err-run_nested.halt c.run_nested.new.self.world c.steps.invariant.stands enters
     c.in-Err-run_nested.ensures.ran
 
@@ -100,11 +101,11 @@ run-returns-in-Err-run_nested-clause-beginning g t c =
     let now = g.W.Sink.written c.steps.writer in
     let at = g.W.Sink.written c.step.new.writer in
     let new = g.W.Sink.written c.run_nested.new.writer in
-    let e = c.into_inner.result in
+    let e = c.in-Ok-Enter.entry.value in
     let step = rw c.in-Ok-Enter.field-0-is at c.in-Ok-Enter.ensures.performs in
     let did = at_base p c.steps.self c.step.new.self now at (Ok (flow.Enter c.in-Ok-Enter.entry)) c.base-base.result
     (base_of c.args.heard a.captures a.world) c.base-base.ensures step.did in
-    let enters = unboxed p c.in-Ok-Enter.entry e c.step.new.self now at c.into_inner.ensures did in
+    let enters = did in
     beginning_in e c.step.new.self at new c.steps.invariant.stands enters c.in-Err-run_nested.ensures.beginning
 
 pub run-returns-in-Err-run_nested-clause-failures : goal.run-returns-in-Err-run_nested-clause-failures
@@ -128,9 +129,9 @@ run-returns-in-Err-run_nested-clause-names g t c =
 pub run-returns-in-Err-run_nested-clause-no_fewer : goal.run-returns-in-Err-run_nested-clause-no_fewer
 run-returns-in-Err-run_nested-clause-no_fewer g t c =
     let limit = (g.H.Host.meaning c.args.host.now).limit in
-    let e = c.into_inner.result in
+    let e = c.in-Ok-Enter.entry.value in
     let step = rw c.in-Ok-Enter.field-0-is at c.in-Ok-Enter.ensures.performs in
-    let deep = deeper limit c.in-Ok-Enter.entry e c.steps.self.world c.step.new.self.world c.into_inner.ensures step.depths in
+    let deep = step.depths in
     let same = scopes_behind limit e c.steps.self.world c.step.new.self.world c.run_nested.new.self.world deep c.in-Err-run_nested.ensures.back in
     over_same c.args.self.now.world c.steps.self.world c.run_nested.new.self.world c.steps.invariant.no_fewer same
 
@@ -140,7 +141,7 @@ run-steps-smaller g t c =
     let mid = c.step.new.self in
     let paid = rw c.in-Ok-Enter.field-0-is at c.in-Ok-Enter.ensures.paid in
     let there = was_there c.in_default.ensures.ran in
-    let first = sym (ap (λ (x : NestedRun). first_of p x mid) c.into_inner.ensures) ∙ there.1 in
+    let first = there.1 in
     less_behind (length c.code-code.result.now) c.steps.self mid c.run_nested.new.self (paid there.0 first).0
     c.in_default.ensures.kept.no_more_fuel c.in_default.ensures.same_run.1
 
@@ -153,17 +154,17 @@ run-steps-preserved g t c =
     let now = g.W.Sink.written c.steps.writer in
     let at = g.W.Sink.written c.step.new.writer in
     let new = g.W.Sink.written c.run_nested.new.writer in
-    let e = c.into_inner.result in
+    let e = c.in-Ok-Enter.entry.value in
     let mid = c.step.new.self in
     let step = rw c.in-Ok-Enter.field-0-is at c.in-Ok-Enter.ensures.performs in
     let paid = rw c.in-Ok-Enter.field-0-is at c.in-Ok-Enter.ensures.paid in
     let did = at_base p c.steps.self c.step.new.self now at (Ok (flow.Enter c.in-Ok-Enter.entry)) c.base-base.result
     (base_of c.args.heard a.captures a.world) c.base-base.ensures step.did in
-    let enters = unboxed p c.in-Ok-Enter.entry e c.step.new.self now at c.into_inner.ensures did in
+    let enters = did in
     let went = c.in_default.ensures.ran in
     let there = was_there went in
-    let first = sym (ap (λ (x : NestedRun). first_of p x mid) c.into_inner.ensures) ∙ there.1 in
-    let deep = deeper limit c.in-Ok-Enter.entry e c.steps.self.world c.step.new.self.world c.into_inner.ensures step.depths in
+    let first = there.1 in
+    let deep = step.depths in
     let behind = c.run_nested.new.self.world in
     let same = scopes_behind limit e c.steps.self.world c.step.new.self.world behind deep c.in_default.ensures.back in
     let left : names_left host mid.world ≡ names_left host c.steps.self.world =
@@ -288,78 +289,113 @@ run-returns-in-Err-clause-no_fewer g t c =
     above_base c.args.heard a.captures a.world c.base-base.result c.steps.self.world c.step.new.self.world
     c.base-base.ensures c.steps.invariant.no_fewer c.in-Err.ensures.performs.depths
 
+-- What ran is what was entered.
+retaken : (left lent e : NestedRun) (run : RunOf) → run ≡ lent.run → left ≡ record lent { run = left.run } → lent ≡ e →
+    record left { run = run } ≡ e
+retaken left lent e run taken rest value =
+    ap (λ (x : NestedRun). record x { run = run }) rest ∙ ap (λ r. record lent { run = r }) taken ∙ value
+
 pub run_nested-returns-in_default-clause-ran : goal.run_nested-returns-in_default-clause-ran
 run_nested-returns-in_default-clause-ran g t c =
     let p = program (g.H.Host.meaning c.args.host.now) (g.H.Host.code c.args.host.now) in
-    let e = c.args.entry in
+    let e : NestedRun = record c.take_run-run.new.self { run = c.take_run-run.result } in
+    let whole = retaken c.take_run-run.new.self c.deref_mut-nested.result.now c.args.entry.value c.take_run-run.result
+    c.take_run-run.ensures.run c.take_run-run.ensures.rest c.deref_mut-nested.ensures.value in
+    let now = g.W.Sink.written c.args.writer.now in
     let same = ap (λ (x : Config). x.world) c.put_back.ensures ∙ ap (λ (x : Config). put_back e.saved x.world) c.in_default.ensures.1 in
     let is = subst (λ k. IsWrapped e.wrap (halt.Fault k) c.wrapped.result) c.from.ensures c.wrapped.ensures in
-    refused_ends p e c.args.self.now c.put_back.new.self (g.W.Sink.written c.args.writer.now) c.wrapped.result c.in_default.ensures.0 same is
+    subst (λ (x : NestedRun). HaltsAs c.wrapped.result c.put_back.new.self.world (EndsIn p x c.args.self.now now now)) whole
+    (refused_ends p e c.args.self.now c.put_back.new.self now c.wrapped.result c.in_default.ensures.0 same is)
 
 pub run_nested-returns-in-Err-clause-ran : goal.run_nested-returns-in-Err-clause-ran
 run_nested-returns-in-Err-clause-ran g t c =
     let p = program (g.H.Host.meaning c.args.host.now) (g.H.Host.code c.args.host.now) in
-    let e = c.args.entry in
+    let e : NestedRun = record c.take_run-run.new.self { run = c.take_run-run.result } in
+    let whole = retaken c.take_run-run.new.self c.deref_mut-nested.result.now c.args.entry.value c.take_run-run.result
+    c.take_run-run.ensures.run c.take_run-run.ensures.rest c.deref_mut-nested.ensures.value in
     let now = g.W.Sink.written c.args.writer.now in
     let new = g.W.Sink.written c.run-result.new.writer in
     let same = ap (λ (x : Config). x.world) c.put_back-2.ensures ∙ ap (λ (x : Config). put_back e.saved x.world) c.resume.ensures in
-    wrapped_ends p e c.in-Some.waiting c.args.self.now c.begin.new.self c.run-result.new.self now new c.in-Some.ensures
-    c.put_back-2.new.self c.in-Err.halt c.wrapped-in-Err.result same c.wrapped-in-Err.ensures c.in-Err.ensures.ended
+    subst (λ (x : NestedRun). HaltsAs c.wrapped-in-Err.result c.put_back-2.new.self.world (EndsIn p x c.args.self.now now new)) whole
+    (wrapped_ends p e c.in-Some.waiting c.args.self.now c.begin.new.self c.run-result.new.self now new c.in-Some.ensures
+    c.put_back-2.new.self c.in-Err.halt c.wrapped-in-Err.result same c.wrapped-in-Err.ensures c.in-Err.ensures.ended)
 
 pub run_nested-returns-in-Err-clause-back : goal.run_nested-returns-in-Err-clause-back
 run_nested-returns-in-Err-clause-back g t c =
-    let e = c.args.entry in
-    let same = ap (λ (x : Config). x.world) c.put_back-2.ensures ∙ ap (λ (x : Config). put_back e.saved x.world) c.resume.ensures in
-    was_back e.saved c.args.self.now.world c.begin.new.self.world c.run-result.new.self.world c.put_back-2.new.self.world
+    let e : NestedRun = record c.take_run-run.new.self { run = c.take_run-run.result } in
+    let whole = retaken c.take_run-run.new.self c.deref_mut-nested.result.now c.args.entry.value c.take_run-run.result
+    c.take_run-run.ensures.run c.take_run-run.ensures.rest c.deref_mut-nested.ensures.value in
+    let same = ap (λ (x : Config). x.world) c.put_back-2.ensures ∙ ap (λ (x : Config). put_back e.saved x.world) c.resume.ensures
+    ∙ ap (λ (x : NestedRun). put_back x.saved c.run-result.new.self.world) whole in
+    was_back c.args.entry.value.saved c.args.self.now.world c.begin.new.self.world c.run-result.new.self.world c.put_back-2.new.self.world
     c.in-Some.ensures.3 c.requires c.in-Err.ensures.no_fewer same
 
 pub run_nested-returns-then-value-clause-ran : goal.run_nested-returns-then-value-clause-ran
 run_nested-returns-then-value-clause-ran g t c =
     let p = program (g.H.Host.meaning c.args.host.now) (g.H.Host.code c.args.host.now) in
-    let e = c.args.entry in
+    let e : NestedRun = record c.take_run-run.new.self { run = c.take_run-run.result } in
+    let whole = retaken c.take_run-run.new.self c.deref_mut-nested.result.now c.args.entry.value c.take_run-run.result
+    c.take_run-run.ensures.run c.take_run-run.ensures.rest c.deref_mut-nested.ensures.value in
     let now = g.W.Sink.written c.args.writer.now in
     let new = g.W.Sink.written c.run-result.new.writer in
     let at = c.put_back-2.ensures ∙ ap (λ (x : Config). record x { world = put_back e.saved x.world }) c.resume.ensures in
-    as_value p e c.in-Some.waiting c.args.self.now c.begin.new.self c.run-result.new.self now new c.in-Some.ensures
+    subst (λ (x : NestedRun). RanNested p x c.args.self.now c.push_captured.new.self now new c.push_captured.result) whole
+    (as_value p e c.in-Some.waiting c.args.self.now c.begin.new.self c.run-result.new.self now new c.in-Some.ensures
     c.put_back-2.new.self c.push_captured.new.self c.push_captured.result
-    c.push_captured.ensures.captured at c.if-value.true c.push_captured.ensures.same_world c.in_default-result.ensures.ended
+    c.push_captured.ensures.captured at c.if-value.true c.push_captured.ensures.same_world c.in_default-result.ensures.ended)
 
 pub run_nested-returns-then-value-clause-back : goal.run_nested-returns-then-value-clause-back
 run_nested-returns-then-value-clause-back g t c =
-    let e = c.args.entry in
+    let e : NestedRun = record c.take_run-run.new.self { run = c.take_run-run.result } in
+    let whole = retaken c.take_run-run.new.self c.deref_mut-nested.result.now c.args.entry.value c.take_run-run.result
+    c.take_run-run.ensures.run c.take_run-run.ensures.rest c.deref_mut-nested.ensures.value in
     let same = c.push_captured.ensures.same_world ∙ ap (λ (x : Config). x.world) c.put_back-2.ensures
-    ∙ ap (λ (x : Config). put_back e.saved x.world) c.resume.ensures in
-    was_back e.saved c.args.self.now.world c.begin.new.self.world c.run-result.new.self.world c.push_captured.new.self.world
-    c.in-Some.ensures.3 c.requires c.in_default-result.ensures.no_fewer same
+    ∙ ap (λ (x : Config). put_back e.saved x.world) c.resume.ensures
+    ∙ ap (λ (x : NestedRun). put_back x.saved c.run-result.new.self.world) whole in
+    was_back c.args.entry.value.saved c.args.self.now.world c.begin.new.self.world c.run-result.new.self.world
+    c.push_captured.new.self.world c.in-Some.ensures.3 c.requires c.in_default-result.ensures.no_fewer same
 
 pub run_nested-returns-clause-ran : goal.run_nested-returns-clause-ran
 run_nested-returns-clause-ran g t c =
     let p = program (g.H.Host.meaning c.args.host.now) (g.H.Host.code c.args.host.now) in
-    let e = c.args.entry in
+    let e : NestedRun = record c.take_run-run.new.self { run = c.take_run-run.result } in
+    let whole = retaken c.take_run-run.new.self c.deref_mut-nested.result.now c.args.entry.value c.take_run-run.result
+    c.take_run-run.ensures.run c.take_run-run.ensures.rest c.deref_mut-nested.ensures.value in
     let now = g.W.Sink.written c.args.writer.now in
     let new = g.W.Sink.written c.run-result.new.writer in
     let at = c.put_back-2.ensures ∙ ap (λ (x : Config). record x { world = put_back e.saved x.world }) c.resume.ensures in
-    in_place p e c.in-Some.waiting c.args.self.now c.begin.new.self c.run-result.new.self now new c.in-Some.ensures
-    c.put_back-2.new.self at c.if-value.false c.in_default-result.ensures.ended
+    subst (λ (x : NestedRun). Went p x c.args.self.now c.put_back-2.new.self now new) whole
+    (in_place p e c.in-Some.waiting c.args.self.now c.begin.new.self c.run-result.new.self now new c.in-Some.ensures
+    c.put_back-2.new.self at c.if-value.false c.in_default-result.ensures.ended)
 
 pub run_nested-returns-clause-back : goal.run_nested-returns-clause-back
 run_nested-returns-clause-back g t c =
-    let e = c.args.entry in
-    let same = ap (λ (x : Config). x.world) c.put_back-2.ensures ∙ ap (λ (x : Config). put_back e.saved x.world) c.resume.ensures in
-    was_back e.saved c.args.self.now.world c.begin.new.self.world c.run-result.new.self.world c.put_back-2.new.self.world
+    let e : NestedRun = record c.take_run-run.new.self { run = c.take_run-run.result } in
+    let whole = retaken c.take_run-run.new.self c.deref_mut-nested.result.now c.args.entry.value c.take_run-run.result
+    c.take_run-run.ensures.run c.take_run-run.ensures.rest c.deref_mut-nested.ensures.value in
+    let same = ap (λ (x : Config). x.world) c.put_back-2.ensures ∙ ap (λ (x : Config). put_back e.saved x.world) c.resume.ensures
+    ∙ ap (λ (x : NestedRun). put_back x.saved c.run-result.new.self.world) whole in
+    was_back c.args.entry.value.saved c.args.self.now.world c.begin.new.self.world c.run-result.new.self.world c.put_back-2.new.self.world
     c.in-Some.ensures.3 c.requires c.in_default-result.ensures.no_fewer same
 
 pub run_nested-returns-in_default-clause-back : goal.run_nested-returns-in_default-clause-back
 run_nested-returns-in_default-clause-back g t c =
-    let e = c.args.entry in
+    let e : NestedRun = record c.take_run-run.new.self { run = c.take_run-run.result } in
+    let whole = retaken c.take_run-run.new.self c.deref_mut-nested.result.now c.args.entry.value c.take_run-run.result
+    c.take_run-run.ensures.run c.take_run-run.ensures.rest c.deref_mut-nested.ensures.value in
     let old = c.args.self.now.world in
-    let same = ap (λ (x : Config). x.world) c.put_back.ensures ∙ ap (λ (x : Config). put_back e.saved x.world) c.in_default.ensures.1 in
-    was_back e.saved old old old c.put_back.new.self.world refl c.requires (no_fewer_same old) same
+    let same = ap (λ (x : Config). x.world) c.put_back.ensures ∙ ap (λ (x : Config). put_back e.saved x.world) c.in_default.ensures.1
+    ∙ ap (λ (x : NestedRun). put_back x.saved old) whole in
+    was_back c.args.entry.value.saved old old old c.put_back.new.self.world refl c.requires (no_fewer_same old) same
 
 pub run_nested-returns-in-Err-clause-beginning : goal.run_nested-returns-in-Err-clause-beginning
 run_nested-returns-in-Err-clause-beginning g t c =
     let p = program (g.H.Host.meaning c.args.host.now) (g.H.Host.code c.args.host.now) in
+    let e : NestedRun = record c.take_run-run.new.self { run = c.take_run-run.result } in
+    let whole = retaken c.take_run-run.new.self c.deref_mut-nested.result.now c.args.entry.value c.take_run-run.result
+    c.take_run-run.ensures.run c.take_run-run.ensures.rest c.deref_mut-nested.ensures.value in
     let now = g.W.Sink.written c.args.writer.now in
     let new = g.W.Sink.written c.run-result.new.writer in
-    began p c.args.entry c.in-Some.waiting c.args.self.now c.begin.new.self c.run-result.new.self now new c.in-Some.ensures
-    c.in-Err.ensures.beginning
+    subst (λ (x : NestedRun). WroteBeginning p (base_in x c.args.self.now) (begins_in p x c.args.self.now) now new) whole
+    (began p e c.in-Some.waiting c.args.self.now c.begin.new.self c.run-result.new.self now new c.in-Some.ensures
+    c.in-Err.ensures.beginning)

@@ -1,0 +1,5 @@
+use Rattle.tm_tables.proofs.Places.{ordered_without_names}
+use Rattle.tm_templates.proofs.templates.Templates.clear.Goals as goal
+
+pub invariant_of-self : goal.invariant_of-self
+invariant_of-self c = ordered_without_names c.clear.new.self.items c.clear.ensures.items
