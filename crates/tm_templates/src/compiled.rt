@@ -29,6 +29,9 @@ use tm_names::undeclared;
 use tm_tables::{BlockNames, EscapeRule};
 use tm_values::{AutoEscape, Error};
 
+/// The name of all expressions.
+const EXPRESSION: &str = "<expression>";
+
 /// How templates are compiled.
 #[derive(Drop)]
 pub struct TemplateConfig<R: Drop> {
