@@ -169,9 +169,8 @@ fn renders_each(environment: &Rows<'_>) -> Result<bool, Error> {
     let made = environment
         .template_from_str("x")?
         .render(&mut ids, Value::undefined())?;
-    let named = environment
-        .template_from_named_str("n", "x")?
-        .render_captured(&mut ids, Value::undefined())?;
+    let template = environment.template_from_named_str("n", "x")?;
+    let named = template.render_captured(&mut ids, Value::undefined())?;
     let at_once = environment.render_str(&mut ids, "x", Value::undefined())?;
     let named_at_once = environment.render_named_str(&mut ids, "n", "x", Value::undefined())?;
     Ok(
