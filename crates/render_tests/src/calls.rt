@@ -170,13 +170,15 @@ fn renders_each(environment: &Rows<'_>) -> Result<bool, Error> {
         .template_from_str("x")?
         .render(&mut ids, Value::undefined())?;
     let template = environment.template_from_named_str("n", "x")?;
-    let named = template.render_captured(&mut ids, Value::undefined())?;
+    let named = template
+        .render_captured(&mut ids, Value::undefined())?
+        .into_output();
     let at_once = environment.render_str(&mut ids, "x", Value::undefined())?;
     let named_at_once = environment.render_named_str(&mut ids, "n", "x", Value::undefined())?;
     Ok(
         owned.as_str() == "x"
             && made.as_str() == "x"
-            && named.into_output().as_str() == "x"
+            && named.as_str() == "x"
             && at_once.as_str() == "x"
             && named_at_once.as_str() == "x",
     )
