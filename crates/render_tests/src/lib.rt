@@ -12,6 +12,8 @@ mod callbacks;
 #[cfg(test)]
 mod calls;
 #[cfg(test)]
+mod expressions;
+#[cfg(test)]
 mod includes;
 #[cfg(test)]
 mod limited;

@@ -7,7 +7,8 @@ use Rattle.tm_meaning.specs.Memory.{is_want_of_memory}
 use Rattle.tm_values.specs.declared.error.ErrorKind.{ErrorKind}
 use Rattle.tm_meaning.specs.World.{World}
 use Rattle.tm_meaning.specs.Tree.{Trees}
-use Rattle.tm_meaning.specs.Meaning.{Ending, done, leave, next, fault, Outcome, rendered}
+use Rattle.tm_values.specs.Val.{Val}
+use Rattle.tm_meaning.specs.Meaning.{Ending, done, leave, next, fault, left_by, left_of, Outcome, rendered}
 use Rattle.tm_meaning.specs.Machine.{Capture, End, Finished, Failed, Stuck, Program, base_of, new_capture, put_in, put_out, run_from, running}
 use Rattle.tm_meaning.specs.Steps.{Final, final, step, Reaches}
 use Rattle.tm_meaning.specs.Compiled.{IsCompiled}
@@ -31,7 +32,7 @@ use Rattle.template_machine.specs.Renders.{BlockWritten, block_as_meant, block_b
 -- the end that is meant, over captures
 abbrev meant_end : Ending → List Capture → World → End
 meant_end (fault chain) ks w = Failed chain w
-meant_end e ks w = Finished ks w
+meant_end e ks w = Finished (left_by e) ks w
 
 abbrev final_by : Ending → List Capture → List ℕ → World → Final
 final_by e captures out w = final (put_out captures out) (meant_end e (put_in captures out) w)
@@ -42,34 +43,46 @@ final_in captures m = final_by m.ending captures m.text m.world
 abbrev IsDone : Ending → List Capture → List Capture → List ℕ → List ℕ → World → World → Type 0
 IsDone e captures new text out left w = (text ≡ put_out captures out) × ((answer_by e w ≡ Ok left) × (new ≡ put_in captures out))
 
-ended_is : (e : Ending) (captures new : List Capture) (text out : List ℕ) (left w : World) →
-    final text (Finished new left) ≡ final (put_out captures out) (Finished (put_in captures out) w) →
+ended_is : (e : Ending) (us vs : List Val) (captures new : List Capture) (text out : List ℕ) (left w : World) →
+    final text (Finished us new left) ≡ final (put_out captures out) (Finished vs (put_in captures out) w) →
     answer_by e w ≡ Ok w → IsDone e captures new text out left w
-ended_is e captures new text out left w same answer =
-    let ends : Finished new left ≡ Finished (put_in captures out) w = ap (λ (o : Final). o.end) same in
+ended_is e us vs captures new text out left w same answer =
+    let ends : Finished us new left ≡ Finished vs (put_in captures out) w = ap (λ (o : Final). o.end) same in
     let world : w ≡ left = cc in
     (ap (λ (o : Final). o.text) same, (answer ∙ ap (λ x. Ok x) world, let a : new ≡ put_in captures out = cc in a))
 
-finished_is : (e : Ending) (captures new : List Capture) (text out : List ℕ) (left w : World) →
-    final text (Finished new left) ≡ final_by e captures out w → IsDone e captures new text out left w
-finished_is done captures new text out left w same = ended_is done captures new text out left w same refl
-finished_is leave captures new text out left w same = ended_is leave captures new text out left w same refl
-finished_is next captures new text out left w same = ended_is next captures new text out left w same refl
-finished_is (fault chain) captures new text out left w same = let ends : Finished new left
+finished_is : (e : Ending) (us : List Val) (captures new : List Capture) (text out : List ℕ) (left w : World) →
+    final text (Finished us new left) ≡ final_by e captures out w → IsDone e captures new text out left w
+finished_is (done vs) us captures new text out left w same = ended_is (done vs) us vs captures new text out left w same refl
+finished_is leave us captures new text out left w same = ended_is leave us [] captures new text out left w same refl
+finished_is next us captures new text out left w same = ended_is next us [] captures new text out left w same refl
+finished_is (fault chain) us captures new text out left w same = let ends : Finished us new left
     ≡ Failed chain w = ap (λ (o : Final). o.end) same in absurd (cc)
 
-not_failed : (captures : List Capture) (text out : List ℕ) (left w : World) (answer : List ErrorKind) (e : Ending) →
-    final text (Failed answer left) ≡ final (put_out captures out) (Finished (put_in captures out) w) →
+-- the operands that are left are the values that are meant
+operands_are : (e : Ending) (us : List Val) (captures new : List Capture) (text out : List ℕ) (left w : World) →
+    final text (Finished us new left) ≡ final_by e captures out w → us ≡ left_by e
+operands_are (done vs) us captures new text out left w same =
+    let ends : Finished us new left ≡ Finished vs (put_in captures out) w = ap (λ (o : Final). o.end) same in cc
+operands_are leave us captures new text out left w same =
+    let ends : Finished us new left ≡ Finished [] (put_in captures out) w = ap (λ (o : Final). o.end) same in cc
+operands_are next us captures new text out left w same =
+    let ends : Finished us new left ≡ Finished [] (put_in captures out) w = ap (λ (o : Final). o.end) same in cc
+operands_are (fault chain) us captures new text out left w same =
+    let ends : Finished us new left ≡ Failed chain w = ap (λ (o : Final). o.end) same in absurd (cc)
+
+not_failed : (vs : List Val) (captures : List Capture) (text out : List ℕ) (left w : World) (answer : List ErrorKind) (e : Ending) →
+    final text (Failed answer left) ≡ final (put_out captures out) (Finished vs (put_in captures out) w) →
     (text ≡ put_out captures out) × ((answer_by e w ≡ Err answer) × (w ≡ left))
-not_failed captures text out left w answer e same = let ends : Failed answer left
-    ≡ Finished (put_in captures out) w = ap (λ (o : Final). o.end) same in absurd (cc)
+not_failed vs captures text out left w answer e same = let ends : Failed answer left
+    ≡ Finished vs (put_in captures out) w = ap (λ (o : Final). o.end) same in absurd (cc)
 
 failed_is : (e : Ending) (captures : List Capture) (text out : List ℕ) (left w : World) (answer : List ErrorKind) →
     final text (Failed answer left) ≡ final_by e captures out w →
     (text ≡ put_out captures out) × ((answer_by e w ≡ Err answer) × (w ≡ left))
-failed_is done captures text out left w answer same = not_failed captures text out left w answer done same
-failed_is leave captures text out left w answer same = not_failed captures text out left w answer leave same
-failed_is next captures text out left w answer same = not_failed captures text out left w answer next same
+failed_is (done vs) captures text out left w answer same = not_failed vs captures text out left w answer (done vs) same
+failed_is leave captures text out left w answer same = not_failed [] captures text out left w answer leave same
+failed_is next captures text out left w answer same = not_failed [] captures text out left w answer next same
 failed_is (fault chain) captures text out left w answer same =
     let ends : Failed answer left ≡ Failed chain w = ap (λ (o : Final). o.end) same in
     let world : w ≡ left = cc in
@@ -77,24 +90,24 @@ failed_is (fault chain) captures text out left w answer same =
 
 not_stuck : (e : Ending) (captures : List Capture) (text out : List ℕ) (left w : World) →
     final text (Stuck left) ≡ final_by e captures out w → ⊥
-not_stuck done captures text out left w same = let ends : Stuck left
-    ≡ Finished (put_in captures out) w = ap (λ (o : Final). o.end) same in absurd (cc)
+not_stuck (done vs) captures text out left w same = let ends : Stuck left
+    ≡ Finished vs (put_in captures out) w = ap (λ (o : Final). o.end) same in absurd (cc)
 not_stuck leave captures text out left w same = let ends : Stuck left
-    ≡ Finished (put_in captures out) w = ap (λ (o : Final). o.end) same in absurd (cc)
+    ≡ Finished [] (put_in captures out) w = ap (λ (o : Final). o.end) same in absurd (cc)
 not_stuck next captures text out left w same = let ends : Stuck left
-    ≡ Finished (put_in captures out) w = ap (λ (o : Final). o.end) same in absurd (cc)
+    ≡ Finished [] (put_in captures out) w = ap (λ (o : Final). o.end) same in absurd (cc)
 not_stuck (fault chain) captures text out left w same = let ends : Stuck left
     ≡ Failed chain w = ap (λ (o : Final). o.end) same in absurd (cc)
 
 -- ---------------------------------------------------------------- beds
 heard_air : (e : Ending) (out : List ℕ) (w : World) → end_by e air out w ≡ final_by e [] out w
-heard_air done out w = refl
+heard_air (done vs) out w = refl
 heard_air leave out w = refl
 heard_air next out w = refl
 heard_air (fault chain) out w = refl
 
 heard_inside : (e : Ending) (out : List ℕ) (w : World) → end_by e (inside true [] []) out w ≡ final_by e (new_capture true ∷ []) out w
-heard_inside done out w = refl
+heard_inside (done vs) out w = refl
 heard_inside leave out w = refl
 heard_inside next out w = refl
 heard_inside (fault chain) out w = refl
@@ -125,10 +138,16 @@ module _ (p : Program) (trees : Trees) (compiled : IsCompiled trees p) (captures
   written : (text : List ℕ) → text ≡ put_out captures m.text → Appends told now text → Appends told now (put_out captures m.text)
   written text same appended = subst (λ t. Appends told now t) same appended
 
-  pub run_done : IsFresh captures → ComesTo (Finished new left) → count ≡ failures → Ran m (Ok new) left captures told now failures count
-  run_done fresh (text, appended, reaches) counted =
-      let same = finished_is m.ending captures new text m.text left m.world (one_end reaches (reached fresh)) in
+  pub run_done : (us : List Val) → IsFresh captures → ComesTo (Finished us new left) → count ≡ failures →
+      Ran m (Ok new) left captures told now failures count
+  run_done us fresh (text, appended, reaches) counted =
+      let same = finished_is m.ending us captures new text m.text left m.world (one_end reaches (reached fresh)) in
       run_as_meant same.1 (written text same.0 appended) counted
+
+  -- and the machine's operands are the values that are left
+  pub run_leaves : (us : List Val) → IsFresh captures → ComesTo (Finished us new left) → us ≡ left_of m
+  run_leaves us fresh (text, appended, reaches) =
+      operands_are m.ending us captures new text m.text left m.world (one_end reaches (reached fresh))
 
   pub run_halted : (why : Halt) → IsFresh captures → HaltsAs why left ComesTo →
       WroteBeginning p (base_of true captures w)

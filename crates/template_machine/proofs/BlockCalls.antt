@@ -7,7 +7,7 @@ use Rattle.tm_output.specs.Counts.{AppendsBeginning}
 use Rattle.tm_output.specs.Pieces.{appends_nothing, beginning_nothing}
 use Rattle.tm_meaning.specs.Memory.{is_want_of_memory}
 use Rattle.tm_meaning.specs.World.{World, HostValue}
-use Rattle.tm_meaning.specs.Tree.{Trees, empty}
+use Rattle.tm_meaning.specs.Tree.{Trees, statements, empty}
 use Rattle.tm_meaning.specs.declared.stream.StreamId.{StreamId}
 use Rattle.tm_meaning.specs.Calls.{NestedCall, block_call, enter_block, refused, undone, whole}
 use Rattle.tm_meaning.specs.Machine.{Capture, new_capture, put_in, put_out}
@@ -28,7 +28,7 @@ use Rattle.template_machine.specs.Renders.{Ran, run_as_meant, run_by_writer, run
 -- ---------------------------------------------------------------- ends
 -- the world of an end that is done
 left_by : (e : Ending) (x left : World) → answer_by e x ≡ Ok left → x ≡ left
-left_by done x left is = cc is
+left_by (done vs) x left is = cc is
 left_by leave x left is = cc is
 left_by next x left is = cc is
 left_by (fault chain) x left is = absurd (cc is)
@@ -36,7 +36,7 @@ left_by (fault chain) x left is = absurd (cc is)
 -- ---------------------------------------------------------------- what a block means
 module _ (host : HostValue) (trees : Trees) (b : List ℕ) (w : World) where
   abbrev u : Under
-  u = under host (nests_of host trees (host.limit + 1)) empty
+  u = under host (nests_of host trees (host.limit + 1)) (statements empty)
 
   abbrev run : Run
   run = new_run true w
@@ -68,25 +68,25 @@ module _ (s : StreamId) (w : World) (run : Run) (o : Outcome) where
   c = block_call s w
 
   done_behind : (e : Ending) (left : World) → answer_by e o.world ≡ Ok left → answer_of (behind e c run o) ≡ Ok (undone c.undo left)
-  done_behind done left is = ap (λ x. Ok (undone c.undo x)) (left_by done o.world left is)
+  done_behind (done vs) left is = ap (λ x. Ok (undone c.undo x)) (left_by (done vs) o.world left is)
   done_behind leave left is = ap (λ x. Ok (undone c.undo x)) (left_by leave o.world left is)
   done_behind next left is = ap (λ x. Ok (undone c.undo x)) (left_by next o.world left is)
   done_behind (fault chain) left is = absurd (cc is)
 
   fault_behind : (e : Ending) (chain : List ErrorKind) → answer_by e o.world ≡ Err chain → answer_of (behind e c run o) ≡ Err chain
-  fault_behind done chain is = absurd (cc is)
+  fault_behind (done vs) chain is = absurd (cc is)
   fault_behind leave chain is = absurd (cc is)
   fault_behind next chain is = absurd (cc is)
   fault_behind (fault why) chain is = let same : why ≡ chain = cc is in ap (λ x. Err x) same
 
   text_behind : (e : Ending) → (behind e c run o).text ≡ o.text
-  text_behind done = refl
+  text_behind (done vs) = refl
   text_behind leave = refl
   text_behind next = refl
   text_behind (fault chain) = refl
 
   world_behind : (e : Ending) → (behind e c run o).world ≡ undone c.undo o.world
-  world_behind done = refl
+  world_behind (done vs) = refl
   world_behind leave = refl
   world_behind next = refl
   world_behind (fault chain) = refl

@@ -27,14 +27,14 @@ module _ {O : Type 0} (stated : O → StatedObjects) (t : TemplateValue O) (capt
   abbrev m : Outcome
   m = meaning_from stated t w
 
-  pub over_done : (kept : List Capture) (put : World) → new ≡ kept → left ≡ put →
-      ReachesEnd p (base_of true config.captures config.world) config told now (Finished new left) → count ≡ failures →
+  pub over_done : (us : List Val) (kept : List Capture) (put : World) → new ≡ kept → left ≡ put →
+      ReachesEnd p (base_of true config.captures config.world) config told now (Finished us new left) → count ≡ failures →
       Ran m (Ok kept) put captures told now failures count
-  over_done kept put is there comes counted =
+  over_done us kept put is there comes counted =
       subst (λ ks. Ran m (Ok ks) put captures told now failures count) is
       (subst (λ x. Ran m (Ok new) x captures told now failures count) there
-      (run_done p (trees t) (λ s. refl) captures new w left told now failures count fresh
-      (subst (λ (c : Config). ReachesEnd p (base_of true c.captures c.world) c told now (Finished new left)) begins comes) counted))
+      (run_done p (trees t) (λ s. refl) captures new w left told now failures count us fresh
+      (subst (λ (c : Config). ReachesEnd p (base_of true c.captures c.world) c told now (Finished us new left)) begins comes) counted))
 
   pub over_halted : (why : Halt) (put : World) → left ≡ put →
       HaltsAs why left (ReachesEnd p (base_of true config.captures config.world) config told now) →

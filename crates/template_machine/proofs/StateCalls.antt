@@ -39,40 +39,40 @@ abbrev taking : List ℕ → List Capture
 taking text = captures_with one text
 
 -- ---------------------------------------------------------------- ends
-done_as : (new : List Capture) (t out : List ℕ) (left x : World) →
-    final t (Finished new left) ≡ final [] (Finished (taking out) x) → (x ≡ left) × (new ≡ taking out)
-done_as new t out left x same =
-    let ends : Finished new left ≡ Finished (taking out) x = ap (λ (o : Final). o.end) same in
+done_as : (us vs : List Val) (new : List Capture) (t out : List ℕ) (left x : World) →
+    final t (Finished us new left) ≡ final [] (Finished vs (taking out) x) → (x ≡ left) × (new ≡ taking out)
+done_as us vs new t out left x same =
+    let ends : Finished us new left ≡ Finished vs (taking out) x = ap (λ (o : Final). o.end) same in
     let world : x ≡ left = cc in
     let captures : new ≡ taking out = cc in (world, captures)
 
-done_by : (e : Ending) (new : List Capture) (t out : List ℕ) (left x : World) →
-    final t (Finished new left) ≡ final [] (end_by e (taking out) x) → (answer_by e x ≡ Ok left) × (new ≡ taking out)
-done_by done new t out left x same = let d = done_as new t out left x same in (ap (λ w. Ok w) d.0, d.1)
-done_by leave new t out left x same = let d = done_as new t out left x same in (ap (λ w. Ok w) d.0, d.1)
-done_by next new t out left x same = let d = done_as new t out left x same in (ap (λ w. Ok w) d.0, d.1)
-done_by (fault chain) new t out left x same =
-    let ends : Finished new left ≡ Failed chain x = ap (λ (o : Final). o.end) same in absurd (cc)
+done_by : (e : Ending) (us : List Val) (new : List Capture) (t out : List ℕ) (left x : World) →
+    final t (Finished us new left) ≡ final [] (end_by e (taking out) x) → (answer_by e x ≡ Ok left) × (new ≡ taking out)
+done_by (done vs) us new t out left x same = let d = done_as us vs new t out left x same in (ap (λ w. Ok w) d.0, d.1)
+done_by leave us new t out left x same = let d = done_as us [] new t out left x same in (ap (λ w. Ok w) d.0, d.1)
+done_by next us new t out left x same = let d = done_as us [] new t out left x same in (ap (λ w. Ok w) d.0, d.1)
+done_by (fault chain) us new t out left x same =
+    let ends : Finished us new left ≡ Failed chain x = ap (λ (o : Final). o.end) same in absurd (cc)
 
-no_fault : {A : Type 0} (t out : List ℕ) (left x : World) (chain : List ErrorKind) →
-    final t (Failed chain left) ≡ final [] (Finished (taking out) x) → A
-no_fault t out left x chain same =
-    let ends : Failed chain left ≡ Finished (taking out) x = ap (λ (o : Final). o.end) same in absurd (cc)
+no_fault : {A : Type 0} (vs : List Val) (t out : List ℕ) (left x : World) (chain : List ErrorKind) →
+    final t (Failed chain left) ≡ final [] (Finished vs (taking out) x) → A
+no_fault vs t out left x chain same =
+    let ends : Failed chain left ≡ Finished vs (taking out) x = ap (λ (o : Final). o.end) same in absurd (cc)
 
 failed_by : (e : Ending) (t out : List ℕ) (left x : World) (chain : List ErrorKind) →
     final t (Failed chain left) ≡ final [] (end_by e (taking out) x) → (e ≡ fault chain) × (x ≡ left)
-failed_by done t out left x chain same = no_fault t out left x chain same
-failed_by leave t out left x chain same = no_fault t out left x chain same
-failed_by next t out left x chain same = no_fault t out left x chain same
+failed_by (done vs) t out left x chain same = no_fault vs t out left x chain same
+failed_by leave t out left x chain same = no_fault [] t out left x chain same
+failed_by next t out left x chain same = no_fault [] t out left x chain same
 failed_by (fault why) t out left x chain same =
     let ends : Failed chain left ≡ Failed why x = ap (λ (o : Final). o.end) same in
     let chains : why ≡ chain = cc in
     let world : x ≡ left = cc in (ap (λ c. fault c) chains, world)
 
 not_stuck : {A : Type 0} (e : Ending) (t out : List ℕ) (left x : World) → final t (Stuck left) ≡ final [] (end_by e (taking out) x) → A
-not_stuck done t out left x same = let ends : Stuck left ≡ Finished (taking out) x = ap (λ (o : Final). o.end) same in absurd (cc)
-not_stuck leave t out left x same = let ends : Stuck left ≡ Finished (taking out) x = ap (λ (o : Final). o.end) same in absurd (cc)
-not_stuck next t out left x same = let ends : Stuck left ≡ Finished (taking out) x = ap (λ (o : Final). o.end) same in absurd (cc)
+not_stuck (done vs) t out left x same = let ends : Stuck left ≡ Finished vs (taking out) x = ap (λ (o : Final). o.end) same in absurd (cc)
+not_stuck leave t out left x same = let ends : Stuck left ≡ Finished [] (taking out) x = ap (λ (o : Final). o.end) same in absurd (cc)
+not_stuck next t out left x same = let ends : Stuck left ≡ Finished [] (taking out) x = ap (λ (o : Final). o.end) same in absurd (cc)
 not_stuck (fault why) t out left x same = let ends : Stuck left ≡ Failed why x = ap (λ (o : Final). o.end) same in absurd (cc)
 
 -- ---------------------------------------------------------------- a run in a capture
@@ -93,8 +93,8 @@ module _ {O : Type 0} (stated : O → StatedObjects) (t : TemplateValue O) (k : 
   abbrev Meant : End → Type 0
   Meant e = ComesTo p (base_of true one w) (begins p (base_of true one w) k one w) told now e
 
-  pub run_done : (new : List Capture) → Meant (Finished new left) → (answer_of o ≡ Ok left) × (new ≡ taking o.text)
-  run_done new (text, appended, reaches) = done_by o.ending new text o.text left o.world (one_end reaches reached)
+  pub run_done : (us : List Val) (new : List Capture) → Meant (Finished us new left) → (answer_of o ≡ Ok left) × (new ≡ taking o.text)
+  run_done us new (text, appended, reaches) = done_by o.ending us new text o.text left o.world (one_end reaches reached)
 
   run_failed : (chain : List ErrorKind) → Meant (Failed chain left) → (o.ending ≡ fault chain) × (o.world ≡ left)
   run_failed chain (text, appended, reaches) = failed_by o.ending text o.text left o.world chain (one_end reaches reached)
@@ -127,12 +127,12 @@ module _ {O : Type 0} (stated : O → StatedObjects) (t r : TemplateValue O) (sa
       of_first e (subst (λ n. ComesTo p base n told now e) first (subst (λ c. Comes r c e) at comes))
 
   pub over_done : (config : Config) → config ≡ running config.run captures w → first_run (of r) k (length captures) ≡ Some config.run →
-      (new kept : List Capture) (put : World) → new ≡ kept → left ≡ put → Comes r config (Finished new left) →
+      (us : List Val) (new kept : List Capture) (put : World) → new ≡ kept → left ≡ put → Comes r config (Finished us new left) →
       RanApart (Ok kept) (callee_run stated t k w) put
-  over_done config at first new kept put is there comes =
+  over_done config at first us new kept put is there comes =
       subst (λ ks. RanApart (Ok ks) (callee_run stated t k w) put) is
       (subst (λ x. RanApart (Ok new) (callee_run stated t k w) x) there
-      (run_done stated t k w left told now new (of_template config at first (Finished new left) comes)))
+      (run_done stated t k w left told now us new (of_template config at first (Finished us new left) comes)))
 
   by_halt : (why : Halt) → 0 ≡ failures_after {A = Unit {0}} (Err why) 0 → HaltsAs why left (Starts t one) →
       RanApart (Err why) (callee_run stated t k w) left
@@ -190,7 +190,7 @@ module _ {O : Type 0} (stated : O → StatedObjects) (t : TemplateValue O) (e : 
 
   value_by : (end : Ending) (c : NestedCall) (x : Outcome) (text : List ℕ) → text ≡ x.text → answer_by end x.world ≡ Ok left →
       value_behind end c x ≡ Good (run_value c.text text (undone c.undo left)) (undone c.undo left)
-  value_by done c x text same is =
+  value_by (done vs) c x text same is =
       let world : x.world ≡ left = cc is in rw (sym world, same) refl
   value_by leave c x text same is =
       let world : x.world ≡ left = cc is in rw (sym world, same) refl

@@ -16,7 +16,7 @@ use Rattle.tm_meaning.specs.World.{Bindings, HostValue, Template, World, name_of
 use Rattle.tm_meaning.specs.Tree.{TemplateTree, Trees, template_of, trees_of}
 use Rattle.tm_tables.specs.Language.{language_globals}
 use Rattle.tm_tables.specs.Stated.{Table, StatedObjects, language_functions, with_object, next_number}
-use Rattle.tm_templates.specs.Templates.{Compiled, IsTemplate, empty_template, tree_of}
+use Rattle.tm_templates.specs.Templates.{Compiled, IsExpression, IsTemplate, empty_template, tree_of}
 use Rattle.tm_templates.specs.declared.defaults.EscapeSetting.{EscapeSetting}
 use Rattle.tm_templates.specs.declared.defaults.EscapeSetting.TheVariants as escapes
 
@@ -146,3 +146,7 @@ code t s = code_of (trees t s)
 abbrev pub meant : {O : Type 0} → TemplateValue O → TemplateId → Compiled
 meant t Own = t.template
 meant t (Entry x) = or_is (find x t.environment.templates) t.template
+
+-- The expression is what a source is, of the environment.
+abbrev pub IsExpressionIn : {O : Type 0} → EnvironmentValue O → List ℕ → TemplateValue O → Type 0
+IsExpressionIn e source x = (x.environment ≡ e) × (x.id ≡ Own) × IsExpression source x.template

@@ -10,13 +10,14 @@ use Rattle.tm_values.specs.declared.error.ErrorKind.{ErrorKind}
 use Rattle.tm_values.specs.declared.error.ErrorKind.TheVariants.{InvalidOperation, WriteFailure}
 use Rattle.tm_syntax.specs.Named.{put}
 use Rattle.tm_definitions.specs.Emitted.{text_answer}
+use Rattle.tm_definitions.specs.Mapped.{with_maps}
 use Rattle.tm_meaning.specs.World.{World, Res, Good, Bad, HostValue, answered, bind, records_of}
 use Rattle.tm_meaning.specs.Calls.{Asked, has, refused, runs, recurs, Callee, by_depths, named_call}
 use Rattle.tm_tables.specs.Stated.{StatedObjects}
 use Rattle.tm_meaning.specs.declared.stream.StreamId.{StreamId}
 use Rattle.tm_meaning.specs.declared.stream.TemplateId.TheVariants.{Own}
 use Rattle.tm_meaning.specs.Machine.{Capture, new_capture, put_in, put_out}
-use Rattle.tm_meaning.specs.Meaning.{Ending, fault, Outcome, first_world, nests_of, rendered, rendered_block, value_behind}
+use Rattle.tm_meaning.specs.Meaning.{Ending, fault, Outcome, evaluated, first_world, nests_of, rendered, rendered_block, value_behind}
 use Rattle.tm_state.specs.Answers.{HasOneMore}
 use Rattle.tm_state.specs.State.{runs_block, saved_of}
 use Rattle.tm_state.specs.declared.saved.SavedBlock.{SavedBlock}
@@ -224,3 +225,22 @@ pub data BlockWritten (m : Outcome) (result : Result (Unit {0}) (List ErrorKind)
       BlockWritten m result left told now failures count
   block_by_memory : IsMemory result → AppendsBeginning told now m.text → count ≡ failures →
       BlockWritten m result left told now failures count
+
+-- ---------------------------------------------------------------- expressions
+-- a value with its namespaces as maps, in the world that is left
+abbrev pub maps_in : Res Val → Res Val
+maps_in m = bind m (λ v w. answered (with_maps (records_of w) v) w)
+
+-- What an expression means, evaluated as the state of this number over this context value.
+abbrev pub value_meant : {O : Type 0} → (O → StatedObjects) → TemplateValue O → World → Res Val
+value_meant stated t w = maps_in (evaluated (host_of stated t) (trees t) w)
+
+-- The answer is the value that was meant, or an error of its chain.
+abbrev pub IsValue : Result Val (List ErrorKind) → Res Val → Type 0
+IsValue (Ok v) m = (w : World) × (m ≡ Good v w)
+IsValue (Err chain) m = (w : World) × (m ≡ Bad chain w)
+
+-- How an evaluation ended: as was meant, or since no memory was found.
+pub data Evaluated (m : Res Val) (result : Result Val (List ErrorKind)) : Type 0 where
+  value_as_meant : IsValue result m → Evaluated m result
+  value_by_memory : IsMemory result → Evaluated m result

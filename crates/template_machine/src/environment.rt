@@ -5,17 +5,18 @@ ghost use Rattle.tm_syntax.specs.Named.{find, put, without};
 ghost use Rattle.tm_tables.specs.Places.{AreOrdered};
 ghost use Rattle.tm_tables.specs.Stated.{no_functions, with_filter, without_filter, with_test, without_test};
 ghost use Rattle.tm_tables.specs.Stated.{with_escaping, with_fallback, with_formatter, with_joining};
-ghost use Rattle.tm_templates.specs.Templates.{empty_template, Compiled, IsRefused};
+ghost use Rattle.tm_templates.specs.Templates.{empty_template, Compiled, IsRefused, IsRefusedExpression};
 ghost use Rattle.tm_values.specs.Answer.{IsLent, OkOrOutOfMemory};
 ghost use Rattle.tm_values.specs.Val.{function};
 ghost use Rattle.std.specs.Prelude.{string_bytes};
 ghost use Rattle.tm_templates.specs.Sources.{source_bytes};
 ghost use Rattle.template_machine.specs.Renders.{greatest, idle, IsUnnumbered, RenderedSource};
-ghost use Rattle.template_machine.specs.Environment.{IsTemplateOf, IsEntryOf, IsMadeIn, empty_environment};
+ghost use Rattle.template_machine.specs.Environment.{IsExpressionIn, IsTemplateOf, IsEntryOf, IsMadeIn, empty_environment};
 ghost use Rattle.template_machine.specs.Environment.{new_environment, with_function, with_global, with_objects};
 ghost use Rattle.template_machine.specs.Environment.{entries_of, greatest_limit, unknown_template};
 
 use crate::entries::{Globals, TemplatesOf};
+use crate::expression::ExpressionOf;
 use crate::ids::StateIds;
 use crate::rendering::Rendering;
 use crate::state::StateOf;
@@ -368,6 +369,39 @@ impl<'source, O: Parties> EnvironmentOf<'source, O> {
         let template = self.compile(name, Source::Lent(source))?;
         let owned = Box::new(self.alloc, template)?;
         Ok(TemplateOf::new(self, TemplateRef::Owned(owned)))
+    }
+
+    /// Compiles an expression's source, without delimiters, under the name `<expression>`; nothing that it writes is
+    /// escaped. SyntaxError where the source spells no expression, OutOfMemory.
+    pub fn compile_expression(
+        &self,
+        source: &'source str,
+    ) -> Result<ExpressionOf<'_, 'source, O>, Error>
+        ensures compiled { IfOk result (IsExpressionIn self.now source.entry.now) }
+        ensures refused { IfErr result (IsRefusedExpression source.entry.now) }
+    {
+        self.expression(Source::Lent(source))
+    }
+
+    /// The same of a source that the expression owns.
+    pub fn compile_expression_owned(
+        &self,
+        source: String,
+    ) -> Result<ExpressionOf<'_, 'source, O>, Error>
+        ensures compiled { IfOk result (IsExpressionIn self.now (string_bytes source.entry)) }
+        ensures refused { IfErr result (IsRefusedExpression (string_bytes source.entry)) }
+    {
+        self.expression(Source::owned(source)?)
+    }
+
+    /// Compiles an expression's source.
+    fn expression(&self, source: Source<'source>) -> Result<ExpressionOf<'_, 'source, O>, Error>
+        ensures compiled { IfOk result (IsExpressionIn self.now (source_bytes source.entry)) }
+        ensures refused { IfErr result (IsRefusedExpression (source_bytes source.entry)) }
+    {
+        let compiled = CompiledTemplate::expression(self.alloc, source)?;
+        let owned = Box::new(self.alloc, compiled)?;
+        Ok(ExpressionOf::new(self, owned))
     }
 
     /// Renders a source, which the environment doesn't keep, under the name `<string>`, as `render_named_str` does.

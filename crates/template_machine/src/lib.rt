@@ -3,6 +3,7 @@
 
 mod entries;
 mod environment;
+mod expression;
 mod formatting;
 mod ids;
 mod rendering;
@@ -11,6 +12,7 @@ mod template;
 
 pub use entries::{Globals, Templates, TemplatesOf};
 pub use environment::{BoxedObjects, Environment, EnvironmentOf};
+pub use expression::{Expression, ExpressionOf};
 pub use formatting::escape_formatter;
 pub use ids::StateIds;
 pub use state::{Captured, CapturedOf, State, StateOf};
@@ -19,6 +21,7 @@ pub use tm_compiler::{
     Application, Argument, BinaryOperator, CallBlock, Comparison, Condition, Expr, ForLoop,
     Imported, Instruction, Keyword, Macro, Name, NameMap, Pair, Parameter, RawText, Step, Stmt,
     Streams, SyntaxConfig, SyntaxConfigBuilder, Tree, UnaryOperator, generate, parse,
+    parse_expr,
 };
 pub use tm_meaning::{Call, GlobalFunction, Reply};
 pub use tm_operations as operations;

@@ -2,7 +2,7 @@
 ghost use Rattle.std.specs.Prelude.{◌≡◌, [], ◌∷◌, IfErr, IfOk};
 ghost use Rattle.tm_state.specs.Answers.{KeepsFixed};
 ghost use Rattle.template_machine.specs.Environment.{meant, unknown_template};
-ghost use Rattle.template_machine.specs.Renders.{first, meaning_from, IsFresh, Ran};
+ghost use Rattle.template_machine.specs.Renders.{first, meaning_from, value_meant, Evaluated, IsFresh, Ran};
 ghost use Rattle.template_machine.specs.TemplateRef.{entry_id, own_template};
 ghost use Rattle.tm_values.specs.Answer.{OkOrOutOfMemory};
 ghost use Rattle.tm_vm.specs.Answers.{NoFewer};
@@ -11,7 +11,8 @@ use crate::environment::EnvironmentOf;
 use std::alloc::Global;
 use std::marker::Model;
 use tm_meaning::{StreamId, TemplateId};
-use tm_parts::{Captures, Halt, Sink};
+use tm_operations::with_maps;
+use tm_parts::{Captures, Halt, NullWriter, Sink};
 use tm_state::StateData;
 use tm_syntax::{Code, Name, NameMap};
 use tm_tables::{CallableAnswer, Called, Host, NO_PLACE, Parties, TemplateEntry, View};
@@ -189,6 +190,23 @@ impl<O: Parties> Rendering<'_, O> {
             Ok(()) => Ok(captures),
             Err(halt) => Err(halt),
         }
+    }
+}
+
+impl<O: Parties> Rendering<'_, O> {
+    /// The value of the expression whose stream a state names, with its namespaces as maps.
+    pub(crate) fn evaluate(&self, mut state: StateData) -> Result<Value, Error>
+        ensures { Evaluated (value_meant O.stated self.now state.entry) result }
+    {
+        let alloc = self.allocator();
+        let stream = state.stream().share()?;
+        let mut machine = Machine::new(alloc, stream, Captures::new(alloc), state.take(alloc));
+        machine.run(alloc, self, true, &mut NullWriter)?;
+        let Some(value) = machine.take_value() else {
+            return Err(Error::from(ErrorKind::InvalidOperation));
+        };
+        let (_captures, left) = machine.into_parts();
+        with_maps(alloc, &value, &left)
     }
 }
 

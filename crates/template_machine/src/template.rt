@@ -1,8 +1,7 @@
 //! Templates of an environment.
 ghost use Rattle.std.specs.BTreeSet.{keys};
 ghost use Rattle.std.specs.Prelude.{◌≡◌, ◌+◌, ◌<◌, [], ◌∷◌, Err, IfOk, IfErr, map as each, string_bytes};
-ghost use Rattle.tm_syntax.specs.Names.{undeclared};
-ghost use Rattle.tm_syntax.specs.declared.tree.Stmt.TheBlock.{hidden-the_row-Stmt-0 as statements};
+ghost use Rattle.tm_syntax.specs.Names.{undeclared_in};
 ghost use Rattle.tm_meaning.specs.World.{root_of};
 ghost use Rattle.template_machine.specs.TemplateRef.{entry_id, held_id, held_template, IsHeldOf};
 ghost use Rattle.template_machine.specs.Environment.{meant};
@@ -106,7 +105,7 @@ impl<'env, 'source, O: Drop> TemplateOf<'env, 'source, O> {
     /// nested in them, as `a.b.c`, where that is asked for. OutOfMemory where there is no memory.
     pub fn undeclared_variables(&self, nested: bool) -> Result<BTreeSet<String>, Error>
         ensures ok { IfOk result (λ names. each string_bytes (keys names)
-            ≡ undeclared nested (statements self.now.template.tree.statements)) }
+            ≡ undeclared_in nested self.now.template.tree) }
         ensures memory { IfErr result (λ e. e ≡ ErrorKind.OutOfMemory ∷ []) }
     {
         self.compiled()

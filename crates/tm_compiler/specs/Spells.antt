@@ -3,8 +3,8 @@ use Rattle.std.specs.Prelude.{ℕ, List}
 use Rattle.tm_syntax.specs.declared.token.Token.{Token}
 use Rattle.tm_syntax.specs.declared.tree.Tree.{Tree}
 use Rattle.tm_delimiters.specs.Syntax.{Syntax}
-use Rattle.tm_scanner.specs.Spells.{SpellsTokens}
-use Rattle.tm_parser.specs.Template.{SpellsTemplate}
+use Rattle.tm_scanner.specs.Spells.{SpellsParts, SpellsTokens}
+use Rattle.tm_parser.specs.Template.{SpellsExpression, SpellsTemplate}
 
 -- The source is these tokens, by the delimiters, and they are the tree.
 pub record Spells (syntax : Syntax) (source : List ℕ) (tree : Tree) : Type 0 where
@@ -14,3 +14,12 @@ pub record Spells (syntax : Syntax) (source : List ℕ) (tree : Tree) : Type 0 w
 
 abbrev pub SpellsNone : Syntax → List ℕ → Type 0
 SpellsNone syntax source = (tree : Tree) → Spells syntax source tree → ⊥
+
+-- The source is these tokens, without delimiters, and they are the tree of one expression.
+pub record SpellsExpr (source : List ℕ) (tree : Tree) : Type 0 where
+  pub tokens : List Token
+  pub scanned : SpellsParts source tokens
+  pub parsed : SpellsExpression tokens tree
+
+abbrev pub SpellsNoExpr : List ℕ → Type 0
+SpellsNoExpr source = (tree : Tree) → SpellsExpr source tree → ⊥

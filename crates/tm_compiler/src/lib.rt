@@ -4,7 +4,7 @@
 mod source;
 mod streams;
 
-pub use source::{one_tree, parse};
+pub use source::{one_expr, one_tree, parse, parse_expr};
 pub use streams::{Streams, generate};
 pub use tm_scanner::{SyntaxConfig, SyntaxConfigBuilder};
 pub use tm_syntax::{

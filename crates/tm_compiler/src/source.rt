@@ -1,20 +1,20 @@
 //! A source as a tree.
 ghost use Rattle.std.specs.Prelude.{◌≡◌, ℕ, List, IfOk, IfErr};
 ghost use Rattle.std.specs.Rc.{rc_str_bytes};
-ghost use Rattle.tm_compiler.specs.Spells.{Spells, SpellsNone};
+ghost use Rattle.tm_compiler.specs.Spells.{Spells, SpellsExpr, SpellsNoExpr, SpellsNone};
 ghost use Rattle.tm_values.specs.Answer.{Refused};
 ghost use Rattle.tm_delimiters.specs.Syntax.{Syntax};
 ghost use Rattle.tm_syntax.specs.declared.tree.Tree.{Tree as Meant};
 
 use std::alloc::Global;
 use std::rc::RcStr;
-use tm_parser::parse_tokens;
-use tm_scanner::{SyntaxConfig, scan};
+use tm_parser::{parse_expr_tokens, parse_tokens};
+use tm_scanner::{SyntaxConfig, scan, scan_expr};
 use tm_syntax::Tree;
 use tm_values::Error;
 
-/// The tree that a source spells; its raw texts share the source. SyntaxError where it spells
-/// none; OutOfMemory for want of memory.
+/// The tree of the template that a source spells; its raw texts share the source. SyntaxError where it
+/// spells none; OutOfMemory for want of memory.
 pub fn parse(alloc: Global, source: &RcStr, syntax: &SyntaxConfig) -> Result<Tree, Error>
     ensures found { IfOk result (Spells syntax.now (rc_str_bytes source.now)) }
     ensures refused { IfErr result
@@ -24,10 +24,29 @@ pub fn parse(alloc: Global, source: &RcStr, syntax: &SyntaxConfig) -> Result<Tre
     parse_tokens(alloc, &tokens)
 }
 
-/// A source spells at most one tree.
+/// The tree of the expression that a source spells, without delimiters. SyntaxError where it spells none;
+/// OutOfMemory for want of memory.
+pub fn parse_expr(alloc: Global, source: &str) -> Result<Tree, Error>
+    ensures found { IfOk result (SpellsExpr source.now) }
+    ensures refused { IfErr result (λ e. Refused e (SpellsNoExpr source.now)) }
+{
+    let tokens = scan_expr(alloc, source)?;
+    parse_expr_tokens(alloc, &tokens)
+}
+
+/// A source spells at most one template's tree.
 pub fn one_tree()
     ensures { (syntax : Syntax) (source : List ℕ) (a b : Meant) →
         Spells syntax source a → Spells syntax source b → a ≡ b }
 {
     tm_parser::one_tree();
+}
+
+/// A source spells at most one expression's tree.
+pub fn one_expr()
+    ensures { (source : List ℕ) (a b : Meant) →
+        SpellsExpr source a → SpellsExpr source b → a ≡ b }
+{
+    tm_scanner::one_parts();
+    tm_parser::one_expr();
 }

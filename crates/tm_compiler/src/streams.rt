@@ -1,34 +1,35 @@
 //! The streams of a tree.
 ghost use Rattle.std.specs.Prelude.{◌≡◌, [], ◌∷◌, IfOk, IfErr};
-ghost use Rattle.tm_syntax.specs.Blocks.{blocks_in};
+ghost use Rattle.tm_syntax.specs.Blocks.{code_of, stream_blocks, stream_of};
 ghost use Rattle.tm_syntax.specs.BlockCodes.{compiled_blocks};
-ghost use Rattle.tm_syntax.specs.Code.{stream_code};
 ghost use Rattle.tm_syntax.specs.Named.{by_name};
-ghost use Rattle.tm_syntax.specs.declared.tree.Stmt.TheBlock.{hidden-the_row-Stmt-0 as statements};
 ghost use Rattle.tm_values.specs.declared.error.ErrorKind.TheVariants.{OutOfMemory};
 
 use std::alloc::Global;
-use tm_generator::stream;
+use tm_generator::{stream, value};
 use tm_syntax::{BlockCode, Code, NameMap, Tree};
 use tm_values::Error;
 
-/// The streams of a template.
+/// The streams of a template, or of an expression.
 #[derive(Drop)]
 pub struct Streams {
-    /// What a render runs.
+    /// What a render runs, or what the expression is evaluated by.
     pub root: Code,
-    /// What its blocks run, by name.
+    /// What its blocks run, by name; an expression has none.
     pub blocks: NameMap<BlockCode>,
 }
 
 /// The streams of a tree, which share its texts and literals; OutOfMemory.
 pub fn generate(alloc: Global, tree: &Tree) -> Result<Streams, Error>
-    ensures root { IfOk result (λ s. s.root ≡ stream_code (statements tree.now.statements)) }
+    ensures root { IfOk result (λ s. s.root ≡ code_of (stream_of tree.now)) }
     ensures blocks { IfOk result
-        (λ s. s.blocks ≡ by_name (compiled_blocks (blocks_in (statements tree.now.statements)))) }
+        (λ s. s.blocks ≡ by_name (compiled_blocks (stream_blocks (stream_of tree.now)))) }
     ensures err { IfErr result (λ e. e ≡ OutOfMemory ∷ []) }
 {
     let mut blocks = NameMap::new(alloc);
-    let root = stream(alloc, &mut blocks, tree.statements.as_slice())?;
+    let root = match tree {
+        Tree::Statements(statements) => stream(alloc, &mut blocks, statements.as_slice())?,
+        Tree::Expression(expr) => value(alloc, expr.get())?,
+    };
     Ok(Streams { root, blocks })
 }

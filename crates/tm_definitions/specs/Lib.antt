@@ -14,5 +14,6 @@ pub mod Printed
 pub mod Json
 pub mod Verdicts
 pub mod Emitted
+pub mod Mapped
 pub mod Concatenation
 pub mod Spread

@@ -3,6 +3,8 @@ use Rattle.std.specs.Prelude.{ℕ, List, [], ◌∷◌, Some, true, false, codes
 use Rattle.tm_values.specs.Val.{number, text}
 use Rattle.tm_syntax.specs.declared.instruction.Instruction.{Instruction}
 use Rattle.tm_syntax.specs.declared.instruction.Instruction.TheVariants as i
+use Rattle.tm_syntax.specs.declared.tree.Stmt.{end_of-Stmt as no_statement}
+use Rattle.tm_meaning.specs.Tree.{body_of}
 use Rattle.tm_meaning.specs.World.{TemplateId, own, entry}
 use Rattle.tm_meaning.specs.Calls.{whole}
 use Rattle.tm_meaning.specs.Machine.{Program, base_of}
@@ -14,7 +16,7 @@ use Rattle.tm_meaning.specs.FilterRows.{upper}
 -- A page without a tree, whose environment has the template p without one, and the filter `upper` by two names.
 abbrev pub with_parent : Page
 with_parent = record empty {
-  templates = template (codes "p") empty.body ∷ [];
+  templates = template (codes "p") (body_of no_statement) ∷ [];
   filters = (codes "other", upper) ∷ (codes "upper", upper) ∷ [];
 }
 

@@ -14,7 +14,7 @@ use Rattle.tm_syntax.specs.declared.tree.CaptureUse.TheVariants as uses
 use Rattle.tm_syntax.specs.declared.tree.Stmt.{Stmt, EmitExpr, EmitBlock, EmitSuper, Block', Extends, CaptureBlock', For', With'}
 use Rattle.tm_syntax.specs.declared.tree.Stmt.{end_of-Stmt as no_statement, more_of-Stmt as statement, None' as no_else}
 use Rattle.tm_syntax.specs.Forms.{plain, binary}
-use Rattle.tm_meaning.specs.Tree.{Body, TemplateTree}
+use Rattle.tm_meaning.specs.Tree.{Body, TemplateTree, statements}
 use Rattle.tm_meaning.specs.World.{Named, Object, World, callers, depth, name_of}
 use Rattle.tm_meaning.specs.Inheritance.{place_in}
 use Rattle.tm_meaning.specs.declared.reply.Reply.TheVariants.{Further as asks_for, Value as gives}
@@ -62,7 +62,7 @@ fault = EmitExpr (and_one (named (codes "y")) (Attribute (codes "z")))
 
 -- ---------------------------------------------------------------- pages among templates
 abbrev pub template_under : AutoEscape → List ℕ → Body → List ℕ × TemplateTree
-template_under escape name body = (name, record { name = name; escape = escape; root = body })
+template_under escape name body = (name, record { name = name; escape = escape; root = statements body })
 
 abbrev pub template : List ℕ → Body → List ℕ × TemplateTree
 template name body = template_under escapes.None name body

@@ -18,6 +18,7 @@ pub mod MacroTrees
 pub mod BlockTrees
 pub mod BlockRows
 pub mod IncludeTrees
+pub mod ExpressionRows
 pub mod SpreadRows
 pub mod ObjectRows
 pub mod OperatorRows

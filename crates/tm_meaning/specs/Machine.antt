@@ -53,9 +53,9 @@ pub record Config : Type 0 where
   pub captures : List Capture
   pub world : World
 
--- How a run ends: done, with the captures that are left; by a fault; or stuck, which only a stream does that no compiler wrote.
+-- How a run ends: done, with the operands and the captures that are left; by a fault; or stuck, which only a stream does that no compiler wrote.
 pub data End : Type 0 where
-  Finished : List Capture → World → End
+  Finished : List Val → List Capture → World → End
   Failed : List ErrorKind → World → End
   Stuck : World → End
 
@@ -213,14 +213,14 @@ nested_as_value p vs c k w =
 abbrev pub pushed : Val → Activation → Activation
 pushed v r = record r { operands = v ∷ r.operands }
 
--- what the end of a nested run leads to, behind what is put back
+-- what the end of a nested run leads to, behind what is put back; its operands are dropped
 abbrev pub back_with : Bool → RunText → Activation → List Capture → World → Next
 back_with false t r ks w = More [] (record { run = r; captures = ks; world = w })
 back_with true t r [] w = stuck w
 back_with true t r (k ∷ ks) w = More [] (record { run = pushed (run_value t k.text w) r; captures = ks; world = w })
 
 abbrev pub back_to : Back → End → Next
-back_to back (Finished ks w) = back_with back.value back.call.text back.run ks (undone back.call.undo w)
+back_to back (Finished vs ks w) = back_with back.value back.call.text back.run ks (undone back.call.undo w)
 back_to back (Failed chain w) = Over (Failed (wrapped back.call.wrap chain) (undone back.call.undo w))
 back_to back (Stuck w) = stuck (undone back.call.undo w)
 

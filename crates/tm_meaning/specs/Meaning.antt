@@ -34,7 +34,7 @@ use Rattle.tm_syntax.specs.Forms.{unary, chained, conditional, with_condition, w
 use Rattle.tm_syntax.specs.Forms.{spread_keywords, slice, binary, compare, and_then, or_else}
 use Rattle.tm_syntax.specs.Code.{count_targets, for_flags, pass_flags, macro_head}
 use Rattle.tm_syntax.specs.Fragments.{MacroHead}
-use Rattle.tm_syntax.specs.Loops.{passes, Numbers, first_numbers, within_loop, past, pasts, FoundLoop, loops_in, FoundMacro, macros_in}
+use Rattle.tm_syntax.specs.Loops.{passes, Numbers, first_numbers, within_loop, past, pasts, FoundLoop, stream_loops, FoundMacro, stream_macros}
 use Rattle.tm_meaning.specs.World.{choose, TemplateId, StreamId, root_of, World, HostValue, Res, Good, Bad, bind, answered, tick, ticked, looked_up}
 use Rattle.tm_meaning.specs.World.{template_at, emitted, escape_for, with_escape, captured_text, open_loop, next_turn}
 use Rattle.tm_meaning.specs.World.{cleared, items_over, store, set_member, unpacked_items, push, pop, plain_scope, enclose, own_closure}
@@ -43,7 +43,7 @@ use Rattle.tm_meaning.specs.Calls.{Callee, whole, macro_of, NestedCall, Asked, h
 use Rattle.tm_meaning.specs.Inheritance.{load, names_left}
 use Rattle.tm_meaning.specs.Calls.{enter_block, enter_super, enter_include, call_named}
 use Rattle.tm_meaning.specs.Calls.{applied, call_callee, call_innermost, own_blocks}
-use Rattle.tm_meaning.specs.Tree.{Body, empty, Trees}
+use Rattle.tm_meaning.specs.Tree.{StreamTree, statements, expression, empty, Trees}
 use Rattle.tm_meaning.specs.Operators.{truth, applied_unary, operated, applied_binary, attribute, item_at, slice_of}
 use Rattle.tm_meaning.specs.Operators.{list_of_values, map_of_pairs, listed, mapped, passed, turned, is_undefined}
 
@@ -56,10 +56,17 @@ pub record Run : Type 0 where
   pub inside : Bool
   pub parent : Option TemplateId
 
--- How statements end: done, by leaving a loop, by going on with its next item, or by a fault.
+-- How statements end: done, by leaving a loop, by going on with its next item, or by a fault. A run that is done has the values that it
+-- leaves: of statements none, of an expression its value.
 pub data Ending : Type 0 where
-  done leave next : Ending
+  done : List Val → Ending
+  leave next : Ending
   fault : List ErrorKind → Ending
+
+-- the values that are left
+abbrev pub left_by : Ending → List Val
+left_by (done vs) = vs
+left_by e = []
 
 -- An ending, the parent that waits then, the text heard so far, and the world that is left.
 pub record Outcome : Type 0 where
@@ -86,7 +93,7 @@ abbrev pub ended : Ending → Run → List ℕ → World → Outcome
 ended e run out w = record { ending = e; parent = run.parent; text = out; world = w }
 
 abbrev pub so_far : Run → List ℕ → World → Outcome
-so_far run out w = ended done run out w
+so_far run out w = ended (done []) run out w
 
 -- goes on with a value, or ends with the text so far
 abbrev pub use_it : {A : Type 0} → Res A → Run → List ℕ → (A → World → Outcome) → Outcome
@@ -95,7 +102,7 @@ use_it (Bad chain w) run out f = ended (fault chain) run out w
 
 -- goes on where the first is done
 abbrev pub on_done : Ending → Outcome → (Unit {0} → Outcome) → Outcome
-on_done done o f = f tt
+on_done (done vs) o f = f tt
 on_done leave o f = o
 on_done next o f = o
 on_done (fault chain) o f = o
@@ -410,7 +417,7 @@ closing close o = closing_by o.ending close o
 -- A capture: its text goes on; where its body left a loop or went on with the next item the text is dropped, behind the charge of the
 -- capture's end.
 abbrev pub captured_by : Ending → Outcome → Run → List ℕ → (Run → List ℕ → World → Outcome) → Outcome
-captured_by done o run out f = f run o.text o.world
+captured_by (done vs) o run out f = f run o.text o.world
 captured_by (fault chain) o run out f = ended (fault chain) run out o.world
 captured_by e o run out f = use_it (tick o.world) run out (λ _ world1. ended e run out world1)
 
@@ -561,17 +568,24 @@ new_run heard w = record { first = w.escape; heard = heard; inside = false; pare
 
 -- what is done, or a fault where its charge wasn't paid
 abbrev pub done_by : Res (Unit {0}) → Outcome → Outcome
-done_by (Good _ w) o = record o { ending = done; world = w }
+done_by (Good _ w) o = record o { ending = done []; world = w }
 done_by (Bad chain w) o = record o { ending = fault chain; world = w }
 
--- A stream's end: whatever it was, the run is over. A loop that isn't there is left, or goes on, at a charge; no source has such a tree.
+-- The end of statements that a run has: whatever it was, the run is over. A loop that isn't there is left, or goes on, at a charge; no source
+-- has such a tree.
 abbrev pub at_end : Ending → Outcome → Outcome
-at_end done o = record o { ending = done }
+at_end (done vs) o = record o { ending = done [] }
 at_end (fault chain) o = o
 at_end e o = done_by (tick o.world) o
 
-abbrev pub stream_run : Under → Body → Run → List ℕ → World → Outcome
-stream_run u body run out w = let o = exec_all u first_numbers body.row run out w in at_end o.ending o
+-- a value that is left, or the fault before it
+abbrev pub leaving : Res Val → Run → List ℕ → Outcome
+leaving m run out = use_it m run out (λ v w. ended (done (v ∷ [])) run out w)
+
+-- A stream runs its statements, or evaluates its expression, whose value is left.
+abbrev pub stream_run : Under → StreamTree → Run → List ℕ → World → Outcome
+stream_run u (statements body) run out w = let o = exec_all u first_numbers body.row run out w in at_end o.ending o
+stream_run u (expression e) run out w = leaving (eval u run e w) run out
 
 -- A macro's body, once its parameters have taken the values of its arguments.
 abbrev pub macro_body : Under → FoundMacro → List Val → Run → List ℕ → World → Outcome
@@ -599,13 +613,13 @@ again_in u (Some l) n items run out w =
 
 -- the loops of a stream, over as many levels: level zero isn't reached, since each call opens a scope within the limit, and there is one
 -- level more than the limit
-abbrev pub again_of : HostValue → Nests → Body → ℕ → Again
-again_of host nests body zero n items run out w = failed InvalidOperation run out w
-again_of host nests body (suc k) n items run out w =
-    again_in (over host nests (again_of host nests body k)) (slice_get (loops_in first_numbers body.row) n) n items run out w
+abbrev pub again_of : HostValue → Nests → StreamTree → ℕ → Again
+again_of host nests tree zero n items run out w = failed InvalidOperation run out w
+again_of host nests tree (suc k) n items run out w =
+    again_in (over host nests (again_of host nests tree k)) (slice_get (stream_loops tree) n) n items run out w
 
-abbrev pub under : HostValue → Nests → Body → Under
-under host nests body = over host nests (again_of host nests body (host.limit + 1))
+abbrev pub under : HostValue → Nests → StreamTree → Under
+under host nests tree = over host nests (again_of host nests tree (host.limit + 1))
 
 -- what follows a stream's end: the run of the parent that waits, if one does
 abbrev pub to_parent : Option TemplateId → Outcome → (TemplateId → Outcome) → Outcome
@@ -631,8 +645,7 @@ run_of host nests trees (suc n) s run out w =
 abbrev pub nests_of : HostValue → Trees → ℕ → Nests
 nests_of host trees zero callee heard out w = failed InvalidOperation (new_run heard w) out w
 nests_of host trees (suc n) (macro_of s entry given) heard out w =
-    macro_run (under host (nests_of host trees n) (trees s)) (slice_get (macros_in first_numbers (trees s).row) entry) given
-    (new_run heard w) out w
+    macro_run (under host (nests_of host trees n) (trees s)) (slice_get (stream_macros (trees s)) entry) given (new_run heard w) out w
 nests_of host trees (suc n) (whole s) heard out w =
     run_of host (nests_of host trees n) trees (names_left host w) s (new_run heard w) out w
 
@@ -666,9 +679,19 @@ first_world host t id fuel context = record {
 abbrev pub rendered : HostValue → Trees → World → Outcome
 rendered host trees w = nests_of host trees (host.limit + 1) (whole w.stream) true [] w
 
+-- The one value that a run left, or its fault. A run that left another number of values is no expression's.
+abbrev pub value_left : Ending → World → Res Val
+value_left (done (v ∷ [])) w = Good v w
+value_left (fault chain) w = Bad chain w
+value_left e w = Bad (InvalidOperation ∷ []) w
+
+-- What an expression means, from a world: the stream that it names runs in the same way, and leaves the expression's value.
+abbrev pub evaluated : HostValue → Trees → World → Res Val
+evaluated host trees w = let o = rendered host trees w in value_left o.ending o.world
+
 -- What the block of a name means that a state is asked for, from its world: its tag, heard and where no parent waits.
 abbrev pub rendered_block : HostValue → Trees → List ℕ → World → Outcome
-rendered_block host trees b w = block_tag (under host (nests_of host trees (host.limit + 1)) empty) (new_run true w) b [] w
+rendered_block host trees b w = block_tag (under host (nests_of host trees (host.limit + 1)) (statements empty)) (new_run true w) b [] w
 
 -- the chain of kinds, which is empty where all was done
 abbrev pub chain_in : Ending → List ErrorKind
@@ -677,3 +700,7 @@ chain_in e = []
 
 abbrev pub chain_of : Outcome → List ErrorKind
 chain_of o = chain_in o.ending
+
+-- the values that are left where all was done
+abbrev pub left_of : Outcome → List Val
+left_of o = left_by o.ending

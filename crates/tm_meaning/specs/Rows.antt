@@ -28,7 +28,7 @@ use Rattle.tm_meaning.specs.Compiled.{code_of}
 use Rattle.tm_meaning.specs.World.{Bindings, find_name, view_of, own, World, HostValue, Function, Named, Object, Fallback, Format}
 use Rattle.tm_meaning.specs.World.{fuel_levels, Template}
 use Rattle.tm_meaning.specs.Calls.{whole}
-use Rattle.tm_meaning.specs.Tree.{Body, body_of, TemplateTree, Trees, template_of, trees_of}
+use Rattle.tm_meaning.specs.Tree.{Body, body_of, StreamTree, statements, TemplateTree, Trees, template_of, trees_of}
 use Rattle.tm_meaning.specs.Meaning.{rendered, first_world, chain_of}
 use Rattle.tm_meaning.specs.Machine.{Program, Finished, Failed, Stuck, End, base_of}
 use Rattle.tm_meaning.specs.Steps.{Final, begins, run_for}
@@ -37,7 +37,7 @@ use Rattle.tm_meaning.specs.Steps.{Final, begins, run_for}
 pub record Page : Type 0 where
   pub name : List ℕ
   pub escape : AutoEscape
-  pub body : Body
+  pub root : StreamTree
   pub templates : Named TemplateTree
   pub context : Val
   pub globals : Bindings
@@ -54,7 +54,7 @@ abbrev pub page : Body → Val → Page
 page body context = record {
   name = codes "page";
   escape = escapes.None;
-  body = body;
+  root = statements body;
   templates = [];
   context = context;
   globals = [];
@@ -69,7 +69,7 @@ page body context = record {
 }
 
 abbrev pub tree_of : Page → TemplateTree
-tree_of p = record { name = p.name; escape = p.escape; root = p.body }
+tree_of p = record { name = p.name; escape = p.escape; root = p.root }
 
 abbrev pub with_template : List ℕ × TemplateTree → List ℕ × Template
 with_template t = (t.0, template_of t.1)
@@ -115,7 +115,7 @@ abbrev pub meant : Page → Option ℕ → Said
 meant p fuel = meant_from p (world_of p fuel)
 
 abbrev pub said_at : List ℕ → End → Said
-said_at t (Finished ks w) = said t w.fuel []
+said_at t (Finished vs ks w) = said t w.fuel []
 said_at t (Failed chain w) = said t w.fuel chain
 said_at t (Stuck w) = said t w.fuel (kind.BadStream ∷ [])
 
@@ -148,7 +148,7 @@ Fails p t chain = ((meant p None).text ≡ t) × ((meant p None).chain ≡ chain
 
 -- the world behind the page, as it means it and as its code comes to it
 abbrev pub left_at : End → World
-left_at (Finished ks w) = w
+left_at (Finished vs ks w) = w
 left_at (Failed chain w) = w
 left_at (Stuck w) = w
 

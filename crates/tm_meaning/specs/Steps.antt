@@ -107,12 +107,12 @@ closed f c =
 
 -- Where no parent waits a stream's run is over, and else it restarts there.
 abbrev pub parent_next : Option TemplateId → Config → Next
-parent_next None c = Over (Finished c.captures c.world)
+parent_next None c = Over (Finished c.run.operands c.captures c.world)
 parent_next (Some t) c = Restart (restarted t c)
 
 -- A macro's run is over, with all closed that it opened; a parent that waits there runs nowhere.
 abbrev pub return_of : Base → Config → Next
-return_of f c = choose (closed f c) (λ _. Over (Finished c.captures c.world)) (λ _. stuck c.world)
+return_of f c = choose (closed f c) (λ _. Over (Finished c.run.operands c.captures c.world)) (λ _. stuck c.world)
 
 abbrev pub effect : Program → Base → Instruction → Config → Next
 effect p f (i.EmitRaw t) c = emit_raw_of f t c

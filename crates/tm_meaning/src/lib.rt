@@ -12,6 +12,7 @@ ghost use Rattle.tm_meaning.specs.World.{View, find_name};
 
 mod base;
 mod block_trees;
+mod expressions;
 mod function;
 mod guards;
 mod include_trees;
@@ -31,6 +32,7 @@ pub use block_trees::{
     loaded_rows, parent_chain_rows, parent_scope_rows, refused_extends_rows, required_rows,
     restart_rows, state_block_rows, super_rows,
 };
+pub use expressions::{dropped_value_rows, expression_rows, refused_expression_rows};
 pub use function::GlobalFunction;
 pub use guards::{
     block_guards, call_guards, emission_guards, fuel_guards, look_up_guards, loop_guards,

@@ -2,7 +2,7 @@
 ghost use Rattle.std.specs.BTreeSet.{keys};
 ghost use Rattle.std.specs.Prelude.{◌≡◌, [], ◌∷◌, OnOk, IfOk, IfErr, codes, map};
 ghost use Rattle.std.specs.String.{string_bytes};
-ghost use Rattle.tm_syntax.specs.Names.{assign, close_scope, open_scope, undeclared};
+ghost use Rattle.tm_syntax.specs.Names.{assign, close_scope, open_scope, undeclared_in};
 ghost use Rattle.tm_syntax.specs.Names.{walk, walk_all, walk_assignments, walk_head};
 ghost use Rattle.tm_syntax.specs.Names.{walk_parameters};
 ghost use Rattle.tm_syntax.specs.declared.tree.Stmt.TheBlock.{hidden-the_row-Stmt-0 as statements};
@@ -19,15 +19,18 @@ use tm_syntax::{
 };
 use tm_values::Error;
 
-/// The names that a tree reads where no open scope has assigned them before, each as its text; with
+/// The names that a source's tree reads where no open scope has assigned them before, each as its text; with
 /// what is nested in them, as `a.b.c`, where that is asked for. OutOfMemory.
 pub fn undeclared(alloc: Global, tree: &Tree, nested: bool) -> Result<BTreeSet<String>, Error>
     ensures ok { IfOk result
-        (λ names. map string_bytes (keys names) ≡ undeclared nested (statements tree.now.statements)) }
+        (λ names. map string_bytes (keys names) ≡ undeclared_in nested tree.now) }
     ensures err { IfErr result (λ e. e ≡ OutOfMemory ∷ []) }
 {
     let mut walker = Walker::new(alloc)?;
-    walker.walk_all(nested, tree.statements.as_slice())?;
+    match tree {
+        Tree::Statements(statements) => walker.walk_all(nested, statements.as_slice())?,
+        Tree::Expression(expr) => walker.walk_expr(nested, expr.get())?,
+    }
     Ok(walker.into_found())
 }
 

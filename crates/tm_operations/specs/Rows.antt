@@ -1,10 +1,11 @@
--- Worked calls of `range`, `dict` and `namespace`.
+-- Worked calls of `range`, `dict` and `namespace`, and values with their namespaces as maps.
 use Rattle.std.specs.Prelude.{◌≡◌, ℕ, ℤ, pos, false, List, [], map as each, Option, Ok, codes}
 use Rattle.std.specs.declared.cmp.Ordering.TheVariants.{Less}
+use Rattle.tm_definitions.specs.Mapped.{with_maps}
 use Rattle.tm_definitions.specs.Maps.{dict_of, namespace_of}
 use Rattle.tm_definitions.specs.Ranges.{number_list, range_of}
-use Rattle.tm_values.specs.Answer.{refused}
-use Rattle.tm_values.specs.Records.{no_records}
+use Rattle.tm_values.specs.Answer.{invalid, refused}
+use Rattle.tm_values.specs.Records.{RecordData, no_records}
 use Rattle.tm_values.specs.Order.{val_cmp}
 use Rattle.tm_values.specs.Val.{Val, MacroData, number, text, map, keywords, macro, pairs_of}
 use Rattle.tm_values.specs.declared.error.ErrorKind.{ErrorKind}
@@ -59,3 +60,13 @@ macro_at entry closure name = macro (record {
 -- the first stands before the second in the order of values
 abbrev pub IsBelow : Val → Val → Type 0
 IsBelow v w = val_cmp v w ≡ Less
+
+-- the records of the state 0, with these namespaces
+abbrev pub records_with : List (List (Val × Val)) → RecordData
+records_with namespaces = record { state = 0; namespaces = namespaces; loops = [] }
+
+abbrev pub MapsAre : List (List (Val × Val)) → Val → Val → Type 0
+MapsAre namespaces v w = with_maps (records_with namespaces) v ≡ Ok w
+
+abbrev pub MapsFail : List (List (Val × Val)) → Val → Type 0
+MapsFail namespaces v = with_maps (records_with namespaces) v ≡ invalid

@@ -1,8 +1,9 @@
-//! Worked calls, of `range`, `dict` and `namespace`, and the order of values that no template makes.
+//! Worked calls, of `range`, `dict` and `namespace`, values with their namespaces as maps, and the order of values
+//! that no template makes.
 ghost use Rattle.std.specs.Prelude.{[], ◌∷◌, pos, negsuc, true, Some, None, codes};
 ghost use Rattle.tm_operations.specs.Rows.{RangeIs, RangeFails, DictIs, DictFails, NamespaceIs, numbers, letter, a_is, b_is, map_of};
-ghost use Rattle.tm_operations.specs.Rows.{keywords_given, macro_at, IsBelow};
-ghost use Rattle.tm_values.specs.Val.{none, boolean, number, exports, function, loop, namespace, pairs_of};
+ghost use Rattle.tm_operations.specs.Rows.{keywords_given, macro_at, IsBelow, MapsAre, MapsFail};
+ghost use Rattle.tm_values.specs.Val.{none, boolean, number, list, exports, function, loop, namespace, pairs_of, vals_of};
 ghost use Rattle.tm_values.specs.declared.error.ErrorKind.TheVariants.{InvalidOperation, MissingArgument, TooManyArguments};
 
 /// `range(4)`, `range(0, 4, 1)`, `range(5, 0, -2)`, `range(2, none)`, `range(2, 0)`, and ranges at
@@ -56,6 +57,26 @@ pub fn namespace_rows()
     ensures both { NamespaceIs (map_of (a_is 1 ∷ []) ∷ keywords_given (b_is 2 ∷ []) ∷ [])
         (a_is 1 ∷ b_is 2 ∷ []) }
     ensures no_text { NamespaceIs (map_of ((number (pos 1), number (pos 2)) ∷ []) ∷ []) [] }
+{}
+
+/// `[namespace(a=1)]`, a namespace in another one, in a map with another one as its key, and in a module; a loop
+/// stays. A namespace that holds itself, isn't there, or is another state's has no map.
+pub fn mapped_rows()
+    ensures list { MapsAre ((a_is 1 ∷ []) ∷ []) (list (vals_of (namespace 0 0 ∷ [])))
+        (list (vals_of (map_of (a_is 1 ∷ []) ∷ []))) }
+    ensures nested { MapsAre (((letter, namespace 0 1) ∷ []) ∷ (b_is 2 ∷ []) ∷ []) (namespace 0 0)
+        (map_of ((letter, map_of (b_is 2 ∷ [])) ∷ [])) }
+    ensures key { MapsAre ([] ∷ []) (map_of ((namespace 0 0, namespace 0 0) ∷ []))
+        (map_of ((namespace 0 0, map_of []) ∷ [])) }
+    ensures module { MapsAre ([] ∷ []) (exports (pairs_of ((letter, namespace 0 0) ∷ [])) [])
+        (exports (pairs_of ((letter, map_of []) ∷ [])) []) }
+    ensures keywords { MapsAre ([] ∷ []) (keywords_given ((letter, namespace 0 0) ∷ []))
+        (keywords_given ((letter, map_of []) ∷ [])) }
+    ensures record { MapsAre [] (loop 0 0) (loop 0 0) }
+    ensures itself { MapsFail (((letter, list (vals_of (namespace 0 0 ∷ []))) ∷ []) ∷ [])
+        (namespace 0 0) }
+    ensures missing { MapsFail [] (namespace 0 0) }
+    ensures other { MapsFail ([] ∷ []) (namespace 1 0) }
 {}
 
 /// Keyword maps, modules, functions, macros, loops and namespaces ascend so.

@@ -9,8 +9,9 @@ use Rattle.tm_syntax.specs.declared.tree.Stmt.{more_of-Stmt as statement, Held-S
 use Rattle.tm_syntax.specs.declared.tree.Stmt.{Some' as otherwise}
 use Rattle.tm_syntax.specs.declared.tree.Stmt.TheBlock.{hidden-the_row-Stmt-0 as row}
 use Rattle.tm_syntax.specs.declared.tree.Tree.{Tree}
+use Rattle.tm_syntax.specs.declared.tree.Tree.TheVariants as trees
 use Rattle.tm_parser.specs.Distinct.{are_distinct}
-use Rattle.tm_parser.specs.Grammar.{inside}
+use Rattle.tm_parser.specs.Grammar.{expr, inside}
 use Rattle.tm_parser.specs.Statements.{body, inner}
 
 -- the names of all blocks, in the order of the source
@@ -53,10 +54,23 @@ block_names statements = names_in (row statements)
 abbrev pub nestings : ℕ
 nestings = 150
 
--- All tokens are the statements of the tree, around which is no loop, within so many nestings, and no name is that of two blocks.
-pub record SpellsTemplate (tokens : List Token) (tree : Tree) : Type 0 where
-  pub spelled : (body (inside nestings) (inner nestings) false).spells tokens tree.statements []
-  pub distinct : IsTrue (are_distinct (block_names tree.statements))
+-- All tokens are the statements, around which is no loop, within so many nestings, and no name is that of two blocks.
+pub record AreStatements (tokens : List Token) (statements : List Stmt) : Type 0 where
+  pub spelled : (body (inside nestings) (inner nestings) false).spells tokens statements []
+  pub distinct : IsTrue (are_distinct (block_names statements))
+
+-- All tokens are the tree, which is a template's.
+abbrev pub SpellsTemplate : List Token → Tree → Type 0
+SpellsTemplate tokens (trees.Statements statements) = AreStatements tokens statements
+SpellsTemplate tokens (trees.Expression x) = ⊥
 
 abbrev pub SpellsNoTemplate : List Token → Type 0
 SpellsNoTemplate tokens = (tree : Tree) → SpellsTemplate tokens tree → ⊥
+
+-- All tokens are the tree, which is one expression's, within as many nestings.
+abbrev pub SpellsExpression : List Token → Tree → Type 0
+SpellsExpression tokens (trees.Statements statements) = ⊥
+SpellsExpression tokens (trees.Expression x) = (expr (inside nestings)).spells tokens x []
+
+abbrev pub SpellsNoExpression : List Token → Type 0
+SpellsNoExpression tokens = (tree : Tree) → SpellsExpression tokens tree → ⊥

@@ -1,4 +1,4 @@
-//! From the tokens of a template to its tree.
+//! From the tokens of a template or an expression to its tree.
 #![tactic(auto)]
 
 mod applications;
@@ -15,4 +15,4 @@ mod tables;
 mod targets;
 mod template;
 
-pub use template::{one_tree, parse_tokens};
+pub use template::{one_expr, one_tree, parse_expr_tokens, parse_tokens};

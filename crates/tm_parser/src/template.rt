@@ -1,7 +1,7 @@
-//! Whole templates.
+//! Whole templates and whole expressions.
 ghost use Rattle.std.specs.Prelude.{◌≡◌, List, IfOk, IfErr};
 ghost use Rattle.tm_values.specs.Answer.{Refused};
-ghost use Rattle.tm_parser.specs.Template.{SpellsNoTemplate, SpellsTemplate};
+ghost use Rattle.tm_parser.specs.Template.{SpellsExpression, SpellsNoExpression, SpellsNoTemplate, SpellsTemplate};
 ghost use Rattle.tm_syntax.specs.declared.token.Token.{Token};
 ghost use Rattle.tm_syntax.specs.declared.tree.Tree.{Tree};
 
@@ -14,8 +14,8 @@ use tm_values::Error;
 /// How many brackets, prefixes, else parts and tags may be open at once.
 const NESTINGS: u8 = 150;
 
-/// The tree that the tokens spell. SyntaxError where they spell none; OutOfMemory for want of
-/// memory.
+/// The tree of the template that the tokens spell. SyntaxError where they spell none; OutOfMemory for want
+/// of memory.
 pub fn parse_tokens(alloc: Global, tokens: &[Token]) -> Result<Tree, Error>
     ensures found { IfOk result (SpellsTemplate tokens.now) }
     ensures refused { IfErr result (λ e. Refused e (SpellsNoTemplate tokens.now)) }
@@ -28,11 +28,32 @@ pub fn parse_tokens(alloc: Global, tokens: &[Token]) -> Result<Tree, Error>
     if !has_distinct_blocks(alloc, statements.as_slice())? {
         return Err(refusal());
     }
-    Ok(Tree { statements })
+    Ok(Tree::Statements(statements))
 }
 
-/// Tokens spell at most one tree.
+/// The tree of the expression that the tokens spell. SyntaxError where they spell none; OutOfMemory for want
+/// of memory.
+pub fn parse_expr_tokens(alloc: Global, tokens: &[Token]) -> Result<Tree, Error>
+    ensures found { IfOk result (SpellsExpression tokens.now) }
+    ensures refused { IfErr result (λ e. Refused e (SpellsNoExpression tokens.now)) }
+{
+    let mut cursor = Cursor::new(tokens);
+    let expr = cursor.expr(alloc, NESTINGS)?;
+    if cursor.is_done() {
+        Ok(Tree::Expression(expr))
+    } else {
+        Err(refusal())
+    }
+}
+
+/// Tokens spell at most one template's tree.
 pub fn one_tree()
     ensures { (tokens : List Token) (a b : Tree) →
         SpellsTemplate tokens a → SpellsTemplate tokens b → a ≡ b }
+{}
+
+/// Tokens spell at most one expression's tree.
+pub fn one_expr()
+    ensures { (tokens : List Token) (a b : Tree) →
+        SpellsExpression tokens a → SpellsExpression tokens b → a ≡ b }
 {}

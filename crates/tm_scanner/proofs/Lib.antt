@@ -1,4 +1,5 @@
 pub mod Newlines
+pub mod Parts
 pub mod Pools
 pub mod Steps
 pub mod Runs

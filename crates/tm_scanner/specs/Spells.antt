@@ -6,7 +6,9 @@ use Rattle.tm_delimiters.specs.Syntax.{Syntax}
 use Rattle.tm_delimiters.specs.Front.{first_of}
 use Rattle.tm_delimiters.specs.Trimming.{trimmed}
 use Rattle.tm_delimiters.specs.Starts.{tag_start}
+use Rattle.tm_delimiters.specs.Front.{past_blanks}
 use Rattle.tm_scanner.specs.Pieces.{raw, SourcePlace, IsPiece}
+use Rattle.tm_scanner.specs.Tokens.{IsToken}
 
 -- `\n` or `\r\n`, and nothing behind it
 abbrev pub is_newline : List ℕ → Bool
@@ -31,3 +33,14 @@ SpellsTokens s source ts =
     × Steps (IsPiece s) (record { before = None; rest = read_of s source }) pieces last
     × (first_of (tag_start s) last.rest ≡ None)
     × (ts ≡ joined pieces ++ raw (trimmed s last.before None last.rest))
+
+-- a token, where the source doesn't end, and the blanks behind it
+pub record Reads (rest : List ℕ) (t : Token) (left : List ℕ) : Type 0 where
+  pub goes_on : rest ≡ [] → ⊥
+  pub next : List ℕ
+  pub token : IsToken rest t next
+  pub blanks : left ≡ past_blanks next
+
+-- An expression's source is tokens up to its end, with blanks around them.
+abbrev pub SpellsParts : List ℕ → List Token → Type 0
+SpellsParts source ts = Steps Reads (past_blanks source) ts []

@@ -1,6 +1,7 @@
 //! From a source to its tokens.
 #![tactic(auto)]
 
+mod expression;
 mod name_pool;
 mod names;
 mod numbers;
@@ -11,5 +12,6 @@ mod source;
 mod texts;
 mod tokens;
 
+pub use expression::{one_parts, scan_expr};
 pub use source::{one_list, scan};
 pub use tm_delimiters::{SyntaxConfig, SyntaxConfigBuilder};

@@ -102,7 +102,11 @@ fn plain<'t>(alloc: Global, names: &mut NamePool, text: &'t str) -> Result<(Toke
 /// The token at the front, and what is left behind it.
 ///
 /// SyntaxError where none stands there, OutOfMemory.
-fn token<'t>(alloc: Global, names: &mut NamePool, text: &'t str) -> Result<(Token, &'t str), Error>
+pub(crate) fn token<'t>(
+    alloc: Global,
+    names: &mut NamePool,
+    text: &'t str,
+) -> Result<(Token, &'t str), Error>
     ensures found { IfOk result (λ x. spec.IsToken text.now x.0 x.1.now) }
     ensures shorter { IfOk result (λ x. length x.1.now < length text.now) }
     ensures refused { Refuses result (spec.IsToken text.now) }

@@ -24,7 +24,7 @@ use Rattle.tm_simulation.proofs.Levels.{Deep, Here, Setting, as_at, deep_kept, m
 
 -- ---------------------------------------------------------------- the parent that waits behind it
 pub behind_parent : (e : Ending) (c : NestedCall) (run : Run) (o : Outcome) → (behind e c run o).parent ≡ run.parent
-behind_parent done c run o = refl
+behind_parent (done vs) c run o = refl
 behind_parent leave c run o = refl
 behind_parent next c run o = refl
 behind_parent (fault chain) c run o = refl
@@ -103,7 +103,7 @@ module _ (setting : Setting) where
       Follows context (told s) (bind (heard_behind e (whole_of e q out x)) g) K →
       Ends context (capture_in heard s.bed s.out) (whole_of e q out x) (HeardThen s g K) (HeardThen s g K) (HeardThen s g K)
   unfolding Ends
-  heard_then heard s g K done q out x same h = (same, h)
+  heard_then heard s g K (done vs) q out x same h = (same, h)
   heard_then heard s g K leave q out x same h = (same, h)
   heard_then heard s g K next q out x same h = (same, h)
   heard_then heard s g K (fault chain) q out x same h = h

@@ -364,7 +364,7 @@ module _ (s : StreamId) (fs ts : Caches) where
 
   pub back_same : (back : Back) (e : End) → back.run.stream ≡ s →
       Same (back_to back e) (back_to (record back { run = with_caches fs ts back.run }) e)
-  back_same back (Finished ks w) here = back_with_same back.value back.call.text back.run ks (undone back.call.undo w) here
+  back_same back (Finished vs ks w) here = back_with_same back.value back.call.text back.run ks (undone back.call.undo w) here
   back_same back (Failed chain w) here = refl
   back_same back (Stuck w) here = refl
 

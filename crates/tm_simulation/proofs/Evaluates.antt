@@ -133,14 +133,14 @@ value_by : (host : HostValue) (w world1 : World) (c : NestedCall) (e : Ending) (
     EndingKeeps host (in_stream o.world.stream world1) e o.world →
     ((world2 : World) → Advances (in_stream world2.stream world1) world2 → Kept w (undone c.undo world2)) →
     Gives host w (value_behind e c o)
-value_by host w world1 c done o h k = k o.world h.advances
+value_by host w world1 c (done vs) o h k = k o.world h.advances
 value_by host w world1 c leave o h k = k o.world h.advances
 value_by host w world1 c next o h k = k o.world h.advances
 value_by host w world1 c (fault chain) o h k = ((k o.world h.0).advances, wrap_arises host c.wrap chain h.1)
 
 text_by : (host : HostValue) (w world1 : World) (e : Ending) (o : Outcome) → Kept w world1 → EndingKeeps host world1 e o.world →
     Gives host w (text_behind e o)
-text_by host w world1 done o h k = kept_then h k
+text_by host w world1 (done vs) o h k = kept_then h k
 text_by host w world1 leave o h k = kept_then h k
 text_by host w world1 next o h k = kept_then h k
 text_by host w world1 (fault chain) o h k = (advances_then h.advances k.0, k.1)
@@ -149,7 +149,7 @@ place_by : (host : HostValue) (w world1 : World) (c : NestedCall) (run : Run) (e
     EndingKeeps host (in_stream o.world.stream world1) e o.world →
     ((world2 : World) → Advances (in_stream world2.stream world1) world2 → Kept w (undone c.undo world2)) →
     OutcomeKeeps host run.parent w (behind e c run o)
-place_by host w world1 c run done o h k = ends_here host w _ run o.text (k o.world h.advances)
+place_by host w world1 c run (done vs) o h k = ends_here host w _ run o.text (k o.world h.advances)
 place_by host w world1 c run leave o h k = ends_here host w _ run o.text (k o.world h.advances)
 place_by host w world1 c run next o h k = ends_here host w _ run o.text (k o.world h.advances)
 place_by host w world1 c run (fault chain) o h k =

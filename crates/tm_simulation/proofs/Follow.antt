@@ -70,7 +70,7 @@ abbrev pub Then : Type 1
 Then = Option TemplateId → List ℕ → World → Type 0
 
 abbrev pub EndsBy : RunContext → Bed → Ending → Outcome → Then → Then → Then → Type 0
-EndsBy context b done o D L N = D o.parent o.text o.world
+EndsBy context b (done vs) o D L N = D o.parent o.text o.world
 EndsBy context b leave o D L N = L o.parent o.text o.world
 EndsBy context b next o D L N = N o.parent o.text o.world
 EndsBy context b (fault chain) o D L N = context.final ≡ final (told_by b o.text) (Failed chain o.world)
@@ -155,7 +155,7 @@ do_by : (context : RunContext) (b : Bed) (run : Run) (w : World) (e : Ending) (p
     Ends context b (g (record run { parent = parent }) out world1) D L N → K parent out world1) →
     Ends context b (whole_of e parent out world1) K L N
 unfolding Ends
-do_by context b run w done parent out world1 g D L N K e h k = k e h
+do_by context b run w (done vs) parent out world1 g D L N K e h k = k e h
 do_by context b run w leave parent out world1 g D L N K e h k = h
 do_by context b run w next parent out world1 g D L N K e h k = h
 do_by context b run w (fault chain) parent out world1 g D L N K e h k = h
@@ -187,7 +187,7 @@ closed_then_by : (context : RunContext) (b : Bed) (w : World) (close : World →
     (Kept w world1 → Closed close D parent out world1 → K parent out world1) →
     Ends context b (whole_of e parent out world1) K (Closed close L) (Closed close N)
 unfolding Ends
-closed_then_by context b w close done parent out world1 D L N K e h k = k e h
+closed_then_by context b w close (done vs) parent out world1 D L N K e h k = k e h
 closed_then_by context b w close leave parent out world1 D L N K e h k = h
 closed_then_by context b w close next parent out world1 D L N K e h k = h
 closed_then_by context b w close (fault chain) parent out world1 D L N K e h k = h
@@ -232,7 +232,7 @@ captured_then_by : (context : RunContext) (b : Bed) (run : Run) (out : List ℕ)
     (Kept w world1 → Ends context b (f (record run { parent = parent }) x world1) D L N → K parent x world1) →
     Ends context (captured_in b out) (whole_of e parent x world1) K (Dropped context b out L) (Dropped context b out N)
 unfolding Ends
-captured_then_by context b run out w f done parent x world1 D L N K e h k = k e h
+captured_then_by context b run out w f (done vs) parent x world1 D L N K e h k = k e h
 captured_then_by context b run out w f leave parent x world1 D L N K e h k = dropped_by context b (record run { parent = parent }) out
     world1 (tick world1) D L N h
 captured_then_by context b run out w f next parent x world1 D L N K e h k = skipped_by context b (record run { parent = parent }) out
@@ -254,7 +254,7 @@ ends_by_map : (context : RunContext) (b : Bed) (e : Ending) (parent : Option Tem
     Ends context b (whole_of e parent out w) D L N →
     (D parent out w → K parent out w) → Ends context b (whole_of e parent out w) K L N
 unfolding Ends
-ends_by_map context b done parent out w D K L N h k = k h
+ends_by_map context b (done vs) parent out w D K L N h k = k h
 ends_by_map context b leave parent out w D K L N h k = h
 ends_by_map context b next parent out w D K L N h k = h
 ends_by_map context b (fault chain) parent out w D K L N h k = h
@@ -268,7 +268,7 @@ ends_by_map_kept : (context : RunContext) (b : Bed) (w : World) (e : Ending) (pa
     (D K L N : Then) → EndingKeeps context.program.host w e world1 → Ends context b (whole_of e parent out world1) D L N →
     (Kept w world1 → D parent out world1 → K parent out world1) → Ends context b (whole_of e parent out world1) K L N
 unfolding Ends
-ends_by_map_kept context b w done parent out world1 D K L N e h k = k e h
+ends_by_map_kept context b w (done vs) parent out world1 D K L N e h k = k e h
 ends_by_map_kept context b w leave parent out world1 D K L N e h k = h
 ends_by_map_kept context b w next parent out world1 D K L N e h k = h
 ends_by_map_kept context b w (fault chain) parent out world1 D K L N e h k = h
@@ -304,7 +304,7 @@ round_by : (context : RunContext) (b : Bed) (run : Run) (e : Ending) (parent : O
     Ends context b (whole_of e parent out w) (Goes context b run g D L N) (Goes context b run
     (λ run1 out1 world1. so_far run1 out1 (pop world1)) D L N) (Goes context b run g D L N)
 unfolding Ends
-round_by context b run done parent out w g D L N h = h
+round_by context b run (done vs) parent out w g D L N h = h
 round_by context b run leave parent out w g D L N h = h
 round_by context b run next parent out w g D L N h = h
 round_by context b run (fault chain) parent out w g D L N h = h

@@ -5,7 +5,7 @@ use Rattle.tm_values.specs.Val.{Val}
 use Rattle.tm_meaning.specs.World.{choose, World}
 use Rattle.tm_meaning.specs.Calls.{Callee, NestedCall, undone, wrapped, run_value, runs}
 use Rattle.tm_meaning.specs.Meaning.{Run, Outcome, Ending, done, leave, next, fault, Under, audible as heard_here, say, behind, in_place_of}
-use Rattle.tm_meaning.specs.Meaning.{value_behind, value_of, capturing}
+use Rattle.tm_meaning.specs.Meaning.{left_by, value_behind, value_of, capturing}
 use Rattle.tm_meaning.specs.Machine.{Activation, Finished, Failed, Back, More, Program, audible, put_in, put_out, writes, back_to}
 use Rattle.tm_meaning.specs.Machine.{Capture, base_of, first_run, nested, new_capture, waiting, pushed, nested_in_place, nested_as_value}
 use Rattle.tm_meaning.specs.Steps.{begun, begins, Final, final, Leads, over, more, nest}
@@ -82,7 +82,7 @@ module _ (context : RunContext) where
 -- the end of a run that an outcome stands for
 abbrev pub end_by : Ending → Bed → List ℕ → World → Final
 end_by (fault chain) b out w = final (told_by b out) (Failed chain w)
-end_by e b out w = final (told_by b out) (Finished (captures_of b out) w)
+end_by e b out w = final (told_by b out) (Finished (left_by e) (captures_of b out) w)
 
 abbrev pub end_of : Bed → Outcome → Final
 end_of b o = end_by o.ending b o.text o.world
@@ -106,7 +106,7 @@ module _ (context : RunContext) where
       Ends context b (behind e k run (whole_of e parent out w)) D L N → (D run.parent out (undone k.undo w) →
       LeadsToEnd context (told_by b out) (More [] (record { run = a; captures = captures_of b out; world = undone k.undo w }))) →
       LeadsToEnd context (end_by e b out w).text (back_to (record { run = a; call = k; value = false }) (end_by e b out w).end)
-  in_place_by k run a b done parent out w D L N h g = g (so_far_then context b run out _ D L N h)
+  in_place_by k run a b (done vs) parent out w D L N h g = g (so_far_then context b run out _ D L N h)
   in_place_by k run a b leave parent out w D L N h g = g (so_far_then context b run out _ D L N h)
   in_place_by k run a b next parent out w D L N h g = g (so_far_then context b run out _ D L N h)
   in_place_by k run a b (fault chain) parent out w D L N h g = over refl (fault_then context b run out (undone k.undo w)
@@ -140,7 +140,7 @@ module _ (context : RunContext) where
       LeadsToEnd context (end_by e (inside true (told_by b out0) (captures_of b out0)) o.text o.world).text
       (back_to (record { run = a; call = k; value = true }) (end_by e (inside true (told_by b out0) (captures_of b out0)) o.text
       o.world).end)
-  value_by k a b out0 done o K h g = g h
+  value_by k a b out0 (done vs) o K h g = g h
   value_by k a b out0 leave o K h g = g h
   value_by k a b out0 next o K h g = g h
   value_by k a b out0 (fault chain) o K h g = over refl h

@@ -28,7 +28,7 @@ Gives host w (Bad chain world1) = Advances w world1 × Arises host chain
 
 -- So do statements, by their ending.
 abbrev pub EndingKeeps : HostValue → World → Ending → World → Type 0
-EndingKeeps host w done world1 = Kept w world1
+EndingKeeps host w (done vs) world1 = Kept w world1
 EndingKeeps host w leave world1 = Kept w world1
 EndingKeeps host w next world1 = Kept w world1
 EndingKeeps host w (fault chain) world1 = Advances w world1 × Arises host chain
@@ -69,7 +69,7 @@ pub parents_kept : (host : HostValue) (q : Option TemplateId) {w world1 : World}
 parents_kept host q h = parents_advance host q h.advances
 
 pub ends_advance : (host : HostValue) (w : World) (e : Ending) (world1 : World) → EndingKeeps host w e world1 → Advances w world1
-ends_advance host w done world1 h = h.advances
+ends_advance host w (done vs) world1 h = h.advances
 ends_advance host w leave world1 h = h.advances
 ends_advance host w next world1 h = h.advances
 ends_advance host w (fault chain) world1 h = h.0
@@ -98,7 +98,7 @@ run_ends_from host w o h = h
 
 behind_kept : (host : HostValue) (w v : World) (e : Ending) (world1 : World) → Kept w v → EndingKeeps host v e world1 →
     EndingKeeps host w e world1
-behind_kept host w v done world1 h k = kept_then h k
+behind_kept host w v (done vs) world1 h k = kept_then h k
 behind_kept host w v leave world1 h k = kept_then h k
 behind_kept host w v next world1 h k = kept_then h k
 behind_kept host w v (fault chain) world1 h k = (advances_then h.advances k.0, k.1)
@@ -166,7 +166,7 @@ module _ (host : HostValue) where
   -- ---------------------------------------------------------------- outcomes
   ends_by_then : (w world1 : World) (e : Ending) (world2 : World) → Kept w world1 → EndingKeeps host world1 e world2 →
       EndingKeeps host w e world2
-  ends_by_then w world1 done world2 h k = kept_then h k
+  ends_by_then w world1 (done vs) world2 h k = kept_then h k
   ends_by_then w world1 leave world2 h k = kept_then h k
   ends_by_then w world1 next world2 h k = kept_then h k
   ends_by_then w world1 (fault chain) world2 h k = (advances_then h.advances k.0, k.1)
@@ -202,7 +202,7 @@ module _ (host : HostValue) where
       (g : Run → List ℕ → World → Outcome) → EndingKeeps host w e world1 → parents_left host parent world1 ≤ parents_left host q w →
       ((run1 : Run) (out1 : List ℕ) (world2 : World) → OutcomeKeeps host run1.parent world2 (g run1 out1 world2)) →
       OutcomeKeeps host q w (then_do run (record { ending = e; parent = parent; text = out; world = world1 }) g)
-  ends_on_done w run done parent out world1 g h p k =
+  ends_on_done w run (done vs) parent out world1 g h p k =
       ends_after w world1 (g (record run { parent = parent }) out world1) h p (k (record run { parent = parent }) out world1)
   ends_on_done w run leave parent out world1 g h p k = ends_from host w _ h p
   ends_on_done w run next parent out world1 g h p k = ends_from host w _ h p
@@ -268,7 +268,7 @@ module _ (host : HostValue) where
       OutcomeKeeps host q w (closing_by e close (record { ending = e; parent = parent; text = out; world = world1 }))
   closing_by_ends {q = q} w v close l k same (fault chain) parent out world1 h p =
       ends_from host w _ (advances_then l h.0, h.1) (omega (arith, p, parents_advance host q l))
-  closing_by_ends {q = q} w v close l k same done parent out world1 h p =
+  closing_by_ends {q = q} w v close l k same (done vs) parent out world1 h p =
       ends_from host w _ (k world1 h) (closed_parents q w v close l same parent world1 p)
   closing_by_ends {q = q} w v close l k same leave parent out world1 h p =
       ends_from host w _ (k world1 h) (closed_parents q w v close l same parent world1 p)
@@ -287,7 +287,7 @@ module _ (host : HostValue) where
       (e : Ending) (x : List ℕ) (world1 : World) → EndingKeeps host w e world1 →
       parents_left host run.parent world1 ≤ parents_left host q w →
       OutcomeKeeps host q w (captured_by e (record { ending = e; parent = run.parent; text = x; world = world1 }) run out f)
-  captured_by_ends w run out f k done x world1 h p = ends_after w world1 (f run x world1) h p (k run x world1)
+  captured_by_ends w run out f k (done vs) x world1 h p = ends_after w world1 (f run x world1) h p (k run x world1)
   captured_by_ends w run out f k leave x world1 h p =
       ends_kept_at w world1 (tick world1) run out _ h.advances p (tick_gives world1)
       (λ _ world2 h2. ends_from host w _ (kept_then h h2) (omega (arith, p, parents_kept host run.parent h2)))
@@ -311,7 +311,7 @@ module _ (host : HostValue) where
       (e : Ending) (out : List ℕ) (world1 : World) → Kept (in_loop_of (for_flags false) w) x →
       EndingKeeps host x e world1 → parents_left host run.parent world1 ≤ parents_left host q w → OutcomeKeeps host q w
       (round_end e run (record { ending = e; parent = run.parent; text = out; world = world1 }) f)
-  round_end_ends w x run f k done out world1 i h p =
+  round_end_ends w x run f k (done vs) out world1 i h p =
       ends_kept_at w world1 (tick world1) run out _ (advances_around (for_flags false) w world1 (kept_then i h)) p (tick_gives world1)
       (λ _ world2 h2. k run out world2 (kept_then i (kept_then h h2)) (omega (arith, p, parents_kept host run.parent h2)))
   round_end_ends w x run f k leave out world1 i h p =

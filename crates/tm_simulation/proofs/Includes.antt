@@ -16,7 +16,7 @@ use Rattle.tm_simulation.proofs.Evaluates.{eval_gives, place_ends, assign_gives,
 
 -- what was heard
 heard_gives : (host : HostValue) (w : World) (e : Ending) (o : Outcome) → EndingKeeps host w e o.world → Gives host w (heard_behind e o)
-heard_gives host w done o h = h
+heard_gives host w (done vs) o h = h
 heard_gives host w leave o h = h
 heard_gives host w next o h = h
 heard_gives host w (fault chain) o h = h

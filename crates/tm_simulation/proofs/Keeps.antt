@@ -4,34 +4,35 @@ use Rattle.std.specs.Prelude.{slice_get, ◌&&◌, nat_eq}
 use Rattle.tm_values.specs.Val.{Val, undefined}
 use Rattle.tm_values.specs.declared.error.ErrorKind.{ErrorKind}
 use Rattle.tm_values.specs.declared.error.ErrorKind.TheVariants.{InvalidOperation}
-use Rattle.tm_syntax.specs.Loops.{first_numbers, loops_in, FoundMacro, macros_in}
-use Rattle.tm_meaning.specs.Tree.{Body, Trees}
+use Rattle.tm_syntax.specs.Loops.{first_numbers, stream_loops, FoundMacro, stream_macros}
+use Rattle.tm_meaning.specs.Tree.{StreamTree, statements, expression, Trees}
 use Rattle.tm_meaning.specs.World.{choose, root_of, World, HostValue, Scope, Res, Good, Bad, tick, plain_scope, put, owning, own_closure}
 use Rattle.tm_meaning.specs.World.{template_at}
 use Rattle.tm_meaning.specs.Calls.{Callee, whole, macro_of, NestedCall, block_call, undone, runs, super_call, enter_super, own_blocks}
 use Rattle.tm_meaning.specs.Calls.{include_depth, include_call, in_template, enter_include}
-use Rattle.tm_meaning.specs.Meaning.{over, under, again_of, Run, Outcome, Ending, done, leave, next, fault, Nests, Under, done_by}
+use Rattle.tm_meaning.specs.Meaning.{over, under, again_of, ended, Run, Outcome, Ending, done, leave, next, fault, Nests, Under, done_by}
 use Rattle.tm_meaning.specs.Meaning.{behind, in_place_of, block_tag, audible, none_waits, at_end, new_run, nests_of, rendered, chain_in}
-use Rattle.tm_meaning.specs.Meaning.{chain_of, macro_body, macro_run, stream_run, restarting, run_of, failed}
+use Rattle.tm_meaning.specs.Meaning.{chain_of, eval, macro_body, macro_run, stream_run, restarting, run_of, failed}
 use Rattle.tm_meaning.specs.Inheritance.{names_left, place_in}
 use Rattle.tm_simulation.specs.Kept.{UnlessFault, Stays, Grows, EndsThere, PutsBack, GivesBack, bare}
 use Rattle.tm_meaning.specs.declared.stream.TemplateId.{TemplateId}
 use Rattle.tm_meaning.specs.declared.stream.StreamId.{StreamId}
 use Rattle.tm_simulation.specs.Chains.{Arises, IfAny}
-use Rattle.tm_simulation.proofs.Advances.{Kept, advances_then, kept_then, in_stream, undone_scopes, undone_kept, super_undone_scopes}
+use Rattle.tm_simulation.proofs.Advances.{Kept, advances_then, kept_same, kept_then, in_stream, undone_scopes, undone_kept, super_undone_scopes}
 use Rattle.tm_simulation.proofs.Advances.{own_bare, include_undone_bare}
 use Rattle.tm_simulation.proofs.Parents.{blocks_same}
 use Rattle.tm_simulation.proofs.Gives.{Gives, RunEnds, run_ends, run_ends_by, run_ends_from, run_ends_behind, run_ends_as, ends_advance}
 use Rattle.tm_simulation.proofs.Gives.{EndingKeeps, OutcomeKeeps, ends_as, ends_from, ends_parents, parents_left, parents_kept}
 use Rattle.tm_simulation.proofs.Gives.{parents_advance, refused_arises, tick_gives}
-use Rattle.tm_simulation.proofs.Gives.{ends_refused, choose_ends}
+use Rattle.tm_simulation.proofs.Gives.{ends_refused, ends_use, choose_ends}
 use Rattle.tm_simulation.proofs.Asks.{in_block, block_asks_by, in_super, super_asks_by, include_asks_by}
+use Rattle.tm_simulation.proofs.Evaluates.{eval_gives}
 use Rattle.tm_simulation.proofs.Executes.{execs_end, called_end, body_ends}
 
 done_by_ends : (host : HostValue) {q : Option TemplateId} (w world1 : World) (m : Res (Unit {0})) (o : Outcome) → Kept w world1 →
     Gives host world1 m → parents_left host o.parent world1 ≤ parents_left host q w → OutcomeKeeps host q w (done_by m o)
 done_by_ends host w world1 (Good _ world2) o h k p =
-    ends_from host w (record o { ending = done; world = world2 }) (kept_then h k) (omega (arith, p, parents_kept host o.parent k))
+    ends_from host w (record o { ending = done []; world = world2 }) (kept_then h k) (omega (arith, p, parents_kept host o.parent k))
 done_by_ends host w world1 (Bad chain world2) o h k p =
     ends_from host w (record o { ending = fault chain; world = world2 }) (advances_then h.advances k.0, k.1)
     (omega (arith, p, parents_advance host o.parent k.0))
@@ -39,7 +40,7 @@ done_by_ends host w world1 (Bad chain world2) o h k p =
 at_end_by : (host : HostValue) {q : Option TemplateId} (w : World) (e : Ending) (parent : Option TemplateId) (out : List ℕ)
     (world1 : World) → EndingKeeps host w e world1 → parents_left host parent world1 ≤ parents_left host q w →
     OutcomeKeeps host q w (at_end e (record { ending = e; parent = parent; text = out; world = world1 }))
-at_end_by host w done parent out world1 h p = ends_from host w _ h p
+at_end_by host w (done vs) parent out world1 h p = ends_from host w _ h p
 at_end_by host w leave parent out world1 h p = done_by_ends host w world1 (tick world1) _ h (tick_gives host world1) p
 at_end_by host w next parent out world1 h p = done_by_ends host w world1 (tick world1) _ h (tick_gives host world1) p
 at_end_by host w (fault chain) parent out world1 h p = ends_from host w _ h p
@@ -59,12 +60,12 @@ there_behind w v t o h (inr (inr r)) = inr r
 -- Loops that are called end so, where what nests does.
 pub again_end : (host : HostValue) (nests : Nests)
     (nest_ends : (k : Callee) (heard : Bool) (out : List ℕ) (w : World) → RunEnds host w (nests k heard out w))
-    (body : Body) (level n : ℕ) (items : List Val) (run : Run) (out : List ℕ) (w : World) →
-    OutcomeKeeps host run.parent w (again_of host nests body level n items run out w)
-again_end host nests nest_ends body zero n items run out w = ends_refused host w run out InvalidOperation refl
-again_end host nests nest_ends body (suc k) n items run out w =
-    called_end (over host nests (again_of host nests body k)) nest_ends (again_end host nests nest_ends body k)
-    (slice_get (loops_in first_numbers body.row) n) n items run out w
+    (tree : StreamTree) (level n : ℕ) (items : List Val) (run : Run) (out : List ℕ) (w : World) →
+    OutcomeKeeps host run.parent w (again_of host nests tree level n items run out w)
+again_end host nests nest_ends tree zero n items run out w = ends_refused host w run out InvalidOperation refl
+again_end host nests nest_ends tree (suc k) n items run out w =
+    called_end (over host nests (again_of host nests tree k)) nest_ends (again_end host nests nest_ends tree k)
+    (slice_get (stream_loops tree) n) n items run out w
 
 -- So do the runs of macros, and of streams without their parents.
 macro_ends : (u : Under) (nest_ends : (k : Callee) (heard : Bool) (out : List ℕ) (w : World) → RunEnds u.host w (u.nests k heard out w))
@@ -78,13 +79,22 @@ macro_ends u nest_ends again_ends (Some m) given run out w =
     (at_end_ends u.host w (macro_body u m given run out w) (body_ends u nest_ends again_ends m given run out w))
     (ends_refused u.host w run out InvalidOperation refl)
 
+tree_ends : (u : Under) (nest_ends : (k : Callee) (heard : Bool) (out : List ℕ) (w : World) → RunEnds u.host w (u.nests k heard out w))
+    (again_ends : (n : ℕ) (items : List Val) (run : Run) (out : List ℕ) (w : World) →
+    OutcomeKeeps u.host run.parent w (u.again n items run out w))
+    (tree : StreamTree) (run : Run) (out : List ℕ) (w : World) → OutcomeKeeps u.host run.parent w (stream_run u tree run out w)
+tree_ends u nest_ends again_ends (statements body) run out w =
+    at_end_ends u.host w _ (execs_end u nest_ends again_ends first_numbers body.row run out w)
+tree_ends u nest_ends again_ends (expression e) run out w =
+    ends_use u.host w (eval u run e w) run out _ (eval_gives u nest_ends again_ends run e w)
+    (λ v world1. ends_from u.host world1 (ended (done (v ∷ [])) run out world1) (kept_same world1) (omega arith))
+
 module _ (host : HostValue) (nests : Nests)
     (nest_ends : (k : Callee) (heard : Bool) (out : List ℕ) (w : World) → RunEnds host w (nests k heard out w)) (trees : Trees) where
   pub stream_ends : (s : StreamId) (run : Run) (out : List ℕ) (w : World) →
       OutcomeKeeps host run.parent w (stream_run (under host nests (trees s)) (trees s) run out w)
   stream_ends s run out w =
-      at_end_ends host w _ (execs_end (under host nests (trees s)) nest_ends (again_end host nests nest_ends (trees s) (host.limit + 1))
-      first_numbers (trees s).row run out w)
+      tree_ends (under host nests (trees s)) nest_ends (again_end host nests nest_ends (trees s) (host.limit + 1)) (trees s) run out w
 
   stream_stays : (s : StreamId) (run : Run) (out : List ℕ) (w : World) →
       (stream_run (under host nests (trees s)) (trees s) run out w).world.stream ≡ w.stream
@@ -97,10 +107,10 @@ module _ (host : HostValue) (nests : Nests)
       EndingKeeps host w e v → ((t : TemplateId) → RunEnds host (in_stream (root_of t) v) (f t)) →
       RunEnds host w (restarting e (record { ending = e; parent = parent; text = out; world = v }) f)
   restart_ends w (fault chain) parent out v f h k = run_ends_by host w _ h
-  restart_ends w done None out v f h k = run_ends_by host w _ h
+  restart_ends w (done vs) None out v f h k = run_ends_by host w _ h
   restart_ends w leave None out v f h k = run_ends_by host w _ h
   restart_ends w next None out v f h k = run_ends_by host w _ h
-  restart_ends w done (Some t) out v f h k = run_ends_behind host w v (root_of t) (f t) h (k t)
+  restart_ends w (done vs) (Some t) out v f h k = run_ends_behind host w v (root_of t) (f t) h (k t)
   restart_ends w leave (Some t) out v f h k = run_ends_behind host w v (root_of t) (f t) h (k t)
   restart_ends w next (Some t) out v f h k = run_ends_behind host w v (root_of t) (f t) h (k t)
 
@@ -119,10 +129,10 @@ module _ (host : HostValue) (nests : Nests)
       v.stream ≡ w.stream → ((t : TemplateId) → EndsThere v.stream (f t) ⊎ EndsThere (root_of t) (f t)) →
       EndsThere w.stream (restarting e (record { ending = e; parent = parent; text = out; world = v }) f)
   restart_there w (fault chain) parent out v f h k = inl h
-  restart_there w done None out v f h k = inl h
+  restart_there w (done vs) None out v f h k = inl h
   restart_there w leave None out v f h k = inl h
   restart_there w next None out v f h k = inl h
-  restart_there w done (Some t) out v f h k = there_behind w v t (f t) h (k t)
+  restart_there w (done vs) (Some t) out v f h k = there_behind w v t (f t) h (k t)
   restart_there w leave (Some t) out v f h k = there_behind w v t (f t) h (k t)
   restart_there w next (Some t) out v f h k = there_behind w v t (f t) h (k t)
 
@@ -145,14 +155,14 @@ nests_end host trees (suc n) (macro_of s m given) heard out w =
     let nests = nests_of host trees n in
     let u : Under = under host nests (trees s) in
     run_ends host w _ (macro_ends u (nests_end host trees n) (again_end host nests (nests_end host trees n) (trees s) (host.limit + 1))
-    (slice_get (macros_in first_numbers (trees s).row) m) given (new_run heard w) out w)
+    (slice_get (stream_macros (trees s)) m) given (new_run heard w) out w)
 nests_end host trees (suc n) (whole s) heard out w =
     run_of_ends host (nests_of host trees n) (nests_end host trees n) trees (names_left host w) s (new_run heard w) out w
 
 -- ---------------------------------------------------------------- what runs keep
 unless_fault : (host : HostValue) (e : Ending) (w world1 : World) (A : Type 0) → EndingKeeps host w e world1 → (Kept w world1 → A) →
     UnlessFault e A
-unless_fault host done w world1 A h k = k h
+unless_fault host (done vs) w world1 A h k = k h
 unless_fault host leave w world1 A h k = k h
 unless_fault host next w world1 A h k = k h
 unless_fault host (fault chain) w world1 A h k = tt
@@ -204,7 +214,7 @@ render_ends_there host trees w =
 
 -- ---------------------------------------------------------------- what a block's tag puts back
 behind_world : (e : Ending) (c : NestedCall) (run : Run) (o : Outcome) → (behind e c run o).world ≡ undone c.undo o.world
-behind_world done c run o = refl
+behind_world (done vs) c run o = refl
 behind_world leave c run o = refl
 behind_world next c run o = refl
 behind_world (fault chain) c run o = refl
@@ -243,10 +253,10 @@ entered_puts_back u run b out w stream ends =
       blocks = k.blocks;
     })
 
-pub tag_puts_back : (host : HostValue) (trees : Trees) (n : ℕ) (body : Body) (run : Run) (b : List ℕ) (out : List ℕ) (w : World) →
-    PutsBack w (block_tag (under host (nests_of host trees n) body) run b out w).world
-tag_puts_back host trees n body run b out w =
-    let u : Under = under host (nests_of host trees n) body in
+pub tag_puts_back : (host : HostValue) (trees : Trees) (n : ℕ) (tree : StreamTree) (run : Run) (b : List ℕ) (out : List ℕ) (w : World) →
+    PutsBack w (block_tag (under host (nests_of host trees n) tree) run b out w).world
+tag_puts_back host trees n tree run b out w =
+    let u : Under = under host (nests_of host trees n) tree in
     choose_puts_back w (none_waits run.parent && audible run) _ _
     (block_asks_by (λ q. PutsBack w (in_place_of u run out q).world) host b w (λ kind e. puts_back_same w) (λ stream room.
     entered_puts_back u run b out w stream (nests_end host trees n (whole stream) (audible run) out (in_block stream b w))))
@@ -270,10 +280,10 @@ super_entered_puts_back u run out w stream x ends =
       blocks = h.lasts.blocks;
     })
 
-pub super_puts_back : (host : HostValue) (trees : Trees) (n : ℕ) (body : Body) (run : Run) (out : List ℕ) (w : World) →
-    PutsBack w (in_place_of (under host (nests_of host trees n) body) run out (enter_super host w)).world
-super_puts_back host trees n body run out w =
-    let u : Under = under host (nests_of host trees n) body in
+pub super_puts_back : (host : HostValue) (trees : Trees) (n : ℕ) (tree : StreamTree) (run : Run) (out : List ℕ) (w : World) →
+    PutsBack w (in_place_of (under host (nests_of host trees n) tree) run out (enter_super host w)).world
+super_puts_back host trees n tree run out w =
+    let u : Under = under host (nests_of host trees n) tree in
     super_asks_by (λ q. PutsBack w (in_place_of u run out q).world) host w (λ kind e. puts_back_same w) (λ stream x room.
     super_entered_puts_back u run out w stream x (nests_end host trees n (whole stream) (audible run) out (in_super stream x w)))
 
@@ -319,10 +329,10 @@ included_gives_back u run out w t ends =
       same_loaded = refl;
     })
 
-pub include_gives_back : (host : HostValue) (trees : Trees) (n : ℕ) (body : Body) (run : Run) (out : List ℕ) (v : Val) (missing : Bool)
-    (w : World) → GivesBack w (in_place_of (under host (nests_of host trees n) body) run out (enter_include host v missing w)).world
-include_gives_back host trees n body run out v missing w =
-    let u : Under = under host (nests_of host trees n) body in
+pub include_gives_back : (host : HostValue) (trees : Trees) (n : ℕ) (tree : StreamTree) (run : Run) (out : List ℕ) (v : Val) (missing : Bool)
+    (w : World) → GivesBack w (in_place_of (under host (nests_of host trees n) tree) run out (enter_include host v missing w)).world
+include_gives_back host trees n tree run out v missing w =
+    let u : Under = under host (nests_of host trees n) tree in
     include_asks_by (λ q. GivesBack w (in_place_of u run out q).world) host w (λ chain h. gives_back_same w) (gives_back_same w)
     (λ t room. included_gives_back u run out w t (nests_end host trees n (whole (root_of t)) (audible run) out (in_template host t w)))
     v missing
@@ -333,7 +343,7 @@ if_any Has [] h = tt
 if_any Has (k ∷ ks) h = h
 
 ending_arises : (host : HostValue) (e : Ending) (w world1 : World) → EndingKeeps host w e world1 → IfAny (Arises host) (chain_in e)
-ending_arises host done w world1 h = tt
+ending_arises host (done vs) w world1 h = tt
 ending_arises host leave w world1 h = tt
 ending_arises host next w world1 h = tt
 ending_arises host (fault chain) w world1 h = if_any (Arises host) chain h.1

@@ -9,6 +9,7 @@ pub mod Declares
 pub mod Includes
 pub mod Executes
 pub mod Keeps
+pub mod Leaves
 pub mod Chains
 pub mod Loops
 pub mod Follow

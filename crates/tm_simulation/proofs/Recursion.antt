@@ -183,7 +183,7 @@ module _ (setting : Setting) where
       Ends context (captured_in s.bed s.out) (whole_of e parent out w) (λ q out1 x. K (captured_text out1 x) x)
       (λ q out1 x. K (captured_text out1 x) x) (λ q out1 x. K (captured_text out1 x) x)
   unfolding Ends
-  text_ends s done parent out w K h = h
+  text_ends s (done vs) parent out w K h = h
   text_ends s leave parent out w K h = h
   text_ends s next parent out w K h = h
   text_ends s (fault chain) parent out w K h = h

@@ -3,20 +3,23 @@ use Rattle.std.proofs.Common.{◌≡◌, ◌≤◌, ℕ, zero, suc, ◌+◌, inl
 use Rattle.std.proofs.Common.{true, false, refl, sym, ap, ◌∙◌, subst, arith, eq-eqb, eqb-true}
 use Rattle.std.specs.Prelude.{slice_get, nat_eq, option_and_then}
 use Rattle.std.proofs.lemmas.Option.{slice_get_past}
+use Rattle.tm_syntax.specs.declared.instruction.Instruction.{Instruction}
 use Rattle.tm_syntax.specs.declared.instruction.Instruction.TheVariants as i
 use Rattle.tm_syntax.specs.Fragments.{Fragment, beyond, ending_at, whole_labels, assembled}
-use Rattle.tm_syntax.specs.Code.{statements_code, parameters_code, unnumbered_code}
+use Rattle.tm_syntax.specs.Blocks.{fragment_of}
+use Rattle.tm_syntax.specs.Code.{expr_code, statements_code, parameters_code}
+use Rattle.tm_syntax.specs.declared.tree.Expr.{Expr}
 use Rattle.tm_meaning.specs.World.{choose, root_of, HostValue, World}
 use Rattle.tm_values.specs.declared.error.ErrorKind.{ErrorKind}
 use Rattle.tm_values.specs.declared.escape.AutoEscape.{AutoEscape}
 use Rattle.tm_meaning.specs.World.{Res, Good, Bad, tick}
 use Rattle.tm_meaning.specs.World.{captured_text}
 use Rattle.tm_meaning.specs.Calls.{Callee, whole, macro_of}
-use Rattle.tm_meaning.specs.Tree.{Trees}
+use Rattle.tm_meaning.specs.Tree.{Body, StreamTree, statements, expression, Trees}
 use Rattle.tm_meaning.specs.Meaning.{under, again_of, Ending, done, leave, next}
 use Rattle.tm_meaning.specs.Meaning.{fault, Under}
 use Rattle.tm_meaning.specs.Meaning.{capturing}
-use Rattle.tm_meaning.specs.Meaning.{done_by, exec_all, macro_body, macro_run, take_parameters}
+use Rattle.tm_meaning.specs.Meaning.{done_by, leaving, eval, exec_all, macro_body, macro_run, take_parameters}
 use Rattle.tm_meaning.specs.Meaning.{new_run, at_end, failed, nests_of, rendered, Run, Outcome, stream_run, restarting, run_of}
 use Rattle.tm_meaning.specs.Inheritance.{names_left}
 use Rattle.tm_meaning.specs.Machine.{new_capture, recursion, Capture as OpenCapture, Finished}
@@ -26,7 +29,7 @@ use Rattle.tm_meaning.specs.Compiled.{IsCompiled, code_of}
 use Rattle.tm_meaning.proofs.Ends.{one_end}
 use Rattle.tm_simulation.specs.Reached.{RunsTo, Renders, text_in, end_by, final_in, final_of, HasLevels}
 use Rattle.tm_syntax.proofs.Standing.{At, beyond_is, stands_whole}
-use Rattle.tm_syntax.specs.Loops.{first_numbers, loops_in, loop_places, pasts, FoundMacro, macros_in}
+use Rattle.tm_syntax.specs.Loops.{Numbers, first_numbers, stream_loops, loop_places, pasts, FoundMacro, stream_macros}
 use Rattle.tm_values.specs.Val.{Val}
 use Rattle.tm_syntax.specs.Entries.{entries}
 use Rattle.tm_values.specs.declared.error.ErrorKind.TheVariants.{InvalidOperation}
@@ -35,11 +38,11 @@ use Rattle.tm_simulation.specs.Uncached.{AllUncached, HasNoCaches, with_numbers}
 use Rattle.tm_simulation.proofs.Cached.{begins_too}
 use Rattle.tm_simulation.proofs.Numbered.{IsNumbered, numbered_is}
 use Rattle.tm_simulation.proofs.Counts.{Counts, counts_whole, entries_are, plain_uncached}
-use Rattle.tm_simulation.proofs.Begins.{Both, Paired, paired_at, IsAt, IsEntered, Begins, body_code}
+use Rattle.tm_simulation.proofs.Begins.{Both, Paired, paired_at, IsAt, IsEntered, Begins, none_begin, body_code}
 use Rattle.tm_simulation.proofs.Begins.{Stands as BodyStands}
 use Rattle.tm_simulation.proofs.Declares.{take_parameters_give}
 use Rattle.tm_simulation.proofs.Macros.{parameters_run}
-use Rattle.tm_simulation.proofs.TreeLoops.{statements_begin}
+use Rattle.tm_simulation.proofs.TreeLoops.{expr_loopless, statements_begin}
 use Rattle.tm_simulation.proofs.Advances.{Kept, in_stream, kept_frames, kept_depth, kept_then}
 use Rattle.tm_simulation.proofs.Advances.{within}
 use Rattle.tm_simulation.proofs.Gives.{EndingKeeps, Gives, ends_as, ends_parents, parents_left, parents_kept, tick_gives}
@@ -55,6 +58,8 @@ use Rattle.tm_meaning.specs.declared.stream.StreamId.{StreamId}
 use Rattle.tm_meaning.specs.declared.base.Base.{Base}
 use Rattle.tm_simulation.proofs.Levels.{AllNested, CalledAsValue, CalledInPlace, DeepIn, Setting, deep_kept, here, none_left}
 use Rattle.tm_simulation.proofs.Levels.{same_captures}
+use Rattle.tm_simulation.proofs.Evaluates.{eval_gives}
+use Rattle.tm_simulation.proofs.Expressions.{expr_runs}
 use Rattle.tm_simulation.proofs.Statements.{stmts_run}
 use Rattle.tm_simulation.proofs.Recursion.{recursed_as_value, recursed_in_place, text_ends}
 
@@ -71,9 +76,24 @@ stands_start : (id : StreamId) (b : Bed) (out : List ℕ) (heard : Bool) (w : Wo
     Stands (base_of heard (captures_of b out) w) (new_run heard w) (spot_of id b out)
 stands_start id b out heard w = (refl, omega arith, fits_start b out heard w)
 
--- Each stream of the program is the code of its tree before it has its cache numbers.
+-- the code of a stream before it has its cache numbers
+abbrev unnumbered_of : StreamTree → List Instruction
+unnumbered_of tree = assembled (fragment_of tree)
+
+-- Each stream of the program is this code of its tree.
 abbrev IsUnnumbered : Trees → Program → Type 0
-IsUnnumbered trees p = (s : StreamId) → p.code s ≡ unnumbered_code (trees s).row
+IsUnnumbered trees p = (s : StreamId) → p.code s ≡ unnumbered_of (trees s)
+
+-- the numbers behind a stream's tree
+abbrev numbers_behind : StreamTree → Numbers
+numbers_behind (statements body) = pasts first_numbers body.row
+numbers_behind (expression e) = first_numbers
+
+-- a stream's code begins the loops and macros of its tree
+tree_begins : (tree : StreamTree) →
+    Begins first_numbers (fragment_of tree) (stream_loops tree) (stream_macros tree) (numbers_behind tree)
+tree_begins (statements body) = statements_begin [] first_numbers body.row
+tree_begins (expression e) = none_begin first_numbers (expr_code e) (expr_loopless e)
 
 module _ (p : Program) (trees : Trees) (compiled : IsUnnumbered trees p) where
   abbrev in_program : Base → Final → RunContext
@@ -86,7 +106,7 @@ module _ (p : Program) (trees : Trees) (compiled : IsUnnumbered trees p) where
   -- What a run comes to at its end, where this parent waits: no more may be asked for than at its start, and what follows is its end.
   abbrev Ended : RunContext → Bed → World → (Outcome → Outcome) → Then
   Ended context b w close q x v = (parents_left p.host q v ≤ parents_left p.host None w) ×
-      (context.final ≡ end_of b (close (whole_of done q x v)))
+      (context.final ≡ end_of b (close (whole_of (done []) q x v)))
 
   -- where a loop that isn't there is left, or goes on
   abbrev Stops : RunContext → Bed → World → (Outcome → Outcome) → Then
@@ -125,19 +145,26 @@ module _ (p : Program) (trees : Trees) (compiled : IsUnnumbered trees p) where
       let c = cfg (later (spot_of id b out) (Some t) x) (length (p.code id)) [] v in
       restarts refl (subst (λ o. Leads p g (told_by b x) (step p g (restarted t c)) o) (sym e.1) (again t x v k e.0))
 
-  finishes : (id : StreamId) (heard : Bool) (b : Bed) (out : List ℕ) (w : World) (f : Restarted) → Restarts id heard b out w f →
-      (end : Final) → IsOver (running heard b out w end) (spot_of id b out) w (and_parent f) (length (p.code id))
-  finishes id heard b out w f again end q x v k e =
+  -- with all closed that the run opened, whatever operands are left
+  finish_is : (id : StreamId) (heard : Bool) (b : Bed) (out : List ℕ) (w : World) (q : Option TemplateId) (x : List ℕ) (vs : List Val)
+      (v : World) → Kept w v →
+      let c = cfg (later (spot_of id b out) q x) (length (p.code id)) vs v in
+      step p (base_of heard (captures_of b out) w) c ≡ parent_next q c
+  finish_is id heard b out w q x vs v k =
       let g = base_of heard (captures_of b out) w in
-      let s = later (spot_of id b out) q x in
-      let c = cfg s (length (p.code id)) [] v in
+      let c = cfg (later (spot_of id b out) q x) (length (p.code id)) vs v in
       let past : slice_get (p.code id) (length (p.code id)) ≡ None = slice_get_past (p.code id) (length (p.code id)) (omega arith) in
       let place : nat_eq (length (p.code id)) (length (p.code id)) ≡ true = eq-eqb (length (p.code id)) (length (p.code id)) refl in
       let captures : nat_eq (length (captures_of b out)) (length (captures_of b x)) ≡ true = eq-eqb _ _ (same_captures b out x) in
       let scopes : nat_eq (length w.scopes.frames) (length v.scopes.frames) ≡ true = eq-eqb (length w.scopes.frames)
       (length v.scopes.frames) (sym (kept_frames k)) in
       let ends : finish (length (p.code id)) g c ≡ parent_next q c = rw (place, captures, scopes) refl in
-      subst (λ n. LeadsToEnd (running heard b out w end) (told_by b x) n) (sym (ap (λ o. act p g o c) past ∙ ends))
+      ap (λ o. act p g o c) past ∙ ends
+
+  finishes : (id : StreamId) (heard : Bool) (b : Bed) (out : List ℕ) (w : World) (f : Restarted) → Restarts id heard b out w f →
+      (end : Final) → IsOver (running heard b out w end) (spot_of id b out) w (and_parent f) (length (p.code id))
+  finishes id heard b out w f again end q x v k e =
+      subst (λ n. LeadsToEnd (running heard b out w end) (told_by b x) n) (sym (finish_is id heard b out w q x [] v k))
       (finishes_by id heard b out w f again end q x v k e)
 
   -- and at a macro's return, whatever parent waits
@@ -149,7 +176,7 @@ module _ (p : Program) (trees : Trees) (compiled : IsUnnumbered trees p) where
       let captures : nat_eq (length (captures_of b out)) (length (captures_of b x)) ≡ true = eq-eqb _ _ (same_captures b out x) in
       let scopes : nat_eq (length w.scopes.frames) (length v.scopes.frames) ≡ true = eq-eqb (length w.scopes.frames)
       (length v.scopes.frames) (sym (kept_frames k)) in
-      let ends : return_of f (cfg s stop [] v) ≡ Over (Finished (captures_of b x) v) = rw (captures, scopes) refl in
+      let ends : return_of f (cfg s stop [] v) ≡ Over (Finished [] (captures_of b x) v) = rw (captures, scopes) refl in
       at (running heard b out w end) i.Return s stop [] v there (is_over ends e.1)
 
   -- what closes a run leaves its fault as it is
@@ -173,7 +200,7 @@ module _ (p : Program) (trees : Trees) (compiled : IsUnnumbered trees p) where
       IsOver context s w close stop → Ends context s.bed (whole_of e q x v) (λ q1 x1 v1. Go context (later s q1 x1) stop [] v1)
       (Stops context s.bed w close) (Stops context s.bed w close)
   unfolding Ends
-  end_then context s w close plain stop done q x v k left is z = z q x v k (left, is)
+  end_then context s w close plain stop (done vs) q x v k left is z = z q x v k (left, is)
   end_then context s w close plain stop leave q x v k left is z =
       stopped_by context s.bed w close plain q x v leave (tick v) (tick_gives p.host v) left is
   end_then context s w close plain stop next q x v k left is z =
@@ -192,7 +219,7 @@ module _ (p : Program) (trees : Trees) (compiled : IsUnnumbered trees p) where
 
   -- the code of a stream, and that it stands there
   abbrev code_at : StreamId → Fragment
-  code_at id = statements_code [] (trees id).row
+  code_at id = fragment_of (trees id)
 
   coded : (id : StreamId) → p.code id ≡ assembled (code_at id)
   coded id = compiled id
@@ -200,31 +227,26 @@ module _ (p : Program) (trees : Trees) (compiled : IsUnnumbered trees p) where
   stands_at : (id : StreamId) → At (p.code id) (whole_labels (code_at id)) 0 (code_at id)
   stands_at id = subst (λ c. At c (whole_labels (code_at id)) 0 (code_at id)) (sym (coded id)) (stands_whole (code_at id))
 
-  abbrev begins_at : (id : StreamId) →
-      Begins first_numbers (code_at id) (loops_in first_numbers (trees id).row) (macros_in first_numbers (trees id).row)
-      (pasts first_numbers (trees id).row)
-  begins_at id = statements_begin [] first_numbers (trees id).row
-
   counts_at : (id : StreamId) → Counts (p.code id) first_numbers 0 (code_at id)
   counts_at id =
-      subst (λ c. Counts c first_numbers 0 (code_at id)) (sym (coded id)) (counts_whole (code_at id) (begins_at id).plain_code)
+      subst (λ c. Counts c first_numbers 0 (code_at id)) (sym (coded id)) (counts_whole (code_at id) (tree_begins (trees id)).plain_code)
 
   -- the loops of a stream stand in its code
   all_match : (id : StreamId) (m : ℕ) →
-      Both (IsAt (p.code id)) (slice_get (loops_in first_numbers (trees id).row) m) (slice_get (loop_places 0 (p.code id)) m)
+      Both (IsAt (p.code id)) (slice_get (stream_loops (trees id)) m) (slice_get (loop_places 0 (p.code id)) m)
   all_match id m =
       paired_at (IsAt (p.code id)) _ _ m
-      (subst (λ c. Paired (IsAt (p.code id)) (loops_in first_numbers (trees id).row) (loop_places 0 c)) (sym (coded id))
-      ((begins_at id).found (p.code id) (whole_labels (code_at id)) 0 (stands_at id) (counts_at id)))
+      (subst (λ c. Paired (IsAt (p.code id)) (stream_loops (trees id)) (loop_places 0 c)) (sym (coded id))
+      ((tree_begins (trees id)).found (p.code id) (whole_labels (code_at id)) 0 (stands_at id) (counts_at id)))
 
   -- and so do its macros
   all_entered : (id : StreamId) (m : ℕ) →
-      Both (IsEntered (p.code id)) (slice_get (macros_in first_numbers (trees id).row) m) (slice_get (entries (p.code id)) m)
+      Both (IsEntered (p.code id)) (slice_get (stream_macros (trees id)) m) (slice_get (entries (p.code id)) m)
   all_entered id m =
       paired_at (IsEntered (p.code id)) _ _ m
-      (subst (λ es. Paired (IsEntered (p.code id)) (macros_in first_numbers (trees id).row) es)
-      (sym (ap entries (coded id) ∙ entries_are (code_at id) (begins_at id).plain_code))
-      ((begins_at id).declared (p.code id) (whole_labels (code_at id)) 0 (stands_at id) (counts_at id)))
+      (subst (λ es. Paired (IsEntered (p.code id)) (stream_macros (trees id)) es)
+      (sym (ap entries (coded id) ∙ entries_are (code_at id) (tree_begins (trees id)).plain_code))
+      ((tree_begins (trees id)).declared (p.code id) (whole_labels (code_at id)) 0 (stands_at id) (counts_at id)))
 
   -- Loops that are called come behind their calls. Level zero isn't reached: each call opens a scope within the limit, and there is one
   -- level more than the limit.
@@ -258,13 +280,13 @@ module _ (p : Program) (trees : Trees) (compiled : IsUnnumbered trees p) where
         λ m items run s pc stack old w0 w D L N d h g.
             subst (λ q. LeadsToEnd context (told s) (recursion p (cfg s pc old w0) false stack (captures_of s.bed s.out) m
             (slice_get (loop_places 0 (p.code q)) m) items w)) (sym d.2)
-            (recursed_in_place setting (slice_get (loops_in first_numbers (trees id).row) m) (slice_get (loop_places 0 (p.code id)) m)
+            (recursed_in_place setting (slice_get (stream_loops (trees id)) m) (slice_get (loop_places 0 (p.code id)) m)
             (all_match id m) m items run s pc stack old w0 w D L N d h g),
         λ m items run s pc stack old w0 w K d h g.
             let o = again_of p.host nests (trees id) (suc level) m items (capturing true run) [] w in
             subst (λ q. LeadsToEnd context (told s) (recursion p (cfg s pc old w0) true stack (new_capture true ∷ captures_of s.bed s.out) m
             (slice_get (loop_places 0 (p.code q)) m) items w)) (sym d.2)
-            (recursed_as_value setting (slice_get (loops_in first_numbers (trees id).row) m) (slice_get (loop_places 0 (p.code id)) m)
+            (recursed_as_value setting (slice_get (stream_loops (trees id)) m) (slice_get (loop_places 0 (p.code id)) m)
             (all_match id m) m items run s pc stack old w0 w
             (λ q out1 x. K (captured_text out1 x) x) d (text_ends setting s o.ending o.parent o.text o.world K h)
             (λ q out1 x e. g (captured_text out1 x) x e)),
@@ -296,22 +318,38 @@ module _ (p : Program) (trees : Trees) (compiled : IsUnnumbered trees p) where
   )
 
   -- A stream's run comes to what its tree means, and then to what the parent's run is that waits, where what nests does so a level below.
-  stream_runs : (n : ℕ) (id : StreamId) (heard : Bool) (b : Bed) (out : List ℕ) (w : World) → HasLevels p.host (suc n) w →
-      AllNested p trees n → (f : Restarted) → Restarts id heard b out w f →
+  abbrev StreamRuns : ℕ → StreamId → Bool → Bed → List ℕ → World → Restarted → StreamTree → Type 0
+  StreamRuns n id heard b out w f tree =
       let u = under p.host (nests_of p.host trees n) (trees id) in
-      Entered p (whole id) heard b out w (and_parent f (stream_run u (trees id) (new_run heard w) out w))
-  stream_runs n id heard b out w deep below f again =
+      Entered p (whole id) heard b out w (and_parent f (stream_run u tree (new_run heard w) out w))
+
+  -- where its code stands, and how long that is
+  abbrev StandsAs : StreamId → Fragment → Type 0
+  StandsAs id c = At (p.code id) (whole_labels c) 0 c × Counts (p.code id) first_numbers 0 c × (beyond 0 c ≡ length (p.code id))
+
+  stands_as : (id : StreamId) → StandsAs id (code_at id)
+  stands_as id =
+      let c = code_at id in (
+        stands_at id,
+        counts_at id,
+        beyond_is (whole_labels c) 0 c ∙ ap (λ is. 0 + length is) (sym (coded id)) ∙ omega arith,
+      )
+
+  statements_run : (n : ℕ) (id : StreamId) (heard : Bool) (b : Bed) (out : List ℕ) (w : World) → HasLevels p.host (suc n) w →
+      AllNested p trees n → (f : Restarted) → Restarts id heard b out w f → (body : Body) → StandsAs id (statements_code [] body.row) →
+      StreamRuns n id heard b out w f (statements body)
+  statements_run n id heard b out w deep below f again body there =
       let nests = nests_of p.host trees n in
       let kept_again = again_end p.host nests (nests_end p.host trees n) (trees id) (p.host.limit + 1) in
       let u : Under = under p.host nests (trees id) in
-      let row = (trees id).row in
+      let row = body.row in
       let o = exec_all u first_numbers row (new_run heard w) out w in
       let end = end_of b (and_parent f (at_end o.ending o)) in
       let context = running heard b out w end in
       let s = spot_of id b out in
-      let c = code_at id in
+      let c = statements_code [] row in
       let stop = beyond 0 c in
-      let size : stop ≡ length (p.code id) = beyond_is (whole_labels c) 0 c ∙ ap (λ is. 0 + length is) (sym (coded id)) ∙ omega arith in
+      let size : stop ≡ length (p.code id) = there.2 in
       let is_over_there : IsOver context s w (and_parent f) stop =
       λ q x v k e. move context (later s q x) stop (length (p.code id)) [] v size (finishes id heard b out w f again end q x v k e) in
       let keeps = execs_end u (nests_end p.host trees n) kept_again first_numbers row (new_run heard w) out w in
@@ -323,7 +361,49 @@ module _ (p : Program) (trees : Trees) (compiled : IsUnnumbered trees p) where
         λ q x v pc k none is e. stops_then context s w (and_parent f) stop is_over_there q x v pc k is e,
         λ q x v pc k none is e. stops_then context s w (and_parent f) stop is_over_there q x v pc k is e,
       )
-      (stands_at id) (counts_at id) ends
+      there.0 there.1 ends
+
+  -- A value that is left is the end of its run, where no parent waits.
+  value_ends : (id : StreamId) (heard : Bool) (b : Bed) (out : List ℕ) (w : World) (f : Restarted) (end : Final) (m : Res Val) →
+      Gives p.host w m →
+      end ≡ end_of b (and_parent f (leaving m (new_run heard w) out)) →
+      (stop : ℕ) → stop ≡ length (p.code id) →
+      let context = running heard b out w end in
+      Follows context (told_by b out) m (λ v world1. Go context (spot_of id b out) stop (v ∷ []) world1)
+  value_ends id heard b out w f end (Good v world1) kept is stop size =
+      let context = running heard b out w end in
+      let s = spot_of id b out in
+      move context s stop (length (p.code id)) (v ∷ []) world1 size
+      (subst (λ n. LeadsToEnd context (told_by b out) n) (sym (finish_is id heard b out w None out (v ∷ []) world1 kept))
+      (is_over refl is))
+  value_ends id heard b out w f end (Bad chain world1) kept is stop size = is
+
+  expression_runs : (n : ℕ) (id : StreamId) (heard : Bool) (b : Bed) (out : List ℕ) (w : World) → HasLevels p.host (suc n) w →
+      AllNested p trees n → (f : Restarted) → (e : Expr) → StandsAs id (expr_code e) → StreamRuns n id heard b out w f (expression e)
+  expression_runs n id heard b out w deep below f e there =
+      let nests = nests_of p.host trees n in
+      let nest_ends = nests_end p.host trees n in
+      let kept_again = again_end p.host nests nest_ends (trees id) (p.host.limit + 1) in
+      let u : Under = under p.host nests (trees id) in
+      let run = new_run heard w in
+      let m = eval u run e w in
+      let end = end_of b (and_parent f (leaving m run out)) in
+      let context = running heard b out w end in
+      let s = spot_of id b out in
+      let c = expr_code e in
+      let setting = setting_of n id (base_of heard (captures_of b out) w) end below in
+      expr_runs setting e run s (whole_labels c) 0 [] w (here setting run s w (deep_at n id heard b out w end deep)) there.0
+      (value_ends id heard b out w f end m (eval_gives u nest_ends kept_again run e w) refl (beyond 0 c) there.2)
+
+  tree_runs : (n : ℕ) (id : StreamId) (heard : Bool) (b : Bed) (out : List ℕ) (w : World) → HasLevels p.host (suc n) w →
+      AllNested p trees n → (f : Restarted) → Restarts id heard b out w f → (tree : StreamTree) → StandsAs id (fragment_of tree) →
+      StreamRuns n id heard b out w f tree
+  tree_runs n id heard b out w deep below f again (statements body) there = statements_run n id heard b out w deep below f again body there
+  tree_runs n id heard b out w deep below f again (expression e) there = expression_runs n id heard b out w deep below f e there
+
+  stream_runs : (n : ℕ) (id : StreamId) (heard : Bool) (b : Bed) (out : List ℕ) (w : World) → HasLevels p.host (suc n) w →
+      AllNested p trees n → (f : Restarted) → Restarts id heard b out w f → StreamRuns n id heard b out w f (trees id)
+  stream_runs n id heard b out w deep below f again = tree_runs n id heard b out w deep below f again (trees id) (stands_as id)
 
   -- where a run restarts it stands on what it stood on before, and begins as it did
   same_base : (heard : Bool) (b : Bed) (out x : List ℕ) {w v : World} (s : StreamId) → Kept w v →
@@ -442,7 +522,7 @@ module _ (p : Program) (trees : Trees) (compiled : IsUnnumbered trees p) where
   nests_run : (n : ℕ) → AllNested p trees n
   nests_run zero k heard b out w deep within = absurd (omega (arith, deep, within))
   nests_run (suc n) (macro_of id m given) heard b out w deep within =
-      macro_runs n id (slice_get (macros_in first_numbers (trees id).row) m) (slice_get (entries (p.code id)) m) (all_entered id m) given
+      macro_runs n id (slice_get (stream_macros (trees id)) m) (slice_get (entries (p.code id)) m) (all_entered id m) given
       heard b out w deep (nests_run n)
   nests_run (suc n) (whole id) heard b out w deep within =
       chain_runs n (nests_run n) (names_left p.host w) id heard b out w deep (omega arith)
@@ -451,7 +531,7 @@ module _ (p : Program) (trees : Trees) (compiled : IsUnnumbered trees p) where
   level_runs : (n : ℕ) (k : Callee) (heard : Bool) (b : Bed) (out : List ℕ) (w : World) → HasLevels p.host (suc n) w →
       Entered p k heard b out w (nests_of p.host trees (suc n) k heard out w)
   level_runs n (macro_of id m given) heard b out w deep =
-      macro_runs n id (slice_get (macros_in first_numbers (trees id).row) m) (slice_get (entries (p.code id)) m) (all_entered id m) given
+      macro_runs n id (slice_get (stream_macros (trees id)) m) (slice_get (entries (p.code id)) m) (all_entered id m) given
       heard b out w deep (nests_run n)
   level_runs n (whole id) heard b out w deep =
       chain_runs n (nests_run n) (names_left p.host w) id heard b out w deep (omega arith)
@@ -465,14 +545,14 @@ module _ (p : Program) (trees : Trees) (compiled : IsUnnumbered trees p) where
 
 -- ---------------------------------------------------------------- over any captures
 unheard_end : (e : Ending) (out : List ℕ) (w : World) → bed_end e air out w ≡ final out (end_by e [] w)
-unheard_end done out w = refl
+unheard_end (done vs) out w = refl
 unheard_end leave out w = refl
 unheard_end next out w = refl
 unheard_end (fault chain) out w = refl
 
 captured_end : (e : Ending) (h : Bool) (told : List ℕ) (ks : List OpenCapture) (out : List ℕ) (w : World) →
     bed_end e (inside h told ks) out w ≡ final told (end_by e (record { heard = h; text = out } ∷ ks) w)
-captured_end done h told ks out w = refl
+captured_end (done vs) h told ks out w = refl
 captured_end leave h told ks out w = refl
 captured_end next h told ks out w = refl
 captured_end (fault chain) h told ks out w = refl
@@ -498,23 +578,23 @@ numbers_change_nothing p k heard captures told w end none run =
 
 -- the same streams before they have them
 abbrev unnumbered : Trees → Program → Program
-unnumbered trees p = record { host = p.host; code = λ s. unnumbered_code (trees s).row }
+unnumbered trees p = record { host = p.host; code = λ s. unnumbered_of (trees s) }
 
-uncached : (trees : Trees) (s : StreamId) → AllUncached (unnumbered_code (trees s).row)
+uncached : (trees : Trees) (s : StreamId) → AllUncached (unnumbered_of (trees s))
 uncached trees s =
-    let c = statements_code [] (trees s).row in
-    plain_uncached (whole_labels c) 0 c (statements_begin [] first_numbers (trees s).row).plain_code
+    let c = fragment_of (trees s) in
+    plain_uncached (whole_labels c) 0 c (tree_begins (trees s)).plain_code
 
 numbered_streams : (trees : Trees) (p : Program) → IsCompiled trees p → (s : StreamId) →
-    IsNumbered (unnumbered_code (trees s).row) (p.code s)
+    IsNumbered (unnumbered_of (trees s)) (p.code s)
 numbered_streams trees p compiled s =
-    let code = unnumbered_code (trees s).row in
+    let code = unnumbered_of (trees s) in
     subst (λ c. IsNumbered code c) (sym (compiled s)) (numbered_is code (uncached trees s))
 
 once_numbered : (trees : Trees) (p : Program) (k : Callee) (heard : Bool) (captures : List OpenCapture) (told : List ℕ) (w : World)
     (end : Final) → IsCompiled trees p → RunsTo (unnumbered trees p) k heard captures told w end → RunsTo p k heard captures told w end
 once_numbered trees p k heard captures told w end compiled run =
-    begins_too p.host (λ s. unnumbered_code (trees s).row) p.code (numbered_streams trees p compiled) (base_of heard captures w) told k
+    begins_too p.host (λ s. unnumbered_of (trees s)) p.code (numbered_streams trees p compiled) (base_of heard captures w) told k
     captures w end run
 
 pub nested_comes_to_meaning : (trees : Trees) (p : Program) (n : ℕ) (k : Callee) (heard : Bool) (captures : List OpenCapture)
@@ -540,7 +620,7 @@ pub same_with_names : (host : HostValue) (trees : Trees) (n m k : ℕ) (s : Stre
     let nests = nests_of host trees n in
     final_of (run_of host nests trees m s (new_run heard w) out w) ≡ final_of (run_of host nests trees k s (new_run heard w) out w)
 same_with_names host trees n m k s heard out w enough left also =
-    let p : Program = record { host = host; code = λ r. unnumbered_code (trees r).row } in
+    let p : Program = record { host = host; code = λ r. unnumbered_of (trees r) } in
     let nests = nests_of host trees n in
     let o = run_of host nests trees m s (new_run heard w) out w in
     let q = run_of host nests trees k s (new_run heard w) out w in
@@ -563,7 +643,7 @@ comes_to_meaning trees p w compiled =
     subst (λ e. Renders p w e) (unheard_end o.ending o.text o.world) (render_runs p trees compiled air w)
 
 not_stuck_by : (e : Ending) (w left : World) → end_by e [] w ≡ Stuck left → ⊥
-not_stuck_by done w left e = cc
+not_stuck_by (done vs) w left e = cc
 not_stuck_by leave w left e = cc
 not_stuck_by next w left e = cc
 not_stuck_by (fault chain) w left e = cc

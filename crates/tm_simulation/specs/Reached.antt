@@ -2,7 +2,7 @@
 use Rattle.std.specs.Prelude.{ℕ, ◌+◌, ◌≤◌, List, [], ◌∷◌, Bool, true}
 use Rattle.tm_meaning.specs.World.{World, HostValue, depth}
 use Rattle.tm_meaning.specs.Calls.{Callee, whole}
-use Rattle.tm_meaning.specs.Meaning.{Ending, fault, Outcome}
+use Rattle.tm_meaning.specs.Meaning.{Ending, fault, left_by, Outcome}
 use Rattle.tm_meaning.specs.Machine.{Program, Capture, End, Finished, Failed, base_of}
 use Rattle.tm_meaning.specs.Steps.{Final, final, Leads, begins}
 
@@ -34,10 +34,10 @@ told_with [] told text = text
 told_with (k ∷ ks) told text = told
 
 -- ---------------------------------------------------------------- what is meant
--- a fault's chain, or done, with these captures
+-- a fault's chain, or done, with the values that are left, and these captures
 abbrev pub end_by : Ending → List Capture → World → End
 end_by (fault chain) captures w = Failed chain w
-end_by e captures w = Finished captures w
+end_by e captures w = Finished (left_by e) captures w
 
 -- The end of a run that means this, over these captures and what the writer had got before it.
 abbrev pub final_in : List Capture → List ℕ → Outcome → Final

@@ -12,8 +12,10 @@ ghost use Rattle.tm_meaning.specs.World.{Good, HostValue, World};
 ghost use Rattle.tm_meaning.specs.declared.stream.StreamId.{StreamId};
 ghost use Rattle.tm_meaning.specs.declared.stream.TemplateId.{TemplateId};
 ghost use Rattle.tm_meaning.specs.Inheritance.{load, names_left};
-ghost use Rattle.tm_meaning.specs.Calls.{Callee, enter_include, enter_super};
-ghost use Rattle.tm_meaning.specs.Tree.{Body, Trees};
+ghost use Rattle.tm_syntax.specs.declared.tree.Expr.{Expr};
+ghost use Rattle.tm_meaning.specs.Calls.{Callee, enter_include, enter_super, whole};
+ghost use Rattle.tm_meaning.specs.Tree.{StreamTree, Trees, expression};
+ghost use Rattle.tm_meaning.specs.Meaning.{eval, evaluated, leaving};
 ghost use Rattle.tm_meaning.specs.Meaning.{Run, block_tag, chain_of, in_place_of, nests_of, new_run, rendered, run_of, under};
 ghost use Rattle.tm_meaning.specs.Machine.{Program, Capture, Stuck};
 ghost use Rattle.tm_meaning.specs.Steps.{Final, final};
@@ -69,6 +71,20 @@ pub fn names_change_no_meaning()
         final_of (run_of host nests trees k s (new_run heard w) out w) }
 {}
 
+/// The run of an expression's stream evaluates it: it writes nothing, and is done with its value
+/// alone left, or ends in its fault. So what the stream means that a world names is that value.
+pub fn an_expression_leaves_its_value()
+    ensures run { (host : HostValue) (trees : Trees) (n : ℕ) (s : StreamId) (e : Expr)
+        (heard : Bool) (out : List ℕ) (w : World) → trees s ≡ expression e →
+        let run = new_run heard w in
+        let u = under host (nests_of host trees n) (expression e) in
+        nests_of host trees (suc n) (whole s) heard out w ≡ leaving (eval u run e w) run out }
+    ensures value { (host : HostValue) (trees : Trees) (e : Expr) (w : World) →
+        trees w.stream ≡ expression e →
+        let u = under host (nests_of host trees host.limit) (expression e) in
+        evaluated host trees w ≡ eval u (new_run true w) e w }
+{}
+
 /// A parent that is given leaves a name fewer to be loaded, so every run ends.
 pub fn a_parent_leaves_a_name_fewer()
     ensures { (host : HostValue) (v : Val) (inside : Bool) (w left : World) (t : TemplateId) →
@@ -109,25 +125,25 @@ pub fn a_render_ends_in_its_stream_or_a_root()
 /// Whatever its run comes to, also a fault, a block's tag leaves the scopes, the stream, the block, the escape and the places in lists of
 /// blocks as they were before it, and no list loses a template.
 pub fn a_block_puts_back_what_it_replaced()
-    ensures { (host : HostValue) (trees : Trees) (n : ℕ) (body : Body) (run : Run) (b : List ℕ)
+    ensures { (host : HostValue) (trees : Trees) (n : ℕ) (tree : StreamTree) (run : Run) (b : List ℕ)
         (out : List ℕ) (w : World) →
-        PutsBack w (block_tag (under host (nests_of host trees n) body) run b out w).world }
+        PutsBack w (block_tag (under host (nests_of host trees n) tree) run b out w).world }
 {}
 
 /// So does `super()`.
 pub fn a_super_puts_back_what_it_replaced()
-    ensures { (host : HostValue) (trees : Trees) (n : ℕ) (body : Body) (run : Run) (out : List ℕ)
+    ensures { (host : HostValue) (trees : Trees) (n : ℕ) (tree : StreamTree) (run : Run) (out : List ℕ)
         (w : World) →
-        let u = under host (nests_of host trees n) body in
+        let u = under host (nests_of host trees n) tree in
         PutsBack w (in_place_of u run out (enter_super host w)).world }
 {}
 
 /// An include leaves all this as it was, and the lists of blocks and the loaded names too, whatever
 /// comes of it; of the scopes only the names of the innermost one may differ.
 pub fn an_include_gives_back_what_it_replaced()
-    ensures { (host : HostValue) (trees : Trees) (n : ℕ) (body : Body) (run : Run) (out : List ℕ)
+    ensures { (host : HostValue) (trees : Trees) (n : ℕ) (tree : StreamTree) (run : Run) (out : List ℕ)
         (v : Val) (missing : Bool) (w : World) →
-        let u = under host (nests_of host trees n) body in
+        let u = under host (nests_of host trees n) tree in
         GivesBack w (in_place_of u run out (enter_include host v missing w)).world }
 {}
 

@@ -1,4 +1,4 @@
--- Statements as one thing, and the blocks among them.
+-- Statements as one thing, the blocks among them, and what a stream runs.
 use Rattle.std.specs.Prelude.{List, [], ◌∷◌, ◌++◌, Bool}
 use mathlib.Core.Former.{Count}
 use Rattle.tm_syntax.specs.declared.tree.Stmt.{EmitRaw, EmitExpr, EmitLoop, EmitBlock, EmitSuper, Break, Continue, Extends, Set, Do}
@@ -6,9 +6,15 @@ use Rattle.tm_syntax.specs.declared.tree.Stmt.{Include, Import, FromImport}
 use Rattle.tm_syntax.specs.declared.tree.Stmt.{Stmt, If', For', Block', CaptureBlock', With', AutoEscape', Macro', CallBlock', Row_of-Stmt}
 use Rattle.tm_syntax.specs.declared.tree.Stmt.{end_of-Stmt as no_statement, more_of-Stmt as statement, Held-Stmt-If-2 as Otherwise}
 use Rattle.tm_syntax.specs.declared.tree.Stmt.{None' as no_else, Some' as otherwise}
+use Rattle.tm_syntax.specs.declared.tree.Expr.{Expr}
 use Rattle.tm_syntax.specs.declared.instruction.Instruction.{Instruction}
-use Rattle.tm_syntax.specs.Code.{stream_code}
+use Rattle.tm_syntax.specs.CacheNumbers.{numbered}
+use Rattle.tm_syntax.specs.Code.{expr_code, statements_code}
+use Rattle.tm_syntax.specs.Fragments.{Fragment, assembled}
 use Rattle.tm_syntax.specs.Named.{Named}
+use Rattle.tm_syntax.specs.declared.tree.Stmt.TheBlock.{hidden-the_row-Stmt-0 as row_of}
+use Rattle.tm_syntax.specs.declared.tree.Tree.{Tree}
+use Rattle.tm_syntax.specs.declared.tree.Tree.TheVariants as trees
 
 pub record Body : Type 0 where
   pub size : Count
@@ -61,6 +67,27 @@ abbrev mutual
   blocks_else no_else = []
   blocks_else (otherwise _ body) = blocks_in body
 
--- the instructions of a body
-abbrev pub code_of : Body → List Instruction
-code_of body = stream_code body.row
+-- ---------------------------------------------------------------- streams
+-- What a stream runs: statements, or an expression, whose value is left.
+pub data StreamTree : Type 0 where
+  statements : Body → StreamTree
+  expression : Expr → StreamTree
+
+-- the blocks among its statements; an expression has none
+abbrev pub stream_blocks : StreamTree → Named FoundBlock
+stream_blocks (statements body) = blocks_in body.row
+stream_blocks (expression e) = []
+
+-- its code without places
+abbrev pub fragment_of : StreamTree → Fragment
+fragment_of (statements body) = statements_code [] body.row
+fragment_of (expression e) = expr_code e
+
+-- its instructions
+abbrev pub code_of : StreamTree → List Instruction
+code_of tree = numbered (assembled (fragment_of tree))
+
+-- the stream that a source's tree is
+abbrev pub stream_of : Tree → StreamTree
+stream_of (trees.Statements ss) = statements (body_of (row_of ss))
+stream_of (trees.Expression e) = expression e

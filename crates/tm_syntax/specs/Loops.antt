@@ -14,7 +14,7 @@ use Rattle.tm_syntax.specs.declared.tree.Stmt.{Stmt, If', For', CaptureBlock', W
 use Rattle.tm_syntax.specs.declared.tree.Stmt.{end_of-Stmt as no_statement}
 use Rattle.tm_syntax.specs.declared.tree.Stmt.{more_of-Stmt as statement, Held-Stmt-If-2 as Otherwise, None' as no_else}
 use Rattle.tm_syntax.specs.declared.tree.Stmt.{Some' as otherwise}
-use Rattle.tm_syntax.specs.Blocks.{Body, body_of}
+use Rattle.tm_syntax.specs.Blocks.{Body, body_of, StreamTree, statements, expression}
 
 -- ---------------------------------------------------------------- of trees
 abbrev pub passes : Option Expr → ℕ
@@ -156,6 +156,16 @@ abbrev mutual
   pub macros_else : Numbers → Otherwise → List FoundMacro
   macros_else at no_else = []
   macros_else at (otherwise _ body) = macros_in at body
+
+-- ---------------------------------------------------------------- of streams
+-- those of a stream's statements, each at its number; an expression has none
+abbrev pub stream_loops : StreamTree → List FoundLoop
+stream_loops (statements body) = loops_in first_numbers body.row
+stream_loops (expression e) = []
+
+abbrev pub stream_macros : StreamTree → List FoundMacro
+stream_macros (statements body) = macros_in first_numbers body.row
+stream_macros (expression e) = []
 
 -- ---------------------------------------------------------------- of code
 -- the loop that an instruction begins

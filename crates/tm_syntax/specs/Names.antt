@@ -32,6 +32,9 @@ use Rattle.tm_syntax.specs.declared.tree.Stmt.{Include, Import, FromImport}
 use Rattle.tm_syntax.specs.declared.tree.Stmt.{end_of-Stmt as no_statement}
 use Rattle.tm_syntax.specs.declared.tree.Stmt.{more_of-Stmt as statement, Held-Stmt-If-2 as Otherwise, None' as no_else}
 use Rattle.tm_syntax.specs.declared.tree.Stmt.{Some' as otherwise}
+use Rattle.tm_syntax.specs.declared.tree.Stmt.TheBlock.{hidden-the_row-Stmt-0 as row_of}
+use Rattle.tm_syntax.specs.declared.tree.Tree.{Tree}
+use Rattle.tm_syntax.specs.declared.tree.Tree.TheVariants as trees
 
 -- ---------------------------------------------------------------- what a walk knows
 -- the names that are assigned in a scope
@@ -281,6 +284,11 @@ abbrev mutual
 -- the names that statements on their own read, in their order
 abbrev pub undeclared : {n : _} → Bool → Row_of-Stmt n → List (List ℕ)
 undeclared nested ss = (walk_all nested ss beginning).found
+
+-- those that a source reads
+abbrev pub undeclared_in : Bool → Tree → List (List ℕ)
+undeclared_in nested (trees.Statements ss) = undeclared nested (row_of ss)
+undeclared_in nested (trees.Expression e) = (walk_expr nested e beginning).found
 
 -- ---------------------------------------------------------------- the names of a macro
 -- what a macro reads, walked over alone

@@ -137,8 +137,8 @@ pub enum Instruction {
     FastSuper,
     /// Pops the name of the parent, which runs behind the stream.
     LoadBlocks,
-    /// Pops a template's name, or several, and runs the first of which there is one in place; whether
-    /// none may be there.
+    /// Pops a template's name, or several, and runs the first of which there is one in place; whether none
+    /// may be there.
     Include(bool),
     /// Replaces the text of a capture by the module of the innermost scope's names and that text.
     ExportLocals,

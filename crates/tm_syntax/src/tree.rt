@@ -302,9 +302,11 @@ pub struct CallBlock {
     pub body: Items<Stmt>,
 }
 
-/// A template's tree.
+/// What a source spells.
 #[derive(Drop)]
-pub struct Tree {
-    /// What a render runs.
-    pub statements: Items<Stmt>,
+pub enum Tree {
+    /// A template: the statements that a render runs.
+    Statements(Items<Stmt>),
+    /// An expression.
+    Expression(Boxed<Expr>),
 }

@@ -2,14 +2,14 @@
 use Rattle.std.proofs.Common.{[], ◌∷◌, ◌≡◌, sym, subst}
 use Rattle.std.specs.List.Sorted.{IsStrictlySortedBy}
 use Rattle.std.specs.Map.{keys_of}
-use Rattle.tm_syntax.specs.Blocks.{blocks_in}
+use Rattle.tm_syntax.specs.Blocks.{stream_blocks, stream_of}
 use Rattle.tm_syntax.specs.BlockCodes.{compiled_blocks}
 use Rattle.tm_syntax.specs.Named.{Named, by_name, name_cmp, put, put_each}
 use Rattle.tm_syntax.specs.declared.code.BlockCode.{BlockCode}
 use Rattle.tm_syntax.specs.declared.tree.Tree.{Tree}
 use Rattle.tm_tables.specs.Places.{AreOrdered}
 use Rattle.tm_tables.proofs.Places.{ordered-none, ordered-put}
-use Rattle.tm_templates.specs.Templates.{block_codes, body}
+use Rattle.tm_templates.specs.Templates.{block_codes}
 
 -- what stands by its name is in order
 put_each-ordered : {A : Type 0} (ps qs : Named A) → AreOrdered qs → AreOrdered (put_each ps qs)
@@ -20,4 +20,4 @@ pub by_name-ordered : {A : Type 0} (ps : Named A) → AreOrdered (by_name ps)
 by_name-ordered {A = A} ps = put_each-ordered ps [] (ordered-none A)
 
 pub blocks-ascend : (tree : Tree) (blocks : Named BlockCode) → blocks ≡ block_codes tree → IsStrictlySortedBy name_cmp (keys_of blocks)
-blocks-ascend tree blocks are = subst AreOrdered (sym are) (by_name-ordered (compiled_blocks (blocks_in (body tree).row)))
+blocks-ascend tree blocks are = subst AreOrdered (sym are) (by_name-ordered (compiled_blocks (stream_blocks (stream_of tree))))

@@ -4,9 +4,8 @@ ghost use Rattle.std.specs.List.Sorted.{IsStrictlySortedBy};
 ghost use Rattle.std.specs.Map.{keys_of};
 ghost use Rattle.std.specs.Prelude.{◌≡◌, [], ◌∷◌, IfOk, IfErr, map as each, string_bytes};
 ghost use Rattle.std.specs.Rc.{rc_str_bytes};
-ghost use Rattle.tm_syntax.specs.Names.{undeclared};
-ghost use Rattle.tm_syntax.specs.Blocks.{code_of};
-ghost use Rattle.tm_syntax.specs.declared.tree.Stmt.TheBlock.{hidden-the_row-Stmt-0 as statements};
+ghost use Rattle.tm_syntax.specs.Names.{undeclared_in};
+ghost use Rattle.tm_syntax.specs.Blocks.{code_of, stream_of};
 ghost use Rattle.tm_syntax.specs.Named.{find, name_cmp};
 ghost use Rattle.tm_delimiters.specs.Syntax.{default_syntax};
 ghost use Rattle.tm_values.specs.Answer.{IsLent, OkOrOutOfMemory};
@@ -14,7 +13,8 @@ ghost use Rattle.tm_values.specs.declared.error.ErrorKind.TheVariants.{OutOfMemo
 ghost use Rattle.tm_meaning.specs.Calls.{is_required};
 ghost use Rattle.tm_meaning.specs.Tree.{part_of, template_of};
 ghost use Rattle.tm_meaning.specs.World.{card_in};
-ghost use Rattle.tm_templates.specs.Templates.{IsTemplate, IsRefused, body, block_codes, empty_template, tree_of};
+ghost use Rattle.tm_templates.specs.Templates.{IsExpression, IsTemplate, IsRefused, IsRefusedExpression};
+ghost use Rattle.tm_templates.specs.Templates.{block_codes, empty_template, tree_of};
 ghost use Rattle.tm_templates.specs.Defaults.{escape_of};
 ghost use Rattle.tm_templates.specs.Sources.{source_bytes};
 
@@ -24,10 +24,13 @@ use std::alloc::Global;
 use std::collections::BTreeSet;
 use std::marker::Model;
 use std::rc::{Rc, RcStr};
-use tm_compiler::{BlockCode, Code, Name, NameMap, Streams, SyntaxConfig, Tree, generate, parse};
+use tm_compiler::{BlockCode, Code, Name, NameMap, Streams, SyntaxConfig, Tree, generate, parse, parse_expr};
 use tm_names::undeclared;
 use tm_tables::{BlockNames, EscapeRule};
 use tm_values::{AutoEscape, Error};
+
+/// The name of all expressions.
+const EXPRESSION: &str = "<expression>";
 
 /// How templates are compiled.
 #[derive(Drop)]
@@ -183,9 +186,21 @@ impl<'source> CompiledTemplate<'source> {
     pub fn empty(alloc: Global, name: &str) -> Result<CompiledTemplate<'source>, Error>
         ensures { OkOrOutOfMemory result (λ t. t ≡ empty_template name.now) }
     {
-        let statements = Items::new(alloc);
-        let tree = Tree { statements };
+        let tree = Tree::Statements(Items::new(alloc));
         CompiledTemplate::of_tree(alloc, name, Source::Lent(""), AutoEscape::None, tree)
+    }
+
+    /// Compiles an expression's source. Nothing that it writes is escaped. SyntaxError where the source spells no
+    /// expression, OutOfMemory where there is no memory.
+    pub fn expression(
+        alloc: Global,
+        source: Source<'source>,
+    ) -> Result<CompiledTemplate<'source>, Error>
+        ensures compiled { IfOk result (IsExpression (source_bytes source.entry)) }
+        ensures refused { IfErr result (IsRefusedExpression (source_bytes source.entry)) }
+    {
+        let tree = parse_expr(alloc, source.as_str())?;
+        CompiledTemplate::of_tree(alloc, EXPRESSION, source, AutoEscape::None, tree)
     }
 
     /// The template of a tree. Fails by OutOfMemory alone.
@@ -246,7 +261,7 @@ impl<'source> CompiledTemplate<'source> {
         nested: bool,
     ) -> Result<BTreeSet<String>, Error>
         ensures ok { IfOk result (λ names. each string_bytes (keys names)
-            ≡ undeclared nested (statements self.now.tree.statements)) }
+            ≡ undeclared_in nested self.now.tree) }
         ensures memory { IfErr result (λ e. e ≡ OutOfMemory ∷ []) }
     {
         undeclared(alloc, &self.tree, nested)
@@ -254,7 +269,7 @@ impl<'source> CompiledTemplate<'source> {
 
     /// The code of its tree.
     pub fn instructions(&self) -> &Code
-        ensures { result.now ≡ code_of (body self.now.tree) }
+        ensures { result.now ≡ code_of (stream_of self.now.tree) }
     {
         &self.streams.root
     }

@@ -12,6 +12,7 @@ use Rattle.tm_meaning.specs.Calls.{undone, wrapped}
 use Rattle.tm_meaning.specs.Memory.{is_want_of_memory}
 use Rattle.tm_meaning.specs.declared.wrapping.Wrapping.{Wrapping}
 use Rattle.tm_meaning.specs.declared.wrapping.Wrapping.TheVariants as wrapping
+use Rattle.tm_values.specs.Val.{Val}
 use Rattle.tm_values.specs.declared.error.ErrorKind.{ErrorKind}
 use Rattle.tm_values.specs.declared.error.ErrorKind.TheVariants.{InvalidOperation}
 use Rattle.tm_meaning.specs.Machine.{Activation, Capture, Config, End, Finished, Failed, Stuck, Next, More, Over, Restart, Nest, Program, Back}
@@ -26,7 +27,8 @@ use Rattle.tm_parts.specs.declared.halt.Halt.TheVariants as halt
 use Rattle.tm_state.specs.declared.nested.NestedRun.{NestedRun}
 use Rattle.tm_vm.specs.declared.flow.Flow.{Flow}
 use Rattle.tm_vm.specs.declared.flow.Flow.TheVariants as flow
-use Rattle.tm_vm.specs.Answers.{Begins, ComesTo, Did, Enters, HaltsAs, KeepsGround, NoFewer, ReachesEnd, KeepsBaseScopes, SameStanding, output}
+use Rattle.tm_vm.specs.Answers.{Begins, ComesTo, Did, Enters, HaltsAs, KeepsGround, NoFewer, ReachesEnd, KeepsBaseScopes, SameStanding}
+use Rattle.tm_vm.specs.Answers.{finished_at, output}
 use Rattle.tm_vm.proofs.Ground.{below_first, below_owning, ground_then, outermost_long, outermost_twice, owning_long, standing}
 use Rattle.tm_state.specs.Answers.{KeepsFixed, KeepsFixedAndNames, OneDeeper, call_of}
 use Rattle.tm_state.specs.declared.saved.Saved.{Saved}
@@ -154,7 +156,7 @@ undone_is (saved.Include s) b w is = sym (ap (λ x. put_back (saved.Include x) w
 behind_is : (e : NestedRun) (b : World) (r : Activation) (end : End) → IsSaved e.saved b →
     back_to (record { run = r; call = call_of e b; value = e.value }) end
     ≡ behind e r end
-behind_is e b r (Finished ks w) is = ap (λ x. back_with e.value e.text r ks x) (undone_is e.saved b w is)
+behind_is e b r (Finished vs ks w) is = ap (λ x. back_with e.value e.text r ks x) (undone_is e.saved b w is)
 behind_is e b r (Failed chain w) is = ap (λ x. Over (Failed (wrapped e.wrap chain) x)) (undone_is e.saved b w is)
 behind_is e b r (Stuck w) is = ap (λ x. Over (Stuck x)) (undone_is e.saved b w is)
 
@@ -169,7 +171,7 @@ pub stands_behind : {p : Program} {f : Base} {a c : Config} {told now : Option (
 stands_behind {p = p} {f = f} {c = c} {told = told} {now = now} entry mid d at new s did ran =
     let enters = did.0 in
     let b = enters.0 in
-    let goes = behind_is entry b mid.run (Finished ran.captures ran.world) enters.1 ∙ ran.goes in
+    let goes = behind_is entry b mid.run (Finished ran.operands ran.captures ran.world) enters.1 ∙ ran.goes in
     let back : Back = record { run = mid.run; call = call_of entry b; value = entry.value } in
     record {
       text = s.text ++ ran.text;
@@ -276,7 +278,7 @@ ended_in {p = p} {f = f} {a = a} {c = c} {told = told} {now = now} entry mid at 
 -- the end of a run that is done
 pub done_at : {p : Program} {f : Base} {a c : Config} {told now : Option (List ℕ)} (d : Config) (new : Option (List ℕ)) →
     RunsUpTo p f a told now c →
-    Did p (Ok flow.Done) now new d (step p f c) → ReachesEnd p f a told new (Finished d.captures d.world)
+    Did p (Ok flow.Done) now new d (step p f c) → ReachesEnd p f a told new (finished_at d)
 done_at {told = told} d new s did = (s.text, subst (λ t. Appends told t s.text) (sym did.1) s.appended, s.onward _ (over did.0 refl))
 
 -- then the writer has got the whole text
@@ -472,12 +474,13 @@ module _ (p : Program) (e : NestedRun) (waits : Activation) (old begun_at ran : 
       (wrapped_as p e old told now why tells ran.world is (halts why h))
 
   -- and where it was done, that goes on.
-  pub went : (new : Config) → ReachesEnd p Stands begun_at told now (Finished ran.captures ran.world) →
-      behind e old.run (Finished ran.captures ran.world) ≡ More [] new → Went p e old new told now
+  pub went : (new : Config) → ReachesEnd p Stands begun_at told now (finished_at ran) →
+      behind e old.run (finished_at ran) ≡ More [] new → Went p e old new told now
   went new r goes =
-      let came = comes (Finished ran.captures ran.world) r in
+      let came = comes (finished_at ran) r in
       record {
         text = came.0;
+        operands = ran.run.operands;
         captures = ran.captures;
         world = ran.world;
         appended = came.1;
@@ -492,20 +495,20 @@ module _ (p : Program) (e : NestedRun) (waits : Activation) (old begun_at ran : 
       ∙ sym (ap (λ (c : Config). back_with e.value e.text c.run c.captures c.world) at)
 
   pub in_place : (put : Config) → put ≡ record { run = waits; captures = ran.captures; world = put_back e.saved ran.world } →
-      e.value ≡ false → ReachesEnd p Stands begun_at told now (Finished ran.captures ran.world) → Went p e old put told now
+      e.value ≡ false → ReachesEnd p Stands begun_at told now (finished_at ran) → Went p e old put told now
   in_place put at value r = went put r (over_put put at ∙ ap (λ v. back_with v e.text put.run put.captures put.world) value)
 
   -- Where its text is a value, that is put on top.
   pub as_value : (put new : Config) (result : Result (Unit {0}) Halt) → IsCaptured e.text result put new →
       put ≡ record { run = waits; captures = ran.captures; world = put_back e.saved ran.world } → e.value ≡ true →
-      new.world ≡ put.world → ReachesEnd p Stands begun_at told now (Finished ran.captures ran.world) →
+      new.world ≡ put.world → ReachesEnd p Stands begun_at told now (finished_at ran) →
       RanNested p e old new told now result
   as_value put new (Ok u) is at value same r =
       went new r (over_put put at ∙ ap (λ v. back_with v e.text put.run put.captures put.world) value ∙ is)
   as_value put new (Err halt.Writer) is at value same r = absurd is
   as_value put new (Err halt.Stuck) is at value same r = (
-    Finished ran.captures ran.world,
-    comes (Finished ran.captures ran.world) r,
+    finished_at ran,
+    comes (finished_at ran) r,
     over_put put at ∙ ap (λ v. back_with v e.text put.run put.captures put.world) value
         ∙ ap (λ ks. back_with true e.text put.run ks put.world) is ∙ ap (λ w. Over (Stuck w)) (sym same),
   )
@@ -535,14 +538,14 @@ pub refused_begins : (p : Program) (e : NestedRun) (old : Config) (told : Option
 refused_begins p e old told = λ o l. beginning_nothing told o.text
 
 -- One that was done is there.
-is_begun : {p : Program} {f : Base} {t : List ℕ} {o : Final} (ks later : List Capture) (w left : World) (a : Option Activation) →
-    Leads p f t (begun p f a ks w) o → o.end ≡ Finished later left → (first : Activation) × (a ≡ Some first)
-is_begun ks later w left (Some a) l done = (a, refl)
-is_begun ks later w left None (over at same) done = let last = ap (λ (x : Final). x.end) same in absurd (cc (at, last, done))
-is_begun ks later w left None (more at rest) done = absurd cc
-is_begun ks later w left None (restart at rest) done = absurd cc
-is_begun ks later w left None (nest at rest then) done = absurd cc
+is_begun : {p : Program} {f : Base} {t : List ℕ} {o : Final} (vs : List Val) (ks later : List Capture) (w left : World)
+    (a : Option Activation) → Leads p f t (begun p f a ks w) o → o.end ≡ Finished vs later left → (first : Activation) × (a ≡ Some first)
+is_begun vs ks later w left (Some a) l done = (a, refl)
+is_begun vs ks later w left None (over at same) done = let last = ap (λ (x : Final). x.end) same in absurd (cc (at, last, done))
+is_begun vs ks later w left None (more at rest) done = absurd cc
+is_begun vs ks later w left None (restart at rest) done = absurd cc
+is_begun vs ks later w left None (nest at rest then) done = absurd cc
 
 pub was_there : {p : Program} {e : NestedRun} {old new : Config} {told now : Option (List ℕ)} → Went p e old new told now →
     (first : Activation) × (first_of p e old ≡ Some first)
-was_there {p = p} {e = e} {old = old} ran = is_begun old.captures ran.captures old.world ran.world (first_of p e old) ran.leads refl
+was_there {p = p} {e = e} {old = old} ran = is_begun ran.operands old.captures ran.captures old.world ran.world (first_of p e old) ran.leads refl

@@ -43,10 +43,14 @@ HaltsAs halt.Writer w Holds = Unit {0}
 HaltsAs halt.Stuck w Holds = Holds (Stuck w)
 HaltsAs (halt.Fault chain) w Holds = is_want_of_memory chain ≡ false → Holds (Failed chain w)
 
+-- a run that is done here
+abbrev pub finished_at : Config → End
+finished_at c = Finished c.run.operands c.captures c.world
+
 -- The end that a run answered has a property.
-abbrev pub EndsAs : Result (Unit {0}) Halt → List Capture → World → (End → Type 0) → Type 0
-EndsAs (Ok _) captures w Holds = Holds (Finished captures w)
-EndsAs (Err why) captures w Holds = HaltsAs why w Holds
+abbrev pub EndsAs : Result (Unit {0}) Halt → Config → (End → Type 0) → Type 0
+EndsAs (Ok _) c Holds = Holds (finished_at c)
+EndsAs (Err why) c Holds = HaltsAs why c.world Holds
 
 -- What a step gave leads to this end, by when the writer has got the text.
 abbrev pub ComesTo : Program → Base → Next → Option (List ℕ) → Option (List ℕ) → End → Type 0
@@ -77,7 +81,7 @@ Enters p e c n = (b : World) × IsSaved e.saved b × (n ≡ entered p e b c)
 -- halted, and the writer got a beginning.
 abbrev pub Did : Program → Result Flow Halt → Option (List ℕ) → Option (List ℕ) → Config → Next → Type 0
 Did p (Ok flow.GoOn) told now c n = (n ≡ More (output n) c) × Appends told now (output n)
-Did p (Ok flow.Done) told now c n = (n ≡ Over (Finished c.captures c.world)) × (now ≡ told)
+Did p (Ok flow.Done) told now c n = (n ≡ Over (finished_at c)) × (now ≡ told)
 Did p (Ok flow.Restart) told now c n = (n ≡ Restart c) × (now ≡ told)
 Did p (Ok (flow.Enter e)) told now c n = Enters p e.value c n × (now ≡ told)
 Did p (Err why) told now c n = HaltsAs why c.world (λ e. n ≡ Over e) × AppendsBeginning told now (output n)
@@ -267,7 +271,7 @@ GoesOnWith p came count old new result = (q : Asked) (before : World) → NamedB
 -- No memory may be found for a restart.
 abbrev pub Finishes : Result Flow Halt → Base → Config → Config → Next → Type 0
 Finishes (Ok flow.Done) f old new n =
-    (n ≡ Over (Finished new.captures new.world)) × (f.scopes ≡ length new.world.scopes.frames) × (new ≡ old)
+    (n ≡ Over (finished_at new)) × (f.scopes ≡ length new.world.scopes.frames) × (new ≡ old)
 Finishes (Ok flow.Restart) f old new n =
     (n ≡ Restart new) × ((t : TemplateId) × (old.run.parent ≡ Some t) × (old.run.loops ≡ []) × (new ≡ restarted t old))
 Finishes (Err halt.Stuck) f old new n = (n ≡ Over (Stuck new.world)) × (new ≡ old)

@@ -1,6 +1,7 @@
 -- A run that an instruction needed, and the machine behind it.
 use Rattle.std.specs.Prelude.{◌≡◌, ◌⊎◌, ◌+◌, ◌-◌, ℕ, List, [], ◌∷◌, length, Option, Result, Ok, Err, true}
 use Rattle.std.specs.Io.KnownBytes.{Appends}
+use Rattle.tm_values.specs.Val.{Val}
 use Rattle.tm_meaning.specs.World.{World, without_first}
 use Rattle.tm_meaning.specs.Memory.{is_want_of_memory}
 use Rattle.tm_values.specs.declared.error.ErrorKind.TheVariants.{OutOfMemory}
@@ -29,18 +30,19 @@ begins_in p e c = begins p (base_in e c) (callee_of e.run) c.captures c.world
 
 -- What its end leads to, behind what is put back, for the run that waits: as it was, or with the captured text on top; or that ends so too.
 abbrev pub behind : NestedRun → Activation → End → Next
-behind e r (Finished ks w) = back_with e.value e.text r ks (put_back e.saved w)
+behind e r (Finished vs ks w) = back_with e.value e.text r ks (put_back e.saved w)
 behind e r (Failed chain w) = Over (Failed (wrapped e.wrap chain) (put_back e.saved w))
 behind e r (Stuck w) = stuck (put_back e.saved w)
 
 -- The run was done, the writer got its text, and the run that waited goes on.
 pub record Went (p : Program) (e : NestedRun) (old new : Config) (told now : Option (List ℕ)) : Type 0 where
   pub text : List ℕ
+  pub operands : List Val
   pub captures : List Capture
   pub world : World
   pub appended : Appends told now text
-  pub leads : Leads p (base_in e old) [] (begins_in p e old) (final text (Finished captures world))
-  pub goes : behind e old.run (Finished captures world) ≡ More [] new
+  pub leads : Leads p (base_in e old) [] (begins_in p e old) (final text (Finished operands captures world))
+  pub goes : behind e old.run (Finished operands captures world) ≡ More [] new
 
 -- A block's run stands on the scopes that were saved, and one of its own; a macro's has the names loaded that were; and an include's both,
 -- without a scope of its own.

@@ -1,5 +1,5 @@
 //! The machine: a run with its operands, the captures and the state, and the loop.
-ghost use Rattle.std.specs.Prelude.{◌≡◌, ◌≤◌, ◌+◌, length, OnOk};
+ghost use Rattle.std.specs.Prelude.{◌≡◌, ◌≤◌, ◌+◌, [], ◌∷◌, length, MatchOption, OnOk};
 ghost use Rattle.tm_meaning.specs.Inheritance.{names_left};
 ghost use Rattle.tm_meaning.specs.Machine.{audible, base_of, first_run, run_from, running};
 ghost use Rattle.tm_meaning.specs.Steps.{step};
@@ -20,7 +20,7 @@ use tm_parts::{Captures, Halt, Sink};
 use tm_state::{NestedRun, RunOf, Saved, StateData};
 use tm_syntax::Code;
 use tm_tables::{Host, NO_PLACE};
-use tm_values::{Error, ErrorKind};
+use tm_values::{Error, ErrorKind, Value};
 
 /// A halt of a nested run, as it is told: a fault is wrapped in the kind, where there is one.
 #[cold]
@@ -107,6 +107,15 @@ impl Machine {
             ..
         } = self;
         (captures, state)
+    }
+
+    /// Takes the value on top, as one that a run left; none where there is none.
+    pub fn take_value(&mut self) -> Option<Value>
+        ensures { MatchOption result ((self.old.run.operands ≡ []) × (self.new ≡ self.old))
+            (λ v. self.old ≡ record self.new
+            { run = record self.new.run { operands = v ∷ self.new.run.operands } }) }
+    {
+        self.run.pop()
     }
 
     // ------------------------------------------------------------ parts
@@ -256,7 +265,7 @@ impl Machine {
         heard: bool,
         writer: &mut W,
     ) -> Result<(), Halt>
-        ensures ended { EndsAs result self.new.captures self.new.world
+        ensures ended { EndsAs result self.new
             (ReachesEnd (program (H.meaning host.now) (H.code host.now))
             (base_of heard self.old.captures self.old.world) self.old
             (W.written writer.old) (W.written writer.new)) }

@@ -20,7 +20,7 @@ returns-in-Ok-result-clause-ran g c =
     let left : Config = c.run-result.new.self in
     over_done g.O.Parties.stated c.args.self.now ks left.captures old left.world (g.W.Sink.written c.args.writer.now)
     (g.W.Sink.written c.run-result.new.writer) (g.W.Sink.failures c.args.writer.now) (g.W.Sink.failures c.run-result.new.writer)
-    c.new-machine.result begins c.requires c.into_parts-captures.result.0 c.into_parts-captures.result.1
+    c.new-machine.result begins c.requires left.run.operands c.into_parts-captures.result.0 c.into_parts-captures.result.1
     (sym c.into_parts-captures.ensures.captures) (sym c.into_parts-captures.ensures.state) c.in-Ok-result.ensures.ended
     c.in-Ok-result.ensures.failures
 

@@ -14,7 +14,7 @@ pub returns-in-Ok-result-clause-ran : goal.returns-in-Ok-result-clause-ran
 returns-in-Ok-result-clause-ran g c =
     let left = c.run-result.new.self in
     over_done g.O.Parties.stated c.args.self.now.template c.self.inside.rendering (search rules) (callee_of c.args.run) c.args.self.now.world
-    left.world c.args.captures c.requires None None c.in-Ok.machine (search rules) c.in-Ok.ensures.0 left.captures
+    left.world c.args.captures c.requires None None c.in-Ok.machine (search rules) c.in-Ok.ensures.0 left.run.operands left.captures
     c.into_parts-captures.result.0 c.put-2.new.self.world (search rules) (search rules) c.in-Ok-result.ensures.ended
 
 pub returns-in-Err-result-clause-ran : goal.returns-in-Err-result-clause-ran

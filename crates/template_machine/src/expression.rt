@@ -1,0 +1,101 @@
+//! Expressions of an environment.
+ghost use Rattle.std.specs.BTreeSet.{keys};
+ghost use Rattle.std.specs.Prelude.{◌≡◌, ◌+◌, ◌<◌, [], ◌∷◌, Err, IfOk, IfErr, map as each, string_bytes};
+ghost use Rattle.tm_meaning.specs.declared.stream.TemplateId.TheVariants.{Own};
+ghost use Rattle.tm_syntax.specs.Names.{undeclared_in};
+ghost use Rattle.template_machine.specs.Renders.{first, greatest, value_meant, Evaluated};
+
+use crate::environment::{BoxedObjects, EnvironmentOf};
+use crate::ids::StateIds;
+use crate::rendering::{OwnTemplate, Rendering};
+use std::collections::BTreeSet;
+use std::marker::Model;
+use tm_tables::Parties;
+use tm_templates::CompiledTemplate;
+use tm_values::{Error, ErrorKind, Value};
+
+/// A compiled expression of an environment.
+pub struct ExpressionOf<'env, 'source, O: Drop> {
+    environment: &'env EnvironmentOf<'source, O>,
+    compiled: Box<CompiledTemplate<'source>>,
+}
+
+// By hand, as the environment's.
+impl<O: Drop> Drop for ExpressionOf<'_, '_, O> {
+    fn drop(self) {
+        let ExpressionOf {
+            environment: _environment,
+            compiled: _compiled,
+        } = self;
+    }
+}
+
+/// An expression of a program's environment.
+pub type Expression<'env, 'source> = ExpressionOf<'env, 'source, BoxedObjects>;
+
+impl<'env, 'source, O: Drop> Model for ExpressionOf<'env, 'source, O> {
+    ghost use Rattle.std.specs.Coded.{codes};
+    ghost use Rattle.tm_meaning.specs.declared.stream.TemplateId.TheVariants.{Own};
+    ghost use Rattle.tm_syntax.specs.contracts.tree.Stmt as statement;
+    ghost use Rattle.tm_values.specs.Code.{coded_Val};
+    ghost use Rattle.template_machine.specs.Environment.{TemplateValue};
+
+    ghost Value = { TemplateValue O };
+
+    ghost coded = { Prim.hlevel (codes, coded_Val, statement.the_row.coded, O.code) };
+
+    ghost view = { λ x. record {
+      environment = x.environment.now;
+      id = Own;
+      template = x.compiled.value;
+    } };
+}
+
+impl<'env, 'source, O: Drop> ExpressionOf<'env, 'source, O> {
+    /// An expression of an environment.
+    pub(crate) fn new(
+        environment: &'env EnvironmentOf<'source, O>,
+        compiled: Box<CompiledTemplate<'source>>,
+    ) -> ExpressionOf<'env, 'source, O>
+        ensures { result ≡ record {
+          environment = environment.entry.now;
+          id = Own;
+          template = compiled.entry.value;
+        } }
+    {
+        ExpressionOf {
+            environment,
+            compiled,
+        }
+    }
+
+    /// The names that the expression reads, each as its text; with what is nested in them, as `a.b.c`, where that is
+    /// asked for. OutOfMemory where there is no memory.
+    pub fn undeclared_variables(&self, nested: bool) -> Result<BTreeSet<String>, Error>
+        ensures ok { IfOk result (λ names. each string_bytes (keys names)
+            ≡ undeclared_in nested self.now.template.tree) }
+        ensures memory { IfErr result (λ e. e ≡ ErrorKind.OutOfMemory ∷ []) }
+    {
+        self.compiled
+            .undeclared_variables(self.environment.allocator(), nested)
+    }
+}
+
+impl<'env, 'source, O: Parties> ExpressionOf<'env, 'source, O> {
+    /// The value of the expression over a context value, as the next state of the counter; at any depth but in keys
+    /// its namespaces are maps. InvalidOperation, and nothing runs, where the counter is full, and where a namespace
+    /// in the value holds itself or is another state's; OutOfMemory; else the fault that was meant.
+    pub fn eval(&self, ids: &mut StateIds, context: Value) -> Result<Value, Error>
+        ensures full { ids.old ≡ greatest →
+            (result ≡ Err (ErrorKind.InvalidOperation ∷ [])) × (ids.new ≡ ids.old) }
+        ensures next { ids.old < greatest → ids.new ≡ ids.old + 1 }
+        ensures evaluated { ids.old < greatest →
+            Evaluated (value_meant O.stated self.now (first O.stated self.now ids.old context)) result }
+    {
+        let id = ids.next()?;
+        let own = OwnTemplate::Lent(&*self.compiled);
+        let rendering = Rendering::new(self.environment, None, own);
+        let state = rendering.state_at(id, context)?;
+        rendering.evaluate(state)
+    }
+}

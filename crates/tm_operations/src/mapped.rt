@@ -1,0 +1,285 @@
+//! Values whose namespaces are maps. What is left is in a list, so that no value's depth takes more
+//! of the machine's stack.
+ghost use Rattle.std.specs.Prelude.{◌≡◌, ◌+◌, ◌<◌, ◌≤◌, ◌++◌, ◌∷◌, [], false, length, IfErr, IfOk, Ok, OnOk};
+ghost use Rattle.tm_definitions.specs.Mapped.{mapped_within, namespace_mapped, with_maps};
+ghost use Rattle.tm_operations.specs.Begun.{AllAscend, Ascends, comes_to, items_left, left_in, left_in_all};
+ghost use Rattle.tm_operations.specs.Begun.{left_to_make, list_behind, made_of, map_behind, outermost, pairs_left};
+ghost use Rattle.tm_operations.specs.Begun.{left_of_next, namespace_weight, part_next, resumed, weight};
+ghost use Rattle.tm_values.specs.Answer.{IsAnswer, OkOrOutOfMemory, is_memory_alone};
+ghost use Rattle.tm_values.specs.Map.{IsMap};
+ghost use Rattle.tm_values.specs.Records.{RecordData};
+ghost use Rattle.tm_values.specs.Val.{pairs_of, vals_of};
+
+use std::alloc::Global;
+use tm_values::{Error, ErrorKind, Node, Records, SharedText, Value, ValueMap, find_namespace};
+
+/// What pairs become.
+#[derive(Drop)]
+pub enum Kind {
+    /// A map.
+    Map,
+    /// A keyword map.
+    Keywords,
+    /// A module that wrote this text.
+    Module(SharedText),
+}
+
+/// A list of which an item is being made.
+#[derive(Drop)]
+pub struct BegunList<'a> {
+    /// How deep namespaces may lie in it.
+    pub levels: usize,
+    /// The items behind that one.
+    pub rest: &'a [Value],
+    /// What the items before it are.
+    pub done: Vec<Value>,
+}
+
+/// A map of which a value is being made.
+#[derive(Drop)]
+pub struct BegunMap<'a> {
+    /// What it becomes.
+    pub kind: Kind,
+    /// How deep namespaces may lie in it.
+    pub levels: usize,
+    /// The key of that value.
+    pub key: Value,
+    /// The pairs behind that key's.
+    pub rest: &'a [(Value, Value)],
+    /// What the pairs before it are.
+    pub done: Vec<(Value, Value)>,
+}
+
+/// A value of which a part is being made.
+#[derive(Drop)]
+pub enum Begun<'a> {
+    /// A list.
+    List(BegunList<'a>),
+    /// A map, a keyword map or a module.
+    Map(BegunMap<'a>),
+}
+
+/// What comes next.
+#[derive(Drop)]
+pub enum Next<'a> {
+    /// This part, in which namespaces may lie so deep.
+    Part(&'a Value, usize),
+    /// What the part that was begun last goes on with.
+    Made(Value),
+}
+
+/// The value with its namespaces as maps, at any depth but in keys. InvalidOperation where a
+/// namespace has no record or holds itself; OutOfMemory.
+pub fn with_maps<R: Records>(alloc: Global, value: &Value, records: &R) -> Result<Value, Error>
+    ensures { IsAnswer result (with_maps (R.records records.now) value.now) }
+{
+    let mut begun = Vec::new(alloc);
+    let mut next = Next::Part(value, records.namespace_count());
+    loop {
+        next = match next {
+            Next::Part(part, levels) => enter(alloc, part, levels, records, &mut begun)?,
+            Next::Made(made) => match begun.pop() {
+                Some(outer) => resume(alloc, outer, made, &mut begun)?,
+                None => return Ok(made),
+            },
+        };
+    }
+}
+
+// Begins a part, or makes it where it holds no namespace.
+fn enter<'a, R: Records>(
+    alloc: Global,
+    part: &'a Value,
+    levels: usize,
+    records: &'a R,
+    begun: &mut Vec<Begun<'a>>,
+) -> Result<Next<'a>, Error>
+    ensures ok { IfOk result (λ n. comes_to (R.records records.now) begun.new.items n
+        ≡ outermost (R.records records.now) begun.old.items
+        (mapped_within (R.records records.now) levels part.now)) }
+    ensures err { IfErr result (λ e. is_memory_alone e ≡ false →
+        mapped_within (R.records records.now) levels part.now ≡ Err e) }
+    ensures ascend { AllAscend begun.old.items → OnOk result (AllAscend begun.new.items) }
+    ensures less { IfOk result (λ n. left_to_make (R.records records.now) begun.new.items n
+        < left_in_all (R.records records.now) begun.old.items
+        + weight (namespace_weight (R.records records.now) levels) part.now) }
+{
+    if part.plain().in_json {
+        return Ok(Next::Made(part.share()?));
+    }
+    match &part.node {
+        Node::List(items, _) => next_item(alloc, levels, items.as_slice(), Vec::new(alloc), begun),
+        Node::Map(pairs, _) => all_pairs(alloc, Kind::Map, levels, pairs.as_slice(), begun),
+        Node::Keywords(pairs, _) => {
+            all_pairs(alloc, Kind::Keywords, levels, pairs.as_slice(), begun)
+        }
+        Node::Exports(pairs, content) => {
+            let kind = Kind::Module(content.share()?);
+            all_pairs(alloc, kind, levels, pairs.as_slice(), begun)
+        }
+        Node::Namespace(state, index) => {
+            enter_namespace(alloc, *state, *index, levels, records, begun)
+        }
+        _ => Ok(Next::Made(part.share()?)),
+    }
+}
+
+// Begins the map that stands for a namespace.
+fn enter_namespace<'a, R: Records>(
+    alloc: Global,
+    state: u64,
+    index: usize,
+    levels: usize,
+    records: &'a R,
+    begun: &mut Vec<Begun<'a>>,
+) -> Result<Next<'a>, Error>
+    ensures ok { IfOk result (λ n. comes_to (R.records records.now) begun.new.items n
+        ≡ outermost (R.records records.now) begun.old.items
+        (namespace_mapped (R.records records.now) levels state index)) }
+    ensures err { IfErr result (λ e. is_memory_alone e ≡ false →
+        namespace_mapped (R.records records.now) levels state index ≡ Err e) }
+    ensures ascend { AllAscend begun.old.items → OnOk result (AllAscend begun.new.items) }
+    ensures less { IfOk result (λ n. left_to_make (R.records records.now) begun.new.items n
+        < left_in_all (R.records records.now) begun.old.items
+        + namespace_weight (R.records records.now) levels state index) }
+{
+    if levels == 0 {
+        return Err(Error::from(ErrorKind::InvalidOperation));
+    }
+    let Some(entries) = find_namespace(records, state, index) else {
+        return Err(Error::from(ErrorKind::InvalidOperation));
+    };
+    all_pairs(alloc, Kind::Map, levels - 1, entries.pairs(), begun)
+}
+
+// Begins the map of these pairs, whose keys ascend.
+fn all_pairs<'a>(
+    alloc: Global,
+    kind: Kind,
+    levels: usize,
+    pairs: &'a [(Value, Value)],
+    begun: &mut Vec<Begun<'a>>,
+) -> Result<Next<'a>, Error>
+    requires { IsMap pairs.now }
+    ensures ok { IfOk result (λ n. (r : RecordData) → comes_to r begun.new.items n
+        ≡ outermost r begun.old.items (map_behind r kind levels [] (pairs_of pairs.now))) }
+    ensures err { IfErr result (λ e. e ≡ ErrorKind.OutOfMemory ∷ []) }
+    ensures ascend { AllAscend begun.old.items → OnOk result (AllAscend begun.new.items) }
+    ensures no_more { IfOk result (λ n. (r : RecordData) → left_to_make r begun.new.items n
+        ≤ left_in_all r begun.old.items + pairs_left r levels (pairs_of pairs.now)) }
+{
+    next_pair(alloc, kind, levels, pairs, Vec::new(alloc), begun)
+}
+
+// Goes on with what was begun last and was put aside, of which a part is made.
+fn resume<'a>(
+    alloc: Global,
+    outer: Begun<'a>,
+    made: Value,
+    begun: &mut Vec<Begun<'a>>,
+) -> Result<Next<'a>, Error>
+    requires { Ascends outer }
+    ensures ok { IfOk result (λ n. (r : RecordData) → comes_to r begun.new.items n
+        ≡ outermost r begun.old.items (resumed r outer.entry (Ok made))) }
+    ensures err { IfErr result (λ e. e ≡ ErrorKind.OutOfMemory ∷ []) }
+    ensures ascend { AllAscend begun.old.items → OnOk result (AllAscend begun.new.items) }
+    ensures no_more { IfOk result (λ n. (r : RecordData) → left_to_make r begun.new.items n
+        ≤ left_in_all r begun.old.items + left_in r outer.entry) }
+{
+    match outer {
+        Begun::List(list) => {
+            let BegunList {
+                levels,
+                rest,
+                mut done,
+            } = list;
+            done.push(made)?;
+            next_item(alloc, levels, rest, done, begun)
+        }
+        Begun::Map(map) => {
+            let BegunMap {
+                kind,
+                levels,
+                key,
+                rest,
+                mut done,
+            } = map;
+            done.push((key, made))?;
+            next_pair(alloc, kind, levels, rest, done, begun)
+        }
+    }
+}
+
+// Puts a list aside for its next item, or makes it where there is none.
+fn next_item<'a>(
+    alloc: Global,
+    levels: usize,
+    rest: &'a [Value],
+    done: Vec<Value>,
+    begun: &mut Vec<Begun<'a>>,
+) -> Result<Next<'a>, Error>
+    ensures ok { IfOk result (λ n. (r : RecordData) → comes_to r begun.new.items n
+        ≡ outermost r begun.old.items (list_behind r levels done.items (vals_of rest.now))) }
+    ensures err { IfErr result (λ e. e ≡ ErrorKind.OutOfMemory ∷ []) }
+    ensures ascend { AllAscend begun.old.items → OnOk result (AllAscend begun.new.items) }
+    ensures no_more { IfOk result (λ n. (r : RecordData) → left_to_make r begun.new.items n
+        ≤ left_in_all r begun.old.items + items_left r levels (vals_of rest.now)) }
+{
+    let Some((item, rest)) = rest.split_first() else {
+        return Ok(Next::Made(Value::list(alloc, done)?));
+    };
+    begun.push(Begun::List(BegunList { levels, rest, done }))?;
+    Ok(Next::Part(item, levels))
+}
+
+// Puts a map aside for its next value, or makes it where there is none.
+fn next_pair<'a>(
+    alloc: Global,
+    kind: Kind,
+    levels: usize,
+    rest: &'a [(Value, Value)],
+    done: Vec<(Value, Value)>,
+    begun: &mut Vec<Begun<'a>>,
+) -> Result<Next<'a>, Error>
+    requires { IsMap (done.items ++ rest.now) }
+    ensures ok { IfOk result (λ n. (r : RecordData) → comes_to r begun.new.items n
+        ≡ outermost r begun.old.items (map_behind r kind levels done.items (pairs_of rest.now))) }
+    ensures err { IfErr result (λ e. e ≡ ErrorKind.OutOfMemory ∷ []) }
+    ensures ascend { AllAscend begun.old.items → OnOk result (AllAscend begun.new.items) }
+    ensures no_more { IfOk result (λ n. (r : RecordData) → left_to_make r begun.new.items n
+        ≤ left_in_all r begun.old.items + pairs_left r levels (pairs_of rest.now)) }
+{
+    let Some((pair, rest)) = rest.split_first() else {
+        return Ok(Next::Made(made_of(alloc, kind, ValueMap::from_ascending(done))?));
+    };
+    let key = pair.0.share()?;
+    let next = value_of(pair, levels);
+    begun.push(Begun::Map(BegunMap {
+        kind,
+        levels,
+        key,
+        rest,
+        done,
+    }))?;
+    Ok(next)
+}
+
+// The value of a pair comes next.
+fn value_of<'a>(pair: &'a (Value, Value), levels: usize) -> Next<'a>
+    ensures part { (r : RecordData) → part_next r result ≡ mapped_within r levels pair.now.1 }
+    ensures left { (r : RecordData) →
+        left_of_next r result ≡ weight (namespace_weight r levels) pair.now.1 }
+{
+    Next::Part(&pair.1, levels)
+}
+
+// What these pairs become. Fails by OutOfMemory alone.
+fn made_of(alloc: Global, kind: Kind, entries: ValueMap) -> Result<Value, Error>
+    ensures { OkOrOutOfMemory result (λ v. v ≡ made_of kind (pairs_of entries)) }
+{
+    match kind {
+        Kind::Map => Value::from_map(alloc, entries),
+        Kind::Keywords => Value::keywords(alloc, entries),
+        Kind::Module(content) => Value::module(alloc, entries, content),
+    }
+}
