@@ -14,7 +14,7 @@ use template_machine::*;
 /// Keeps a number at `k`, and gives the one that was kept there.
 fn replaced(state: &mut Left<'_>, number: i128) -> Result<Option<i128>, Error> {
     match state.set_temp("k", Value::number(number))? {
-        Some(before) => Ok(before.as_whole()),
+        Some(before) => Ok(before.as_i128()),
         None => Ok(None),
     }
 }
@@ -22,7 +22,7 @@ fn replaced(state: &mut Left<'_>, number: i128) -> Result<Option<i128>, Error> {
 /// The number that is kept at `k`.
 pub(crate) fn kept(state: &Left<'_>) -> Option<i128> {
     match state.get_temp("k") {
-        Some(value) => value.as_whole(),
+        Some(value) => value.as_i128(),
         None => None,
     }
 }
@@ -49,7 +49,7 @@ fn applies(alloc: Global, state: &mut Left<'_>) -> Result<bool, Error> {
         Err(error) => error.kind() == ErrorKind::UnknownBlock,
     };
     let none_runs = state.current_block().is_none();
-    Ok(filtered.as_whole() == Some(0) && !holds && unknown && no_block && none_runs)
+    Ok(filtered.as_i128() == Some(0) && !holds && unknown && no_block && none_runs)
 }
 
 /// Whether a filter gives a text in capitals.

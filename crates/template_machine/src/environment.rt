@@ -6,6 +6,7 @@ ghost use Rattle.tm_tables.specs.Places.{AreOrdered};
 ghost use Rattle.tm_tables.specs.Stated.{no_functions, with_filter, without_filter, with_test, without_test};
 ghost use Rattle.tm_tables.specs.Stated.{with_escaping, with_fallback, with_formatter, with_joining};
 ghost use Rattle.tm_templates.specs.Templates.{empty_template, Compiled, IsRefused, IsRefusedExpression};
+ghost use Rattle.tm_meaning.specs.declared.stream.TemplateId.TheVariants.{Own};
 ghost use Rattle.tm_values.specs.Answer.{IsLent, OkOrOutOfMemory};
 ghost use Rattle.tm_values.specs.Val.{function};
 ghost use Rattle.std.specs.Prelude.{string_bytes};
@@ -368,6 +369,21 @@ impl<'source, O: Parties> EnvironmentOf<'source, O> {
     {
         let template = self.compile(name, Source::Lent(source))?;
         let owned = Box::new(self.alloc, template)?;
+        Ok(TemplateOf::new(self, TemplateRef::Owned(owned)))
+    }
+
+    /// A template that was compiled already, which the environment doesn't keep. OutOfMemory.
+    pub fn template_from_compiled(
+        &self,
+        compiled: CompiledTemplate<'source>,
+    ) -> Result<TemplateOf<'_, 'source, O>, Error>
+        ensures { OkOrOutOfMemory result (λ t. t ≡ record {
+          environment = self.now;
+          id = Own;
+          template = compiled.entry;
+        }) }
+    {
+        let owned = Box::new(self.alloc, compiled)?;
         Ok(TemplateOf::new(self, TemplateRef::Owned(owned)))
     }
 

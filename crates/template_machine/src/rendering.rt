@@ -202,11 +202,10 @@ impl<O: Parties> Rendering<'_, O> {
         let stream = state.stream().share()?;
         let mut machine = Machine::new(alloc, stream, Captures::new(alloc), state.take(alloc));
         machine.run(alloc, self, true, &mut NullWriter)?;
-        let Some(value) = machine.take_value() else {
-            return Err(Error::from(ErrorKind::InvalidOperation));
-        };
-        let (_captures, left) = machine.into_parts();
-        with_maps(alloc, &value, &left)
+        match machine.into_value() {
+            (Some(value), left) => with_maps(alloc, &value, &left),
+            (None, _left) => Err(Error::from(ErrorKind::InvalidOperation)),
+        }
     }
 }
 

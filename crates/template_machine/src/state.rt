@@ -20,7 +20,6 @@ use crate::environment::{BoxedObjects, EnvironmentOf};
 use crate::rendering::Rendering;
 use crate::template::TemplateOf;
 use std::marker::Model;
-use tm_operations::is_true;
 use tm_parts::{Captures, Halt, NullWriter, Sink};
 use tm_printing::to_text;
 use tm_state::{CallResult, NestedRun, RunOf, Saved, SavedBlock, StateData};
@@ -189,7 +188,7 @@ impl<'env, O: Parties> StateOf<'env, O> {
             .kept
             .perform_test(alloc, &self.rendering, name, NO_PLACE, args)?;
         let value = self.value_of(called)?;
-        Ok(is_true(&value))
+        Ok(value.is_true())
     }
 
     /// The text of what the value of a name gives for these arguments, called as a function: that of a macro, as

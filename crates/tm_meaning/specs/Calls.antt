@@ -6,7 +6,7 @@ use Rattle.tm_definitions.specs.Maps.{dict_of, namespace_of, keywords_of, plain_
 use Rattle.tm_definitions.specs.Iteration.{items_or}
 use Rattle.tm_definitions.specs.Ranges.{range_of}
 use Rattle.tm_definitions.specs.Members.{macro_member, or_undefined}
-use Rattle.tm_definitions.specs.Truth.{is_true}
+use Rattle.tm_values.specs.Truth.{is_true}
 use Rattle.tm_definitions.specs.Emitted.{text_answer}
 use Rattle.tm_values.specs.Answer.{Answer}
 use Rattle.tm_values.specs.Order.{val_cmp}

@@ -22,7 +22,8 @@ use Rattle.tm_meaning.specs.Inheritance.{load}
 use Rattle.tm_meaning.specs.Calls.{enter_block, enter_super, enter_include, call_named, call_callee, applied, call_innermost}
 use Rattle.tm_meaning.specs.Meaning.{none_waits}
 use Rattle.tm_meaning.specs.Operators.{truth, applied_unary, operated, attribute, item_at, slice_of, list_of_values, map_of_pairs}
-use Rattle.tm_meaning.specs.Operators.{keyword_map, merged_values, items_of_lists, is_undefined}
+use Rattle.tm_meaning.specs.Operators.{keyword_map, merged_values, items_of_lists}
+use Rattle.tm_values.specs.Truth.{is_undefined}
 use Rattle.tm_meaning.specs.Machine.{Capture, Caches, Return, Config, Base, Next, More, after, on_top, take_n, onto, on, goes, pushed}
 use Rattle.tm_meaning.specs.Machine.{Program, jumps, stuck, with_world, audible, writes, new_capture, captured_value, asked, asked_in_place}
 

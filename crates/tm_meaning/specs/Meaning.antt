@@ -45,7 +45,8 @@ use Rattle.tm_meaning.specs.Calls.{enter_block, enter_super, enter_include, call
 use Rattle.tm_meaning.specs.Calls.{applied, call_callee, call_innermost, own_blocks}
 use Rattle.tm_meaning.specs.Tree.{StreamTree, statements, expression, empty, Trees}
 use Rattle.tm_meaning.specs.Operators.{truth, applied_unary, operated, applied_binary, attribute, item_at, slice_of}
-use Rattle.tm_meaning.specs.Operators.{list_of_values, map_of_pairs, listed, mapped, passed, turned, is_undefined}
+use Rattle.tm_meaning.specs.Operators.{list_of_values, map_of_pairs, listed, mapped, passed, turned}
+use Rattle.tm_values.specs.Truth.{is_undefined}
 
 -- ---------------------------------------------------------------- runs and outcomes
 -- A run of a stream's tree: the escape at its start, whether it is heard, whether this stands inside a capture of its own, the parent that

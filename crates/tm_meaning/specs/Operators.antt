@@ -4,7 +4,7 @@ use Rattle.std.specs.Result.{result_map_both}
 use Rattle.tm_values.specs.Answer.{Answer}
 use Rattle.tm_values.specs.Map.{put_all}
 use Rattle.tm_values.specs.Records.{RecordData}
-use Rattle.tm_values.specs.Val.{Val, undefined, boolean, list, map, keywords, vals_of, pairs_of}
+use Rattle.tm_values.specs.Val.{Val, boolean, list, map, keywords, vals_of, pairs_of}
 use Rattle.tm_values.specs.declared.undefined.UndefinedBehavior.{UndefinedBehavior}
 use Rattle.tm_definitions.specs.Arithmetic as arithmetic
 use Rattle.tm_definitions.specs.Truth.{truth_of}
@@ -26,11 +26,6 @@ use Rattle.tm_syntax.specs.declared.tree.Application.TheVariants as applications
 use Rattle.tm_syntax.specs.Code.{has_spread, has_spread_keyword}
 use Rattle.tm_meaning.specs.World.{World, HostValue, Res, Good, bind, answered, ticked}
 use Rattle.tm_meaning.specs.World.{records_of}
-
--- whether a value is undefined, silent or not
-abbrev pub is_undefined : Val → Bool
-is_undefined (undefined silent) = true
-is_undefined v = false
 
 -- ---------------------------------------------------------------- operators
 abbrev pub truth : HostValue → Val → World → Res Bool

@@ -102,7 +102,7 @@ pub fn power(alloc: Global, left: &Value, right: &Value) -> Result<Value, Error>
 pub fn negate(alloc: Global, value: &Value) -> Result<Value, Error>
     ensures { IsAnswer result (negated value.now) }
 {
-    match value.as_whole() {
+    match value.as_i128() {
         Some(whole) => number_or_invalid(alloc, whole::negate(whole)),
         None => Err(not_numbers(alloc)),
     }
@@ -131,7 +131,7 @@ fn no_fractions(alloc: Global) -> Error
 fn whole_operands(left: &Value, right: &Value) -> Option<(i128, i128)>
     ensures { result ≡ both (whole_in left.now) (whole_in right.now) }
 {
-    match (left.as_whole(), right.as_whole()) {
+    match (left.as_i128(), right.as_i128()) {
         (Some(a), Some(b)) => Some((a, b)),
         _ => None,
     }

@@ -1,26 +1,8 @@
-//! The truth of values.
+//! The truth that conditions ask for.
 ghost use Rattle.std.specs.Prelude.{◌≡◌};
-ghost use Rattle.tm_definitions.specs.Truth.{is_true, truth_of};
+ghost use Rattle.tm_definitions.specs.Truth.{truth_of};
 
-use tm_values::{Error, Node, UndefinedBehavior, UndefinedUse, Value, check_defined};
-
-/// Whether the value counts as true. False are undefined, none, false, 0, and what is empty of
-/// texts, lists, maps, keyword maps and modules.
-pub fn is_true(value: &Value) -> bool
-    ensures { result ≡ is_true value.now }
-{
-    match &value.node {
-        Node::Undefined(_) | Node::None => false,
-        Node::Boolean(truth) => *truth,
-        Node::Number(whole) => *whole != 0,
-        Node::Text(content, _) => !content.as_str().is_empty(),
-        Node::List(items, _) => !items.as_slice().is_empty(),
-        Node::Map(pairs, _) | Node::Keywords(pairs, _) | Node::Exports(pairs, _) => {
-            !pairs.as_slice().is_empty()
-        }
-        _ => true,
-    }
-}
+use tm_values::{Error, UndefinedBehavior, UndefinedUse, Value, check_defined};
 
 /// The truth that a condition asks for: UndefinedError where the value is undefined and the
 /// behaviour refuses that.
@@ -28,5 +10,5 @@ pub fn truth(value: &Value, behavior: UndefinedBehavior) -> Result<bool, Error>
     ensures { result ≡ truth_of behavior value.now }
 {
     check_defined(value, behavior, UndefinedUse::Truth)?;
-    Ok(is_true(value))
+    Ok(value.is_true())
 }

@@ -19,7 +19,7 @@ pub use arithmetic::{
     add, add_to, divide, floor_divide, multiply, negate, power, remainder, subtract,
 };
 pub use comparisons::compare;
-pub use condition::{is_true, truth};
+pub use condition::truth;
 pub use containment::contains;
 pub use iteration::{collection, iterate, unpack, unpack_law};
 pub use mapped::with_maps;

@@ -5,7 +5,8 @@ use Rattle.tm_values.specs.Records.{RecordData}
 use Rattle.tm_values.specs.declared.undefined.UndefinedBehavior.{UndefinedBehavior}
 use Rattle.tm_syntax.specs.declared.tree.BinaryOperator.{BinaryOperator}
 use Rattle.tm_definitions.specs.Members.{attribute_of}
-use Rattle.tm_meaning.specs.Operators.{is_undefined, result_of}
+use Rattle.tm_meaning.specs.Operators.{result_of}
+use Rattle.tm_values.specs.Truth.{is_undefined}
 
 -- The operator gives this value, however undefined values behave and whatever the records are.
 abbrev pub Gives : BinaryOperator → Val → Val → Val → Type 0

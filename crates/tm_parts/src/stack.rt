@@ -5,7 +5,6 @@ ghost use Rattle.tm_values.specs.Val.{Val, boolean};
 ghost use Rattle.tm_values.specs.Answer.{OrStays};
 ghost use Rattle.tm_parts.specs.Operate.{Doubles, Has, Operates, TakesMember, TestsUndefined};
 ghost use Rattle.tm_meaning.specs.Machine.{onto, taken};
-ghost use Rattle.tm_meaning.specs.Operators.{is_undefined};
 
 use crate::operators::binary_at_once;
 use std::alloc::Global;
@@ -41,13 +40,6 @@ fn member_at_once(value: &Value, name: &str) -> Option<Value>
         return None;
     };
     value.member(name)?.share().ok()
-}
-
-#[inline(always)]
-fn is_undefined(value: &Value) -> bool
-    ensures { result ≡ is_undefined value.now }
-{
-    matches!(&value.node, Node::Undefined(_))
 }
 
 impl Stack {
@@ -221,7 +213,7 @@ impl Stack {
         let top = self.values.take_last();
         // There is room where it was taken from.
         self.values
-            .push_reserved(Value::boolean(is_undefined(&top)));
+            .push_reserved(Value::boolean(top.is_undefined()));
         true
     }
 

@@ -15,7 +15,8 @@ use Rattle.tm_meaning.specs.Calls.{Callee, applied}
 use Rattle.tm_meaning.specs.Meaning.{Run, Under, enclose_each, declared, or_default, take_parameter, take_parameters, eval}
 use Rattle.tm_meaning.specs.Meaning.{RowValues, with_caller, passed_so, call_alone, step_call, steps_call, call, value_of}
 use Rattle.tm_meaning.specs.Meaning.{eval_keywords, eval_step}
-use Rattle.tm_meaning.specs.Operators.{is_undefined, named_by}
+use Rattle.tm_meaning.specs.Operators.{named_by}
+use Rattle.tm_values.specs.Truth.{is_undefined}
 use Rattle.tm_simulation.proofs.Advances.{kept_same, closed_over_kept, stream_kept}
 use Rattle.tm_simulation.proofs.Gives.{Gives, OutcomeKeeps, RunEnds, gives_bind, choose_gives, ticked_gives}
 use Rattle.tm_simulation.proofs.Asks.{applied_asks, callee_asks, named_asks}

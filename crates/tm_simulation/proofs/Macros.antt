@@ -12,7 +12,7 @@ use Rattle.tm_syntax.specs.Entries.{entry_number}
 use Rattle.tm_syntax.specs.Fragments.{Fragment, Labels, MacroHead, name_list, building, declares, beyond, beyond_all}
 use Rattle.tm_meaning.specs.World.{World, Res, bind, tick, ticked, enclose, own_closure, make_macro}
 use Rattle.tm_meaning.specs.Meaning.{Run, Under, enclose_each, declared, or_default, take_parameter, take_parameters}
-use Rattle.tm_meaning.specs.Operators.{is_undefined}
+use Rattle.tm_values.specs.Truth.{is_undefined}
 use Rattle.tm_meaning.specs.Machine.{after, goes, onto}
 use Rattle.tm_meaning.specs.Instructions.{closure_value, closure_in, texts_in, names_in, and_text, build_macro_of}
 use Rattle.tm_syntax.proofs.Standing.{HasAt}

@@ -17,7 +17,6 @@ use crate::saved::{Saved, SavedBlock};
 use crate::state::StateData;
 use std::alloc::Global;
 use tm_meaning::{Call, Reply, RunText, StreamId};
-use tm_operations::is_true;
 use tm_printing::to_text;
 use tm_syntax::Name;
 use tm_tables::{CallableAnswer, Called, Host, NO_PLACE};
@@ -91,7 +90,7 @@ impl StateData {
             value
         };
         if test {
-            return Ok(Value::boolean(is_true(&shown)));
+            return Ok(Value::boolean(shown.is_true()));
         }
         Ok(shown)
     }

@@ -17,3 +17,4 @@ pub mod Position
 pub mod Answer
 pub mod Held
 pub mod Defined
+pub mod Truth

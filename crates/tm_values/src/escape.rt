@@ -12,3 +12,15 @@ pub enum AutoEscape {
     /// An escape of the caller's own, by name, which only the caller's formatter knows.
     Custom(&'static str),
 }
+
+impl Default for AutoEscape {
+    ghost use Rattle.std.specs.Prelude.{◌≡◌};
+    ghost use Rattle.tm_values.specs.declared.escape.AutoEscape.TheVariants.{None};
+
+    ghost is_default = { λ escape. escape ≡ None };
+
+    /// Nothing is escaped.
+    fn default() -> AutoEscape {
+        AutoEscape::None
+    }
+}

@@ -2,6 +2,7 @@
 #![tactic(auto, using(crate::proofs::Lists::round_trips))]
 
 mod comparing;
+mod conversions;
 mod defined;
 mod dropping;
 mod error;

@@ -13,6 +13,7 @@ use std::alloc::Global;
 use std::cmp::Ordering;
 use std::marker::Model;
 use std::rc::Rc;
+use std::slice;
 
 /// A map that is being made. A contract sees it as its pairs, whose keys ascend.
 #[derive(Drop)]
@@ -115,6 +116,22 @@ impl ValueMap {
             Ok(at) => Some(&self.pairs[at].1),
             Err(_) => None,
         }
+    }
+}
+
+impl<'map> IntoIterator for &'map ValueMap {
+    ghost use Rattle.std.specs.Prelude.{◌≡◌};
+    ghost use Rattle.std.specs.Slice.Iter.{iter_rest};
+
+    type Item = &'map (Value, Value);
+
+    type IntoIter = slice::Iter<'map, (Value, Value)>;
+
+    ghost into_iter_gives = { λ m pairs. iter_rest pairs ≡ m.now };
+
+    /// The pairs, in the order of their keys.
+    fn into_iter(self) -> slice::Iter<'map, (Value, Value)> {
+        self.pairs().iter()
     }
 }
 

@@ -42,6 +42,18 @@ pub enum UndefinedUse {
     Arithmetic,
 }
 
+impl Default for UndefinedBehavior {
+    ghost use Rattle.std.specs.Prelude.{◌≡◌};
+    ghost use Rattle.tm_values.specs.declared.undefined.UndefinedBehavior.TheVariants.{Lenient};
+
+    ghost is_default = { λ behavior. behavior ≡ Lenient };
+
+    /// The mildest one.
+    fn default() -> UndefinedBehavior {
+        UndefinedBehavior::Lenient
+    }
+}
+
 impl UndefinedBehavior {
     /// How the use of an undefined value fails: UndefinedError or InvalidOperation; None where it
     /// goes on. A silent one never fails in emission and truth.

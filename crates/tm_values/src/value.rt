@@ -294,7 +294,7 @@ impl Value {
     }
 
     /// The whole number that a number or a truth value counts as, where the value is one.
-    pub fn as_whole(&self) -> Option<i128>
+    pub fn as_i128(&self) -> Option<i128>
         ensures { result ≡ whole_in self.now }
     {
         match &self.node {

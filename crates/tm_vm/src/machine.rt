@@ -109,13 +109,20 @@ impl Machine {
         (captures, state)
     }
 
-    /// Takes the value on top, as one that a run left; none where there is none.
-    pub fn take_value(&mut self) -> Option<Value>
-        ensures { MatchOption result ((self.old.run.operands ≡ []) × (self.new ≡ self.old))
-            (λ v. self.old ≡ record self.new
-            { run = record self.new.run { operands = v ∷ self.new.run.operands } }) }
+    /// The value that the run left, where it left one and no other, and the state.
+    pub fn into_value(self) -> (Option<Value>, StateData)
+        ensures value { MatchOption result.0 (length self.run.operands ≡ 1 → ⊥)
+            (λ v. self.run.operands ≡ v ∷ []) }
+        ensures state { result.1 ≡ self.world }
     {
-        self.run.pop()
+        let Machine {
+            mut run,
+            state,
+            ..
+        } = self;
+        let is_one = run.operands.len() == 1;
+        let top = run.operands.pop();
+        (if is_one { top } else { None }, state)
     }
 
     // ------------------------------------------------------------ parts
@@ -130,7 +137,7 @@ impl Machine {
     }
 
     /// What a run from here on stands on.
-    fn base(&self, heard: bool) -> Base
+    pub fn base(&self, heard: bool) -> Base
         ensures { result ≡ base_of heard self.now.captures self.now.world }
     {
         Base {

@@ -3,7 +3,6 @@ ghost use Rattle.std.specs.Prelude.{◌≡◌, List, Option, map as each};
 ghost use Rattle.std.specs.Rc.{rc_str_bytes};
 ghost use Rattle.tm_meaning.specs.Instructions.{build_macro_of, closure_in, closure_value, enclose_of, get_closure_of};
 ghost use Rattle.tm_meaning.specs.Instructions.{is_undefined_of, names_in, texts_in};
-ghost use Rattle.tm_meaning.specs.Operators.{is_undefined};
 ghost use Rattle.tm_values.specs.Answer.{OkOrOutOfMemory};
 ghost use Rattle.tm_vm.specs.Answers.{program, AreTexts, CanGoOn, Silently};
 
@@ -25,7 +24,7 @@ impl Machine {
         let Some(value) = self.run.pop() else {
             return Err(Halt::Stuck);
         };
-        self.push_next(Value::boolean(is_undefined(&value)))
+        self.push_next(Value::boolean(value.is_undefined()))
     }
 
     /// Lets the innermost scope's own closure have a name with its present value, unless it has it.
@@ -87,13 +86,6 @@ impl Machine {
             .make_macro(alloc, number, closure, name, arguments, caller)?;
         self.push_next(declared)
     }
-}
-
-/// Whether a value is undefined.
-fn is_undefined(value: &Value) -> bool
-    ensures { result ≡ is_undefined value.now }
-{
-    matches!(value.node, Node::Undefined(_))
 }
 
 /// A closure as an operand: its number, or none.

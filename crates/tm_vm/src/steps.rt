@@ -254,7 +254,7 @@ impl Machine {
 
     /// Pays for the instruction at the place and does it, at once where it can be, and answers where the run goes on.
     #[inline(always)]
-    pub(crate) fn step<H: Host, W: Sink>(
+    pub fn step<H: Host, W: Sink>(
         &mut self,
         alloc: Global,
         host: &H,
