@@ -9,7 +9,7 @@ use mj_words::{Refusal, tell_refusal};
 use std::io::{self, BufWriter, Read};
 use std::process::ExitCode;
 use std::{env, fs};
-use tm_parts::Counted;
+use template_machine::Counted;
 
 /// The files of the system, and its standard input.
 #[derive(Drop)]

@@ -4,7 +4,7 @@ use mj_run::{Texts, run};
 use std::alloc::Global;
 use std::io::{self, Write};
 use std::test::Fail;
-use tm_parts::Counted;
+use template_machine::Counted;
 
 const USAGE: &str = "usage: mj [-D name=text].. [--json FILE] [--fuel N] [--limit N] FILE..\n";
 

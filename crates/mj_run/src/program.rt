@@ -13,8 +13,7 @@ use mj_json::members;
 use mj_words::{Arguments, Refusal, parse, tell_error, tell_refusal};
 use std::alloc::Global;
 use std::io::{self, Write};
-use tm_parts::Counted;
-use tm_values::Value;
+use template_machine::{Counted, Value};
 
 /// The status of a run without a fault.
 const SUCCESS: u8 = 0;

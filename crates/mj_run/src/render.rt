@@ -13,9 +13,10 @@ use mj_words::Arguments;
 use std::alloc::Global;
 use std::io::Write;
 use std::mem;
-use template_machine::{Environment, EnvironmentOf, Parties, StateIds, TemplateOf};
-use tm_parts::Counted;
-use tm_values::{Error, ErrorKind, Value, ValueMap};
+use template_machine::{
+    Counted, Environment, EnvironmentOf, Error, ErrorKind, Parties, StateIds, TemplateOf, Value,
+    ValueMap,
+};
 
 /// Renders the first of the sources, with all of them as templates, and flushes, also after a render
 /// that failed, whose error is the one that counts. SyntaxError where a source spells no template,

@@ -1,6 +1,7 @@
 mod Alone
 mod Answered
 mod BlockCalls
+mod Evaluations
 mod Meant
 mod Runs
 mod Started

@@ -10,13 +10,13 @@ use Rattle.tm_meaning.specs.Machine.{Capture, Config, Finished, Program, base_of
 use Rattle.tm_parts.specs.Halts.{failures_after}
 use Rattle.tm_parts.specs.declared.halt.Halt.{Halt}
 use Rattle.tm_meaning.specs.Steps.{step}
-use Rattle.tm_meaning.specs.Meaning.{Outcome}
+use Rattle.tm_meaning.specs.Meaning.{left_of, Outcome}
 use Rattle.tm_vm.specs.Answers.{program, HaltsAs, ReachesEnd}
 use Rattle.tm_vm.specs.Nested.{WroteBeginning}
 use Rattle.tm_meaning.specs.declared.stream.TemplateId.TheVariants.{Own}
 use Rattle.template_machine.specs.Environment.{IsMadeIn, EnvironmentValue, TemplateValue, host_of, trees, code}
 use Rattle.template_machine.specs.Renders.{meaning, meaning_from, IsFresh, Ran, RenderedText, RenderedSource, source_rendered, IsUnnumbered}
-use Rattle.template_machine.proofs.Answered.{run_done, run_halted}
+use Rattle.template_machine.proofs.Answered.{run_done, run_halted, run_leaves}
 
 module _ {O : Type 0} (stated : O → StatedObjects) (t : TemplateValue O) (captures new : List Capture) (w left : World)
     (told now : Option (List ℕ)) (failures count : ℕ) (config : Config)
@@ -35,6 +35,12 @@ module _ {O : Type 0} (stated : O → StatedObjects) (t : TemplateValue O) (capt
       (subst (λ x. Ran m (Ok new) x captures told now failures count) there
       (run_done p (trees t) (λ s. refl) captures new w left told now failures count us fresh
       (subst (λ (c : Config). ReachesEnd p (base_of true c.captures c.world) c told now (Finished us new left)) begins comes) counted))
+
+  pub over_leaves : (us : List Val) →
+      ReachesEnd p (base_of true config.captures config.world) config told now (Finished us new left) → us ≡ left_of m
+  over_leaves us comes =
+      run_leaves p (trees t) (λ s. refl) captures new w left told now failures count us fresh
+      (subst (λ (c : Config). ReachesEnd p (base_of true c.captures c.world) c told now (Finished us new left)) begins comes)
 
   pub over_halted : (why : Halt) (put : World) → left ≡ put →
       HaltsAs why left (ReachesEnd p (base_of true config.captures config.world) config told now) →

@@ -11,7 +11,7 @@ use Rattle.tm_state.specs.Answers.{IsEmitted}
 use Rattle.template_machine.specs.Renders.{as_text}
 
 -- OutOfMemory alone is want of memory
-not_alone : (chain : List ErrorKind) → is_want_of_memory chain ≡ false → is_memory_alone chain ≡ false
+pub not_alone : (chain : List ErrorKind) → is_want_of_memory chain ≡ false → is_memory_alone chain ≡ false
 not_alone [] m = refl
 not_alone (k ∷ []) m = m
 not_alone (k ∷ c ∷ cs) m = refl

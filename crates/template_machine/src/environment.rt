@@ -415,8 +415,8 @@ impl<'source, O: Parties> EnvironmentOf<'source, O> {
         ensures compiled { IfOk result (IsExpressionIn self.now (source_bytes source.entry)) }
         ensures refused { IfErr result (IsRefusedExpression (source_bytes source.entry)) }
     {
-        let compiled = CompiledTemplate::expression(self.alloc, source)?;
-        let owned = Box::new(self.alloc, compiled)?;
+        let expression = CompiledTemplate::expression(self.alloc, source)?;
+        let owned = Box::new(self.alloc, expression)?;
         Ok(ExpressionOf::new(self, owned))
     }
 

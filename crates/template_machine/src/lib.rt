@@ -26,7 +26,9 @@ pub use tm_compiler::{
 pub use tm_meaning::{Call, GlobalFunction, Reply};
 pub use tm_operations as operations;
 pub use tm_output::{Target, TargetFailed};
-pub use tm_parts::{Counted, Limited, NullWriter, Output, Sink, WriteWrapper};
+pub use tm_parts::{
+    Counted, Limited, NullWriter, Output, Sink, WriteWrapper, write_text,
+};
 pub use tm_printing as printing;
 pub use tm_syntax::{Assignment, AssignmentTarget, CaptureMode, CaptureUse, Code};
 pub use tm_tables::{
