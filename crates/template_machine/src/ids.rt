@@ -18,6 +18,17 @@ impl Model for StateIds {
     ghost view = { λ a. a.next };
 }
 
+impl Default for StateIds {
+    ghost use Rattle.std.specs.Prelude.{◌≡◌};
+
+    ghost is_default = { λ ids. ids ≡ 0 };
+
+    /// A counter whose next number is 0.
+    fn default() -> StateIds {
+        StateIds::new()
+    }
+}
+
 impl StateIds {
     /// A counter whose next number is 0.
     pub fn new() -> StateIds
