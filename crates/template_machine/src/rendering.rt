@@ -191,9 +191,7 @@ impl<O: Parties> Rendering<'_, O> {
             Err(halt) => Err(halt),
         }
     }
-}
 
-impl<O: Parties> Rendering<'_, O> {
     /// The value of the expression whose stream a state names, with its namespaces as maps.
     pub(crate) fn evaluate(&self, mut state: StateData) -> Result<Value, Error>
         ensures { Evaluated (value_meant O.stated self.now state.entry) result }
