@@ -8,7 +8,8 @@ use Rattle.tm_values.specs.declared.error.ErrorKind.{ErrorKind}
 use Rattle.tm_meaning.specs.World.{World}
 use Rattle.tm_meaning.specs.Tree.{Trees}
 use Rattle.tm_values.specs.Val.{Val}
-use Rattle.tm_meaning.specs.Meaning.{Ending, done, leave, next, fault, left_by, left_of, Outcome, rendered}
+use Rattle.tm_meaning.specs.Meaning.{Ending, done, leave, next, fault, left_by, Outcome}
+use Rattle.tm_meaning.specs.Runs.{left_of, rendered}
 use Rattle.tm_meaning.specs.Machine.{Capture, End, Finished, Failed, Stuck, Program, base_of, new_capture, put_in, put_out, run_from, running}
 use Rattle.tm_meaning.specs.Steps.{Final, final, step, Reaches}
 use Rattle.tm_meaning.specs.Compiled.{IsCompiled}

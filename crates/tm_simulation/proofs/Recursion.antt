@@ -12,7 +12,8 @@ use Rattle.tm_syntax.specs.Code.{target_code, statements_code}
 use Rattle.tm_meaning.specs.World.{choose, World, Loop, loop_scope, new_loop, open_loop}
 use Rattle.tm_meaning.specs.World.{top_loop, depth, pop}
 use Rattle.tm_meaning.specs.World.{captured_text}
-use Rattle.tm_meaning.specs.Meaning.{ended, again_in, text_behind, Run, Ending, done, leave, next}
+use Rattle.tm_meaning.specs.Meaning.{ended, text_behind, Run, Ending, done, leave, next}
+use Rattle.tm_meaning.specs.Runs.{again_in}
 use Rattle.tm_meaning.specs.Meaning.{fault, Under}
 use Rattle.tm_meaning.specs.Meaning.{capturing}
 use Rattle.tm_meaning.specs.Meaning.{rounds, loop_over, has_none}

@@ -16,11 +16,14 @@ use Rattle.tm_meaning.specs.World.{Res, Good, Bad, tick}
 use Rattle.tm_meaning.specs.World.{captured_text}
 use Rattle.tm_meaning.specs.Calls.{Callee, whole, macro_of}
 use Rattle.tm_meaning.specs.Tree.{Body, StreamTree, statements, expression, Trees}
-use Rattle.tm_meaning.specs.Meaning.{under, again_of, Ending, done, leave, next}
+use Rattle.tm_meaning.specs.Meaning.{Ending, done, leave, next}
+use Rattle.tm_meaning.specs.Runs.{under, again_of}
 use Rattle.tm_meaning.specs.Meaning.{fault, Under}
 use Rattle.tm_meaning.specs.Meaning.{capturing}
-use Rattle.tm_meaning.specs.Meaning.{done_by, leaving, eval, exec_all, macro_body, macro_run, take_parameters}
-use Rattle.tm_meaning.specs.Meaning.{new_run, at_end, failed, nests_of, rendered, Run, Outcome, stream_run, restarting, run_of}
+use Rattle.tm_meaning.specs.Meaning.{eval, exec_all, take_parameters}
+use Rattle.tm_meaning.specs.Runs.{done_by, leaving, macro_body, macro_run}
+use Rattle.tm_meaning.specs.Meaning.{Run, Outcome}
+use Rattle.tm_meaning.specs.Runs.{new_run, at_end, failed, nests_of, rendered, stream_run, restarting, run_of}
 use Rattle.tm_meaning.specs.Inheritance.{names_left}
 use Rattle.tm_meaning.specs.Machine.{new_capture, recursion, Capture as OpenCapture, Finished}
 use Rattle.tm_meaning.specs.Machine.{Stuck, Over, Program, base_of, run_from, run_of_macro, onto, restarted}
