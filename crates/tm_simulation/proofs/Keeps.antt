@@ -21,8 +21,10 @@ use Rattle.tm_simulation.specs.Kept.{UnlessFault, Stays, Grows, EndsThere, PutsB
 use Rattle.tm_meaning.specs.declared.stream.TemplateId.{TemplateId}
 use Rattle.tm_meaning.specs.declared.stream.StreamId.{StreamId}
 use Rattle.tm_simulation.specs.Chains.{Arises, IfAny}
-use Rattle.tm_simulation.proofs.Advances.{Kept, advances_then, kept_same, kept_then, in_stream, undone_scopes, undone_kept, super_undone_scopes}
-use Rattle.tm_simulation.proofs.Advances.{own_bare, include_undone_bare}
+use Rattle.tm_simulation.proofs.Advances.{Kept, advances_then, kept_same, kept_then}
+use Rattle.tm_simulation.proofs.RunAdvances.{in_stream, undone_scopes, undone_kept, super_undone_scopes}
+use Rattle.tm_simulation.proofs.Advances.{own_bare}
+use Rattle.tm_simulation.proofs.RunAdvances.{include_undone_bare}
 use Rattle.tm_simulation.proofs.Parents.{blocks_same}
 use Rattle.tm_simulation.proofs.Gives.{Gives, RunEnds, run_ends, run_ends_by, run_ends_from, run_ends_behind, run_ends_as, ends_advance}
 use Rattle.tm_simulation.proofs.Gives.{EndingKeeps, OutcomeKeeps, ends_as, ends_from, ends_parents, parents_left, parents_kept}

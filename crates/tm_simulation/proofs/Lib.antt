@@ -1,5 +1,6 @@
 pub mod Parents
 pub mod Advances
+pub mod RunAdvances
 pub mod Raised
 pub mod Gives
 pub mod Loads

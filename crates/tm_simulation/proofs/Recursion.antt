@@ -32,7 +32,7 @@ use Rattle.tm_simulation.proofs.Counts.{Counts}
 use Rattle.tm_simulation.proofs.TreeLoops.{found}
 use Rattle.tm_simulation.proofs.Loops.{on_top_loop, new_record}
 use Rattle.tm_simulation.proofs.Advances.{Kept, kept_frames}
-use Rattle.tm_simulation.proofs.Advances.{mark_behind, in_loop_of, opened, opened_kept}
+use Rattle.tm_simulation.proofs.RunAdvances.{mark_behind, in_loop_of, opened, opened_kept}
 use Rattle.tm_simulation.proofs.Follow.{LeadsToEnd}
 use Rattle.tm_simulation.proofs.Follow.{opened_then, captures_of, told_by, Spot, told, cfg}
 use Rattle.tm_simulation.proofs.Follow.{later, Follows, Then, Ends, whole_of}

@@ -46,7 +46,8 @@ use Rattle.tm_simulation.proofs.Begins.{Stands as BodyStands}
 use Rattle.tm_simulation.proofs.Declares.{take_parameters_give}
 use Rattle.tm_simulation.proofs.Macros.{parameters_run}
 use Rattle.tm_simulation.proofs.TreeLoops.{expr_loopless, statements_begin}
-use Rattle.tm_simulation.proofs.Advances.{Kept, in_stream, kept_frames, kept_depth, kept_then}
+use Rattle.tm_simulation.proofs.Advances.{Kept, kept_frames, kept_depth, kept_then}
+use Rattle.tm_simulation.proofs.RunAdvances.{in_stream}
 use Rattle.tm_simulation.proofs.Advances.{within}
 use Rattle.tm_simulation.proofs.Gives.{EndingKeeps, Gives, ends_as, ends_parents, parents_left, parents_kept, tick_gives}
 use Rattle.tm_simulation.proofs.Executes.{execs_end, body_ends}

@@ -45,7 +45,8 @@ use Rattle.tm_simulation.proofs.TreeLoops.{expr_loopless, target_loopless, assig
 use Rattle.tm_simulation.proofs.TreeLoops.{statements_begin, call_has}
 use Rattle.tm_simulation.proofs.Loops.{new_record}
 use Rattle.tm_simulation.proofs.Advances.{Kept, kept_top, kept_frames, kept_same, kept_then, kept_popped}
-use Rattle.tm_simulation.proofs.Advances.{mark_behind, in_loop_of, opened, opened_kept, within}
+use Rattle.tm_simulation.proofs.Advances.{within}
+use Rattle.tm_simulation.proofs.RunAdvances.{mark_behind, in_loop_of, opened, opened_kept}
 use Rattle.tm_simulation.proofs.Gives.{loop_ends, tick_gives}
 use Rattle.tm_simulation.proofs.Asks.{escape_gives}
 use Rattle.tm_simulation.proofs.Asks.{innermost_asks, super_asks}
