@@ -20,7 +20,7 @@ use Rattle.tm_parts.specs.declared.halt.Halt.{Halt}
 use Rattle.tm_parts.specs.declared.halt.Halt.TheVariants as halt
 use Rattle.tm_simulation.proofs.Follow.{air, inside}
 use Rattle.tm_simulation.proofs.Forms.{end_by}
-use Rattle.tm_simulation.proofs.Simulation.{render_runs}
+use Rattle.tm_simulation.proofs.Renders.{render_runs}
 use Rattle.tm_vm.specs.Answers.{HaltsAs, ReachesEnd}
 use Rattle.tm_vm.specs.Nested.{WroteBeginning}
 use Rattle.template_machine.specs.Environment.{TemplateValue}

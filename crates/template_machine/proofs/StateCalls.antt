@@ -12,7 +12,7 @@ use Rattle.tm_meaning.specs.Machine.{Capture, Config, End, Finished, Failed, Stu
 use Rattle.tm_meaning.specs.Steps.{Final, begins, begun, final, over, step}
 use Rattle.tm_meaning.proofs.Ends.{one_end}
 use Rattle.tm_simulation.specs.Reached.{RunsTo, captures_with, end_by, final_in}
-use Rattle.tm_simulation.proofs.Simulation.{nested_comes_to_meaning}
+use Rattle.tm_simulation.proofs.Renders.{nested_comes_to_meaning}
 use Rattle.tm_output.specs.Pieces.{appends_nothing}
 use Rattle.tm_values.specs.declared.error.ErrorKind.TheVariants.{InvalidOperation}
 use Rattle.tm_parts.specs.Halts.{failures_after}

@@ -28,8 +28,10 @@ mod Rounds
 mod Statements
 mod Recursion
 pub mod Simulation
+pub mod Renders
 mod Numbered
 mod Cached
 mod Counts
+mod Entries
 mod Begins
 mod TreeLoops

@@ -28,7 +28,7 @@ use Rattle.tm_syntax.proofs.Standing.{HasAt, At}
 use Rattle.tm_syntax.specs.declared.instruction.LoopPlace.{LoopPlace}
 use Rattle.tm_syntax.specs.Loops.{FoundLoop}
 use Rattle.tm_simulation.proofs.Begins.{Both, IsAt, Looped}
-use Rattle.tm_simulation.proofs.Counts.{Counts}
+use Rattle.tm_simulation.proofs.Entries.{Counts}
 use Rattle.tm_simulation.proofs.TreeLoops.{found}
 use Rattle.tm_simulation.proofs.Loops.{on_top_loop, new_record}
 use Rattle.tm_simulation.proofs.Advances.{Kept, kept_frames}

@@ -38,7 +38,7 @@ use Rattle.tm_meaning.specs.Instructions.{replacing, awaiting}
 use Rattle.tm_meaning.specs.Instructions.{looping}
 use Rattle.tm_simulation.specs.Kept.{shapes}
 use Rattle.tm_syntax.specs.Loops.{Numbers, loops_before, passes, within_loop, past, pasts}
-use Rattle.tm_simulation.proofs.Counts.{Counts, counts_behind, of_number, one_marked}
+use Rattle.tm_simulation.proofs.Entries.{Counts, counts_behind, of_number, one_marked}
 use Rattle.tm_syntax.proofs.Standing.{AtWhere}
 use Rattle.tm_simulation.proofs.Begins.{after_none}
 use Rattle.tm_simulation.proofs.TreeLoops.{expr_loopless, target_loopless, assignments_loopless, found, iterable_begins, statement_begins}
