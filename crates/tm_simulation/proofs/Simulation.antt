@@ -527,7 +527,7 @@ module _ (p : Program) (trees : Trees) (compiled : IsUnnumbered trees p) where
       chain_runs n (nests_run n) (names_left p.host w) id heard b out w deep (omega arith)
 
   -- And so does any run that has levels enough, from any world, heard or not.
-  level_runs : (n : ℕ) (k : Callee) (heard : Bool) (b : Bed) (out : List ℕ) (w : World) → HasLevels p.host (suc n) w →
+  pub level_runs : (n : ℕ) (k : Callee) (heard : Bool) (b : Bed) (out : List ℕ) (w : World) → HasLevels p.host (suc n) w →
       Entered p k heard b out w (nests_of p.host trees (suc n) k heard out w)
   level_runs n (macro_of id m given) heard b out w deep =
       macro_runs n id (slice_get (stream_macros (trees id)) m) (slice_get (entries (p.code id)) m) (all_entered id m) given
@@ -536,7 +536,7 @@ module _ (p : Program) (trees : Trees) (compiled : IsUnnumbered trees p) where
       chain_runs n (nests_run n) (names_left p.host w) id heard b out w deep (omega arith)
 
   -- A render's run comes to what its trees mean.
-  unnumbered_render : (b : Bed) (w : World) → Entered p (whole w.stream) true b [] w (rendered p.host trees w)
+  pub unnumbered_render : (b : Bed) (w : World) → Entered p (whole w.stream) true b [] w (rendered p.host trees w)
   unnumbered_render b w =
       let e : suc p.host.limit ≡ p.host.limit + 1 = omega arith in
       subst (λ n. Entered p (whole w.stream) true b [] w (nests_of p.host trees n (whole w.stream) true [] w)) e
