@@ -24,7 +24,8 @@ use Rattle.tm_simulation.proofs.Counts.{plain_uncached}
 use Rattle.tm_simulation.proofs.Follow.{Bed, air, inside, captures_of, told_by, told}
 use Rattle.tm_simulation.proofs.Forms.{end_by as bed_end, Entered}
 use Rattle.tm_meaning.specs.declared.stream.StreamId.{StreamId}
-use Rattle.tm_simulation.proofs.Simulation.{unnumbered_of, IsUnnumbered, tree_begins, level_runs, unnumbered_render}
+use Rattle.tm_simulation.proofs.Simulation.{unnumbered_of, IsUnnumbered, tree_begins, chain_runs, nests_run, level_runs}
+use Rattle.tm_simulation.proofs.Simulation.{unnumbered_render}
 
 -- ---------------------------------------------------------------- over any captures
 unheard_end : (e : Ending) (out : List ℕ) (w : World) → bed_end e air out w ≡ final out (end_by e [] w)

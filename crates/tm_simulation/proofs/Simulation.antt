@@ -432,7 +432,7 @@ module _ (p : Program) (trees : Trees) (compiled : IsUnnumbered trees p) where
       subst (λ m. there g m (new_run heard w)) (same_captures b x out) two
 
   -- A stream and its parents, where no more names are left than so many: each parent's was not loaded before.
-  chain_runs : (n : ℕ) → AllNested p trees n → (m : ℕ) (id : StreamId) (heard : Bool) (b : Bed) (out : List ℕ) (w : World) →
+  pub chain_runs : (n : ℕ) → AllNested p trees n → (m : ℕ) (id : StreamId) (heard : Bool) (b : Bed) (out : List ℕ) (w : World) →
       HasLevels p.host (suc n) w → names_left p.host w ≤ m →
       Entered p (whole id) heard b out w (run_of p.host (nests_of p.host trees n) trees m id (new_run heard w) out w)
   chain_runs n below zero id heard b out w deep left =
@@ -518,7 +518,7 @@ module _ (p : Program) (trees : Trees) (compiled : IsUnnumbered trees p) where
 
   -- What nests comes to what it means. Level zero isn't reached, since a run stands one level deeper than the one that needs it, within the
   -- limit.
-  nests_run : (n : ℕ) → AllNested p trees n
+  pub nests_run : (n : ℕ) → AllNested p trees n
   nests_run zero k heard b out w deep within = absurd (omega (arith, deep, within))
   nests_run (suc n) (macro_of id m given) heard b out w deep within =
       macro_runs n id (slice_get (stream_macros (trees id)) m) (slice_get (entries (p.code id)) m) (all_entered id m) given
