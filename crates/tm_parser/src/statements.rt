@@ -12,7 +12,7 @@ use crate::emissions::{emit_statement, is_call, with_emission};
 use crate::lists::with_one;
 use crate::tables::Start;
 use crate::targets::LoopHead;
-use sqlite_items::{Boxed, Items};
+use sqlite_items::Items;
 use std::alloc::Global;
 use tm_syntax::{AssignmentTarget, CaptureUse, ForLoop, Sign, Step, Stmt, Tag};
 use tm_values::Error;
