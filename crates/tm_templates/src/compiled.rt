@@ -24,7 +24,9 @@ use std::alloc::Global;
 use std::collections::BTreeSet;
 use std::marker::Model;
 use std::rc::{Rc, RcStr};
-use tm_compiler::{BlockCode, Code, Name, NameMap, Streams, SyntaxConfig, Tree, generate, parse, parse_expr};
+use tm_compiler::{
+    BlockCode, Code, Name, NameMap, Streams, SyntaxConfig, Tree, generate, parse, parse_expr,
+};
 use tm_names::undeclared;
 use tm_tables::{BlockNames, EscapeRule};
 use tm_values::{AutoEscape, Error};

@@ -115,11 +115,7 @@ impl Machine {
             (λ v. self.run.operands ≡ v ∷ []) }
         ensures state { result.1 ≡ self.world }
     {
-        let Machine {
-            mut run,
-            state,
-            ..
-        } = self;
+        let Machine { mut run, state, .. } = self;
         let is_one = run.operands.len() == 1;
         let top = run.operands.pop();
         (if is_one { top } else { None }, state)
