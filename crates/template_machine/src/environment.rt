@@ -75,13 +75,14 @@ pub type Environment<'source> = EnvironmentOf<'source, BoxedObjects>;
 
 impl<'source, O: Drop> Model for EnvironmentOf<'source, O> {
     ghost use Rattle.std.specs.Coded.{codes as coding};
+    ghost use Rattle.tm_syntax.specs.contracts.tree.Expr as expression;
     ghost use Rattle.tm_syntax.specs.contracts.tree.Stmt as statement;
     ghost use Rattle.tm_values.specs.Code.{coded_Val};
     ghost use Rattle.template_machine.specs.Environment.{EnvironmentValue};
 
     ghost Value = { EnvironmentValue O };
 
-    ghost coded = { Prim.hlevel (coding, coded_Val, statement.the_row.coded, O.code) };
+    ghost coded = { Prim.hlevel (coding, coded_Val, expression.the_row.coded, statement.the_row.coded, O.code) };
 
     ghost view = { λ e. record {
       templates = e.templates;
