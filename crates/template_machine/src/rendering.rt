@@ -195,15 +195,16 @@ impl<O: Parties> Rendering<'_, O> {
 
     /// The value of the expression whose stream a state names, with its namespaces as maps.
     pub(crate) fn evaluate(&self, mut state: StateData) -> Result<Value, Error>
-        ensures { Evaluated (value_meant O.stated self.now state.entry) result }
+        ensures { Evaluated (value_meant O.stated self.now state) result }
     {
         let alloc = self.allocator();
         let stream = state.stream().share()?;
         let mut machine = Machine::new(alloc, stream, Captures::new(alloc), state.take(alloc));
         machine.run(alloc, self, true, &mut NullWriter)?;
-        match machine.into_value() {
-            (Some(value), left) => with_maps(alloc, &value, &left),
-            (None, _left) => Err(Error::from(ErrorKind::InvalidOperation)),
+        let (value, left) = machine.into_value();
+        match value {
+            Some(value) => with_maps(alloc, &value, &left),
+            None => Err(Error::from(ErrorKind::InvalidOperation)),
         }
     }
 }

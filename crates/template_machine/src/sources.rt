@@ -81,8 +81,8 @@ impl<'source, O: Parties> EnvironmentOf<'source, O> {
         &self,
         source: String,
     ) -> Result<ExpressionOf<'_, 'source, O>, Error>
-        ensures compiled { IfOk result (IsExpressionIn self.now (string_bytes source.entry)) }
-        ensures refused { IfErr result (IsRefusedExpression (string_bytes source.entry)) }
+        ensures compiled { IfOk result (IsExpressionIn self.now (string_bytes source)) }
+        ensures refused { IfErr result (IsRefusedExpression (string_bytes source)) }
     {
         self.expression(Source::owned(source)?)
     }
