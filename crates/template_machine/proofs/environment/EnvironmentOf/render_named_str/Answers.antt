@@ -2,7 +2,7 @@ use Rattle.std.proofs.Common.{◌≡◌, Err, inl, refl}
 use Rattle.template_machine.specs.Renders.{IsUnnumbered, source_refused}
 use Rattle.template_machine.proofs.Answered.{passed}
 use Rattle.template_machine.proofs.Runs.{source_done, source_full}
-use Rattle.template_machine.proofs.sources.EnvironmentOf.render_named_str.Goals as goal
+use Rattle.template_machine.proofs.environment.EnvironmentOf.render_named_str.Goals as goal
 
 pub returns-in_err-template : goal.returns-in_err-template
 returns-in_err-template g c =

@@ -4,7 +4,7 @@ use Rattle.tm_values.specs.declared.error.ErrorKind.{ErrorKind}
 use Rattle.tm_templates.specs.Templates.{IsRefused}
 use Rattle.template_machine.specs.Environment.{TemplateValue}
 use Rattle.template_machine.proofs.Answered.{passed}
-use Rattle.template_machine.proofs.sources.EnvironmentOf.template_from_named_str.Goals as goal
+use Rattle.template_machine.proofs.environment.EnvironmentOf.template_from_named_str.Goals as goal
 
 pub returns-in_err-template-clause-refused : goal.returns-in_err-template-clause-refused
 returns-in_err-template-clause-refused g c =

@@ -1,5 +1,5 @@
 use Rattle.std.proofs.Common.{rules}
-use Rattle.template_machine.proofs.sources.EnvironmentOf.render_str.Goals as goal
+use Rattle.template_machine.proofs.environment.EnvironmentOf.render_str.Goals as goal
 
 pub returns-clause-full : goal.returns-clause-full
 returns-clause-full g c = search rules fits 100
