@@ -1,15 +1,22 @@
 #!/usr/bin/env bash
 # Renders each example by ./mj, with the JSON file, the names and the other templates that it has (.json, .names, .others), and compares the
-# output with its .expected file. The code in README.md must be that of the test in crates/render_tests/src/readme.rt, blanks aside.
+# output with its .expected file. The code in README.md and in docs/LIBRARY.md must be that of their tests in crates/render_tests/src.
 set -euo pipefail
 cd "$(dirname "${BASH_SOURCE[0]}")"
 
-shown=$(sed -n '/^```rust$/,/^```$/p' ../README.md | sed '1d;$d' | tr -d '[:space:]')
-tested=$(sed -n '/example begins here/,/example ends here/p' ../crates/render_tests/src/readme.rt | sed '1d;$d' | tr -d '[:space:]')
-if [[ -z $shown || $shown != "$tested" ]]; then
-    echo "the code in README.md isn't that of crates/render_tests/src/readme.rt" >&2
-    exit 1
-fi
+# compare_code DOCUMENT TEST: the rust blocks of the document, in order, must be the marked parts of the test's file, blanks aside.
+compare_code() {
+    local shown tested
+    shown=$(sed -n '/^```rust$/,/^```$/p' "../$1" | sed '/^```/d' | tr -d '[:space:]')
+    tested=$(sed -n '/example begins here/,/example ends here/p' "../$2" | sed '/example begins here/d; /example ends here/d' | tr -d '[:space:]')
+    if [[ -z $shown || $shown != "$tested" ]]; then
+        echo "the code in $1 isn't that of $2" >&2
+        exit 1
+    fi
+}
+
+compare_code README.md crates/render_tests/src/readme.rt
+compare_code docs/LIBRARY.md crates/render_tests/src/library.rt
 
 passed=0
 failed=0

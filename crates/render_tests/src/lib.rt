@@ -16,6 +16,8 @@ mod expressions;
 #[cfg(test)]
 mod includes;
 #[cfg(test)]
+mod library;
+#[cfg(test)]
 mod limited;
 #[cfg(test)]
 mod loops;

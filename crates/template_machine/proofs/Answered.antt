@@ -25,7 +25,7 @@ use Rattle.tm_vm.specs.Answers.{HaltsAs, ReachesEnd}
 use Rattle.tm_vm.specs.Nested.{WroteBeginning}
 use Rattle.template_machine.specs.Environment.{TemplateValue}
 use Rattle.template_machine.specs.Renders.{CapturedValue, StateValue, IsCaptured, RenderedCaptured, captured_as_meant, captured_by_memory}
-use Rattle.template_machine.specs.Renders.{answer_by, IsFresh, Ran, run_as_meant, run_by_writer, run_by_memory}
+use Rattle.template_machine.specs.Renders.{answer_by, answer_of, IsFresh, Ran, run_as_meant, run_by_writer, run_by_memory}
 use Rattle.template_machine.specs.Renders.{Rendered, as_meant, by_writer, by_memory, RenderedText, text_as_meant, text_by_memory}
 use Rattle.template_machine.specs.Renders.{BlockWritten, block_as_meant, block_by_writer, block_by_memory}
 
@@ -144,6 +144,11 @@ module _ (p : Program) (trees : Trees) (compiled : IsCompiled trees p) (captures
   run_done us fresh (text, appended, reaches) counted =
       let same = finished_is m.ending us captures new text m.text left m.world (one_end reaches (reached fresh)) in
       run_as_meant same.1 (written text same.0 appended) counted
+
+  -- the end that is meant leaves this world
+  pub run_answers : (us : List Val) → IsFresh captures → ComesTo (Finished us new left) → answer_of m ≡ Ok left
+  run_answers us fresh (text, appended, reaches) =
+      (finished_is m.ending us captures new text m.text left m.world (one_end reaches (reached fresh))).1.0
 
   -- and the machine's operands are the values that are left
   pub run_leaves : (us : List Val) → IsFresh captures → ComesTo (Finished us new left) → us ≡ left_of m

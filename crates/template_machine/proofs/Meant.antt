@@ -4,7 +4,7 @@ use Rattle.std.specs.Map.{keys_of}
 use Rattle.std.specs.Option.{option_map}
 use Rattle.tm_values.specs.declared.escape.AutoEscape.{AutoEscape}
 use Rattle.tm_syntax.specs.BlockCodes.{block_code}
-use Rattle.tm_syntax.specs.Blocks.{blocks_in}
+use Rattle.tm_syntax.specs.Blocks.{stream_blocks, stream_of}
 use Rattle.tm_syntax.specs.Named.{by_name, find}
 use Rattle.tm_meaning.specs.declared.stream.StreamId.{StreamId}
 use Rattle.tm_meaning.specs.declared.stream.TemplateId.{TemplateId}
@@ -13,7 +13,7 @@ use Rattle.tm_tables.specs.Stated.{StatedObjects}
 use Rattle.tm_meaning.specs.World.{Template, template_at, card_at, card_in, or_is}
 use Rattle.tm_meaning.specs.Calls.{is_required}
 use Rattle.tm_meaning.specs.Tree.{template_of, tree_at}
-use Rattle.tm_templates.specs.Templates.{Compiled, block_codes, body, tree_of}
+use Rattle.tm_templates.specs.Templates.{Compiled, block_codes, tree_of}
 use Rattle.tm_templates.proofs.Named.{by_name-turned, find-turned}
 use Rattle.template_machine.specs.Environment.{TemplateValue, host_of, trees_in, meant}
 use Rattle.template_machine.proofs.Alone.{keys-carded, keys-turned}
@@ -47,7 +47,7 @@ module _ {O : Type 0} (stated : O → StatedObjects) (t : TemplateValue O) where
       names ≡ keys_of (block_codes c.tree) →
       (found : Template) × (find x (host_of stated t).templates ≡ Some found) × (keys_of found.blocks ≡ names)
   blocks_found x c names found are =
-      let bs = blocks_in (body c.tree).row in (
+      let bs = stream_blocks (stream_of c.tree) in (
         as_template c,
         find-turned as_template x t.environment.templates ∙ ap (option_map as_template) found,
         keys-carded (by_name bs) ∙ sym (keys-turned block_code (by_name bs))

@@ -15,8 +15,8 @@ use Rattle.tm_vm.specs.Answers.{program, HaltsAs, ReachesEnd}
 use Rattle.tm_vm.specs.Nested.{WroteBeginning}
 use Rattle.tm_meaning.specs.declared.stream.TemplateId.TheVariants.{Own}
 use Rattle.template_machine.specs.Environment.{IsMadeIn, EnvironmentValue, TemplateValue, host_of, trees, code}
-use Rattle.template_machine.specs.Renders.{meaning, meaning_from, IsFresh, Ran, RenderedText, RenderedSource, source_rendered, IsUnnumbered}
-use Rattle.template_machine.proofs.Answered.{run_done, run_halted, run_leaves}
+use Rattle.template_machine.specs.Renders.{answer_of, meaning, meaning_from, IsFresh, Ran, RenderedText, RenderedSource, source_rendered, IsUnnumbered}
+use Rattle.template_machine.proofs.Answered.{run_answers, run_done, run_halted, run_leaves}
 
 module _ {O : Type 0} (stated : O → StatedObjects) (t : TemplateValue O) (captures new : List Capture) (w left : World)
     (told now : Option (List ℕ)) (failures count : ℕ) (config : Config)
@@ -40,6 +40,12 @@ module _ {O : Type 0} (stated : O → StatedObjects) (t : TemplateValue O) (capt
       ReachesEnd p (base_of true config.captures config.world) config told now (Finished us new left) → us ≡ left_of m
   over_leaves us comes =
       run_leaves p (trees t) (λ s. refl) captures new w left told now failures count us fresh
+      (subst (λ (c : Config). ReachesEnd p (base_of true c.captures c.world) c told now (Finished us new left)) begins comes)
+
+  pub over_answers : (us : List Val) →
+      ReachesEnd p (base_of true config.captures config.world) config told now (Finished us new left) → answer_of m ≡ Ok left
+  over_answers us comes =
+      run_answers p (trees t) (λ s. refl) captures new w left told now failures count us fresh
       (subst (λ (c : Config). ReachesEnd p (base_of true c.captures c.world) c told now (Finished us new left)) begins comes)
 
   pub over_halted : (why : Halt) (put : World) → left ≡ put →

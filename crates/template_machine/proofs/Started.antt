@@ -6,14 +6,14 @@ use Rattle.tm_values.specs.declared.error.ErrorKind.{ErrorKind}
 use Rattle.tm_values.specs.declared.escape.AutoEscape.{AutoEscape}
 use Rattle.std.specs.Map.{keys_of}
 use Rattle.tm_syntax.specs.BlockCodes.{block_code}
-use Rattle.tm_syntax.specs.Blocks.{blocks_in}
+use Rattle.tm_syntax.specs.Blocks.{stream_blocks, stream_of}
 use Rattle.tm_syntax.specs.Named.{by_name}
 use Rattle.tm_meaning.specs.World.{World}
 use Rattle.tm_tables.specs.Stated.{StatedObjects}
 use Rattle.tm_meaning.specs.Calls.{own_blocks}
 use Rattle.tm_meaning.specs.Tree.{carded}
 use Rattle.tm_meaning.specs.declared.stream.TemplateId.{TemplateId}
-use Rattle.tm_templates.specs.Templates.{Compiled, body, block_codes}
+use Rattle.tm_templates.specs.Templates.{Compiled, block_codes}
 use Rattle.tm_templates.proofs.Named.{by_name-turned}
 use Rattle.tm_state.specs.State.{started}
 use Rattle.tm_tables.specs.Lists.{with_each}
@@ -37,7 +37,7 @@ held_meant e (Owned t) is = refl
 pub first_is : {O : Type 0} (stated : O → StatedObjects) (t : TemplateValue O) (id : ℕ) (context : Val) → meant t t.id ≡ t.template →
     started id t.id (keys_of (block_codes t.template.tree)) t.template.escape t.environment.fuel context ≡ first stated t id context
 first_is stated t id context is =
-    let bs = blocks_in (body t.template.tree).row in
+    let bs = stream_blocks (stream_of t.template.tree) in
     let same : with_each t.id (keys_of (block_codes t.template.tree)) [] ≡ own_blocks t.id (map carded (by_name bs)) =
     ap (λ ks. with_each t.id ks []) (ap keys_of (by_name-turned block_code bs) ∙ keys-turned block_code (by_name bs))
     ∙ each_alone t.id bs in

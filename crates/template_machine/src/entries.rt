@@ -23,13 +23,14 @@ impl<'env, 'source, O: Drop> Model for TemplatesOf<'env, 'source, O> {
     ghost use Rattle.std.specs.Prelude.{drop};
     ghost use Rattle.std.specs.Coded.{codes};
     ghost use Rattle.tm_syntax.specs.Named.{Named};
+    ghost use Rattle.tm_syntax.specs.contracts.tree.Expr as expression;
     ghost use Rattle.tm_syntax.specs.contracts.tree.Stmt as statement;
     ghost use Rattle.tm_values.specs.Code.{coded_Val};
     ghost use Rattle.template_machine.specs.Environment.{entries_of, TemplateValue};
 
     ghost Value = { Named (TemplateValue O) };
 
-    ghost coded = { Prim.hlevel (codes, coded_Val, statement.the_row.coded, O.code) };
+    ghost coded = { Prim.hlevel (codes, coded_Val, expression.the_row.coded, statement.the_row.coded, O.code) };
 
     ghost view = { λ t. drop t.place (entries_of t.environment.now) };
 }

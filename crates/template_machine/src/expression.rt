@@ -36,13 +36,14 @@ pub type Expression<'env, 'source> = ExpressionOf<'env, 'source, BoxedObjects>;
 impl<'env, 'source, O: Drop> Model for ExpressionOf<'env, 'source, O> {
     ghost use Rattle.std.specs.Coded.{codes};
     ghost use Rattle.tm_meaning.specs.declared.stream.TemplateId.TheVariants.{Own};
+    ghost use Rattle.tm_syntax.specs.contracts.tree.Expr as expression;
     ghost use Rattle.tm_syntax.specs.contracts.tree.Stmt as statement;
     ghost use Rattle.tm_values.specs.Code.{coded_Val};
     ghost use Rattle.template_machine.specs.Environment.{TemplateValue};
 
     ghost Value = { TemplateValue O };
 
-    ghost coded = { Prim.hlevel (codes, coded_Val, statement.the_row.coded, O.code) };
+    ghost coded = { Prim.hlevel (codes, coded_Val, expression.the_row.coded, statement.the_row.coded, O.code) };
 
     ghost view = { λ x. record {
       environment = x.environment.now;

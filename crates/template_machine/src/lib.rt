@@ -7,6 +7,7 @@ mod expression;
 mod formatting;
 mod ids;
 mod rendering;
+mod sources;
 mod state;
 mod template;
 
@@ -20,15 +21,12 @@ pub use template::{Template, TemplateOf};
 pub use tm_compiler::{
     Application, Argument, BinaryOperator, CallBlock, Comparison, Condition, Expr, ForLoop,
     Imported, Instruction, Keyword, Macro, Name, NameMap, Pair, Parameter, RawText, Step, Stmt,
-    Streams, SyntaxConfig, SyntaxConfigBuilder, Tree, UnaryOperator, generate, parse,
-    parse_expr,
+    Streams, SyntaxConfig, SyntaxConfigBuilder, Tree, UnaryOperator, generate, parse, parse_expr,
 };
 pub use tm_meaning::{Call, GlobalFunction, Reply};
 pub use tm_operations as operations;
 pub use tm_output::{Target, TargetFailed};
-pub use tm_parts::{
-    Counted, Limited, NullWriter, Output, Sink, WriteWrapper, write_text,
-};
+pub use tm_parts::{Counted, Limited, NullWriter, Output, Sink, WriteWrapper, write_text};
 pub use tm_printing as printing;
 pub use tm_syntax::{Assignment, AssignmentTarget, CaptureMode, CaptureUse, Code};
 pub use tm_tables::{

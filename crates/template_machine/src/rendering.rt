@@ -52,13 +52,14 @@ pub(crate) struct Rendering<'env, O: Drop> {
 
 impl<'env, O: Drop> Model for Rendering<'env, O> {
     ghost use Rattle.std.specs.Coded.{codes};
+    ghost use Rattle.tm_syntax.specs.contracts.tree.Expr as expression;
     ghost use Rattle.tm_syntax.specs.contracts.tree.Stmt as statement;
     ghost use Rattle.tm_values.specs.Code.{coded_Val};
     ghost use Rattle.template_machine.specs.Environment.{TemplateValue};
 
     ghost Value = { TemplateValue O };
 
-    ghost coded = { Prim.hlevel (codes, coded_Val, statement.the_row.coded, O.code) };
+    ghost coded = { Prim.hlevel (codes, coded_Val, expression.the_row.coded, statement.the_row.coded, O.code) };
 
     ghost use Rattle.template_machine.specs.TemplateRef.{entry_id, own_template};
 
@@ -194,15 +195,16 @@ impl<O: Parties> Rendering<'_, O> {
 
     /// The value of the expression whose stream a state names, with its namespaces as maps.
     pub(crate) fn evaluate(&self, mut state: StateData) -> Result<Value, Error>
-        ensures { Evaluated (value_meant O.stated self.now state.entry) result }
+        ensures { Evaluated (value_meant O.stated self.now state) result }
     {
         let alloc = self.allocator();
         let stream = state.stream().share()?;
         let mut machine = Machine::new(alloc, stream, Captures::new(alloc), state.take(alloc));
         machine.run(alloc, self, true, &mut NullWriter)?;
-        match machine.into_value() {
-            (Some(value), left) => with_maps(alloc, &value, &left),
-            (None, _left) => Err(Error::from(ErrorKind::InvalidOperation)),
+        let (value, left) = machine.into_value();
+        match value {
+            Some(value) => with_maps(alloc, &value, &left),
+            None => Err(Error::from(ErrorKind::InvalidOperation)),
         }
     }
 }

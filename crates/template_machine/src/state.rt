@@ -49,13 +49,14 @@ pub type State<'env> = StateOf<'env, BoxedObjects>;
 
 impl<'env, O: Drop> Model for StateOf<'env, O> {
     ghost use Rattle.std.specs.Coded.{codes};
+    ghost use Rattle.tm_syntax.specs.contracts.tree.Expr as expression;
     ghost use Rattle.tm_syntax.specs.contracts.tree.Stmt as statement;
     ghost use Rattle.tm_values.specs.Code.{coded_Val};
     ghost use Rattle.template_machine.specs.Renders.{StateValue};
 
     ghost Value = { StateValue O };
 
-    ghost coded = { Prim.hlevel (codes, coded_Val, statement.the_row.coded, O.code) };
+    ghost coded = { Prim.hlevel (codes, coded_Val, expression.the_row.coded, statement.the_row.coded, O.code) };
 
     ghost view = { λ s. record { template = s.rendering; world = s.kept } };
 }

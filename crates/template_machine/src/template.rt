@@ -52,13 +52,14 @@ pub type Template<'env, 'source> = TemplateOf<'env, 'source, BoxedObjects>;
 
 impl<'env, 'source, O: Drop> Model for TemplateOf<'env, 'source, O> {
     ghost use Rattle.std.specs.Coded.{codes};
+    ghost use Rattle.tm_syntax.specs.contracts.tree.Expr as expression;
     ghost use Rattle.tm_syntax.specs.contracts.tree.Stmt as statement;
     ghost use Rattle.tm_values.specs.Code.{coded_Val};
     ghost use Rattle.template_machine.specs.Environment.{TemplateValue};
 
     ghost Value = { TemplateValue O };
 
-    ghost coded = { Prim.hlevel (codes, coded_Val, statement.the_row.coded, O.code) };
+    ghost coded = { Prim.hlevel (codes, coded_Val, expression.the_row.coded, statement.the_row.coded, O.code) };
 
     ghost use Rattle.template_machine.specs.TemplateRef.{held_id, held_template, IsHeldOf};
 

@@ -24,7 +24,9 @@ use std::alloc::Global;
 use std::collections::BTreeSet;
 use std::marker::Model;
 use std::rc::{Rc, RcStr};
-use tm_compiler::{BlockCode, Code, Name, NameMap, Streams, SyntaxConfig, Tree, generate, parse, parse_expr};
+use tm_compiler::{
+    BlockCode, Code, Name, NameMap, Streams, SyntaxConfig, Tree, generate, parse, parse_expr,
+};
 use tm_names::undeclared;
 use tm_tables::{BlockNames, EscapeRule};
 use tm_values::{AutoEscape, Error};
@@ -130,12 +132,13 @@ impl Drop for CompiledTemplate<'_> {
 
 impl<'source> Model for CompiledTemplate<'source> {
     ghost use Rattle.std.specs.Coded.{codes};
+    ghost use Rattle.tm_syntax.specs.contracts.tree.Expr as expression;
     ghost use Rattle.tm_syntax.specs.contracts.tree.Stmt as statement;
     ghost use Rattle.tm_templates.specs.Templates.{Compiled};
 
     ghost Value = { Compiled };
 
-    ghost coded = { Prim.hlevel (codes, statement.the_row.coded) };
+    ghost coded = { Prim.hlevel (codes, expression.the_row.coded, statement.the_row.coded) };
 
     ghost use Rattle.tm_templates.specs.Sources.{source_bytes};
     ghost use Rattle.tm_templates.specs.Templates.{AreStreams};

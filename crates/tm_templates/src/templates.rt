@@ -20,12 +20,13 @@ pub struct Templates<'source> {
 impl<'source> Model for Templates<'source> {
     ghost use Rattle.std.specs.Coded.{codes};
     ghost use Rattle.tm_syntax.specs.Named.{Named};
+    ghost use Rattle.tm_syntax.specs.contracts.tree.Expr as expression;
     ghost use Rattle.tm_syntax.specs.contracts.tree.Stmt as statement;
     ghost use Rattle.tm_templates.specs.Templates.{Compiled};
 
     ghost Value = { Named Compiled };
 
-    ghost coded = { Prim.hlevel (codes, statement.the_row.coded) };
+    ghost coded = { Prim.hlevel (codes, expression.the_row.coded, statement.the_row.coded) };
 
     ghost use Rattle.tm_tables.specs.Places.{AreOrdered};
 

@@ -1,5 +1,6 @@
 pub mod Ground
 pub mod Shift
+pub mod Left
 pub mod Loop
 pub mod Used
 pub mod Performed

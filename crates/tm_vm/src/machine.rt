@@ -116,9 +116,10 @@ impl Machine {
         ensures state { result.1 ≡ self.world }
     {
         let Machine { mut run, state, .. } = self;
-        let is_one = run.operands.len() == 1;
-        let top = run.operands.pop();
-        (if is_one { top } else { None }, state)
+        if run.operands.len() != 1 {
+            return (None, state);
+        }
+        (run.operands.pop(), state)
     }
 
     // ------------------------------------------------------------ parts

@@ -20,7 +20,19 @@ static CODES: [&str; 9] = [
 
 /// What spells no expression.
 static REFUSED: [&str; 14] = [
-    "", " ", "1 +", "a b", "a,", "a = 1", "(a", "a)", "a;", "{{ a }}", "a }}", "{# c #}a", "if a",
+    "",
+    " ",
+    "1 +",
+    "a b",
+    "a,",
+    "a = 1",
+    "(a",
+    "a)",
+    "a;",
+    "{{ a }}",
+    "a }}",
+    "{# c #}a",
+    "if a",
     "{% set a = 1 %}",
 ];
 

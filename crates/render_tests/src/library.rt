@@ -1,0 +1,676 @@
+//! The examples of docs/LIBRARY.md: examples/check.sh compares both.
+
+// example begins here
+ghost use Rattle.std.specs.Prelude.{[], ◌∷◌, ◌++◌, Ok, true, codes, pos};
+ghost use Rattle.tm_values.specs.Val.{boolean, number, text};
+ghost use Rattle.tm_values.specs.declared.error.ErrorKind.TheVariants.{MissingArgument};
+ghost use Rattle.tm_values.specs.declared.escape.AutoEscape.TheVariants.{Html};
+ghost use Rattle.tm_meaning.specs.declared.reply.Reply.TheVariants.{Value as gives};
+ghost use Rattle.tm_meaning.specs.declared.reply.Reply.TheVariants.{Fault as faults};
+ghost use Rattle.tm_meaning.specs.declared.reply.Reply.TheVariants.{Further as asks_for};
+ghost use Rattle.tm_meaning.specs.declared.reply.Call.TheVariants as further;
+ghost use Rattle.tm_tables.specs.Stated.{just, keeping};
+ghost use Rattle.render_tests.specs.Asked.{swapped};
+ghost use Rattle.render_tests.specs.declared.library.Asking.TheVariants.{Title, Kept, Filter};
+ghost use Rattle.render_tests.specs.declared.library.Asking.TheVariants.{Macro, Block};
+
+use std::alloc::Global;
+use std::cmp::Ordering;
+use std::rc::RcStr;
+use template_machine::*;
+// example ends here
+
+use std::test::Fail;
+
+// example begins here
+/// Whether an answer is an error of this kind.
+fn is_fault<T: Drop>(answer: Result<T, Error>, kind: ErrorKind) -> bool {
+    match answer {
+        Ok(_) => false,
+        Err(error) => error.kind() == kind,
+    }
+}
+
+fn tells_errors(alloc: Global) -> Result<bool, Error> {
+    let error = Error::new(alloc, ErrorKind::BadInclude, "in the footer");
+    let wrapped = error.with_source(alloc, Error::from(ErrorKind::OutOfFuel))?;
+    let cause = match wrapped.cause() {
+        Some(cause) => cause.kind().name(),
+        None => "",
+    };
+    let printed = format!(in alloc; "{wrapped}")?;
+    let is_told = wrapped.detail() == Some("in the footer") && printed.as_str() == "BadInclude";
+    Ok(is_told && cause == "OutOfFuel" && wrapped.kind() == ErrorKind::BadInclude)
+}
+// example ends here
+
+#[test]
+fn errors_are_told(rt: HostRuntime) -> Result<(), Fail> {
+    assert!(rt; tells_errors(rt.alloc())?);
+    Ok(())
+}
+
+// example begins here
+fn tells_values(alloc: Global) -> Result<bool, Error> {
+    let plain = Value::text(alloc, "<b>")?;
+    let safe = Value::safe_text(alloc, "<b>")?;
+    let shared = Value::shared_text(SharedText::from_str(alloc, "<b>")?, true);
+    let is_text = match plain.share()?.into_text() {
+        Ok((content, is_safe)) => content.as_str() == "<b>" && !is_safe,
+        Err(_value) => false,
+    };
+    Ok(
+        is_text
+            && plain.as_str() == Some("<b>")
+            && plain == safe
+            && plain.compare(&Value::number(7)) == Ordering::Greater
+            && safe.is_safe()
+            && shared.is_safe()
+            && Value::from(7u64) == Value::number(7)
+            && Value::boolean(true).as_i128() == Some(1)
+            && Value::from(()).is_none()
+            && Value::default().is_undefined()
+            && Value::silent_undefined() == Value::undefined()
+            && !Value::none().is_true(),
+    )
+}
+// example ends here
+
+#[test]
+fn values_are_told(rt: HostRuntime) -> Result<(), Fail> {
+    assert!(rt; tells_values(rt.alloc())?);
+    Ok(())
+}
+
+// example begins here
+/// A map of one name.
+fn named(alloc: Global, name: &str, value: Value) -> Result<Value, Error> {
+    let mut map = ValueMap::new(alloc);
+    map.insert(Value::text(alloc, name)?, value)?;
+    Value::from_map(alloc, map)
+}
+
+fn makes_lists_and_maps(alloc: Global) -> Result<bool, Error> {
+    let mut items = Vec::new(alloc);
+    items.push(Value::number(1))?;
+    items.push(Value::none())?;
+    let list = Value::list(alloc, items)?;
+    let is_list = list.items().len() == 2 && list.as_list().is_some();
+    let map = named(alloc, "a", list)?;
+    let text = printing::to_text(alloc, &map, &NoRecords)?;
+    let key = Value::text(alloc, "b")?;
+    Ok(
+        is_list
+            && text.as_str() == "{\"a\": [1, none]}"
+            && map.pairs().len() == 1
+            && map.member("a").is_some()
+            && map.at_key(&key).is_none(),
+    )
+}
+// example ends here
+
+#[test]
+fn lists_and_maps_are_told(rt: HostRuntime) -> Result<(), Fail> {
+    assert!(rt; makes_lists_and_maps(rt.alloc())?);
+    Ok(())
+}
+
+// example begins here
+fn makes_maps_of_pairs(alloc: Global) -> Result<bool, Error> {
+    let mut pairs = Vec::new(alloc);
+    pairs.push((Value::number(1), Value::text(alloc, "old")?))?;
+    pairs.push((Value::number(1), Value::text(alloc, "new")?))?;
+    let map = ValueMap::from_pairs(pairs)?;
+    for (_key, value) in &map {
+        if value.as_str() != Some("new") {
+            return Ok(false);
+        }
+    }
+    let is_found = map.get(&Value::number(1)).is_some() && map.member("1").is_none();
+    let is_one = map.len() == 1 && !map.is_empty() && map.pairs().len() == 1;
+    let keywords = Value::keywords(alloc, map)?;
+    let written = SharedText::from_str(alloc, "written")?;
+    let module = Value::module(alloc, ValueMap::new(alloc), written)?;
+    let text = printing::to_text(alloc, &module, &NoRecords)?;
+    Ok(is_found && is_one && keywords.is_true() && text.as_str() == "written")
+}
+// example ends here
+
+#[test]
+fn maps_are_made_of_pairs(rt: HostRuntime) -> Result<(), Fail> {
+    assert!(rt; makes_maps_of_pairs(rt.alloc())?);
+    Ok(())
+}
+
+// example begins here
+fn keeps_templates(alloc: Global, environment: &mut Environment<'_>) -> Result<bool, Error> {
+    environment.add_template("a.txt", "Hello {{ name }}!")?;
+    environment.add_template_owned("b.txt", String::from_str(alloc, "{{ 6 * 7 }}")?)?;
+    let text = environment
+        .get_template("b.txt")?
+        .render(&mut StateIds::new(), Value::undefined())?;
+    let is_first = match environment.templates().next() {
+        Some((name, template)) => name == "a.txt" && template.source() == "Hello {{ name }}!",
+        None => false,
+    };
+    environment.remove_template("a.txt");
+    let is_gone = is_fault(
+        environment.get_template("a.txt"),
+        ErrorKind::TemplateNotFound,
+    );
+    environment.clear_templates();
+    let is_empty = environment.templates().next().is_none();
+    Ok(text.as_str() == "42" && is_first && is_gone && is_empty)
+}
+// example ends here
+
+#[test]
+fn templates_are_kept(rt: HostRuntime) -> Result<(), Fail> {
+    let mut environment = Environment::new(rt.alloc())?;
+    assert!(rt; keeps_templates(rt.alloc(), &mut environment)?);
+    Ok(())
+}
+
+// example begins here
+fn renders_sources(environment: &Environment<'_>) -> Result<bool, Error> {
+    let mut ids = StateIds::new();
+    let sum = environment.render_str(&mut ids, "{{ 1 + 1 }}", Value::undefined())?;
+    let page = environment.render_named_str(&mut ids, "a.html", "{{ '<' }}", Value::undefined())?;
+    let template = environment.template_from_str("x")?;
+    let is_unnamed = template.name() == "<string>";
+    Ok(sum.as_str() == "2" && page.as_str() == "&lt;" && is_unnamed && ids.next()? == 2)
+}
+
+fn tells_names(environment: &Environment<'_>) -> Result<bool, Error> {
+    let source = "{% set a = b %}{{ a }}{{ user.name }}";
+    let template = environment.template_from_named_str("a.html", source)?;
+    let names = template.undeclared_variables(false)?;
+    let nested = template.undeclared_variables(true)?;
+    let are_names = names.len() == 2 && names.contains("b") && names.contains("user");
+    Ok(are_names && nested.contains("user.name") && template.source() == source)
+}
+// example ends here
+
+#[test]
+fn sources_are_rendered(rt: HostRuntime) -> Result<(), Fail> {
+    let environment = Environment::new(rt.alloc())?;
+    assert!(rt; renders_sources(&environment)?);
+    assert!(rt; tells_names(&environment)?);
+    Ok(())
+}
+
+// example begins here
+fn follows_settings(environment: &mut Environment<'_>) -> Result<bool, Error> {
+    let (mut ids, source) = (StateIds::new(), "{{ answer }}");
+    environment.add_global("answer", Value::number(42))?;
+    environment.set_fuel(Some(2));
+    let spent = environment.render_str(&mut ids, source, Value::undefined());
+    let is_spent = is_fault(spent, ErrorKind::OutOfFuel);
+    environment.set_fuel(Some(3));
+    let text = environment.render_str(&mut ids, source, Value::undefined())?;
+    environment.remove_global("answer");
+    environment.set_undefined_behavior(UndefinedBehavior::Strict);
+    let refused = environment.render_str(&mut ids, source, Value::undefined());
+    let is_refused = is_fault(refused, ErrorKind::UndefinedError);
+    environment.set_recursion_limit(1000);
+    Ok(
+        text.as_str() == "42"
+            && is_spent
+            && is_refused
+            && environment.fuel() == Some(3)
+            && environment.undefined_behavior() == UndefinedBehavior::Strict
+            && environment.recursion_limit() == 500,
+    )
+}
+
+fn has_nothing(environment: &Environment<'_>) -> bool {
+    environment.globals().next().is_none() && environment.templates().next().is_none()
+}
+// example ends here
+
+#[test]
+fn settings_count(rt: HostRuntime) -> Result<(), Fail> {
+    let mut environment = Environment::new(rt.alloc())?;
+    assert!(rt; follows_settings(&mut environment)?);
+    assert!(rt; has_nothing(&Environment::empty(rt.alloc())));
+    Ok(())
+}
+
+// example begins here
+fn own_syntax(alloc: Global) -> Result<SyntaxConfig, Error> {
+    let builder = SyntaxConfig::builder()
+        .block_delimiters(
+            String::from_str(alloc, "<%")?,
+            String::from_str(alloc, "%>")?,
+        )
+        .variable_delimiters(
+            String::from_str(alloc, "${")?,
+            String::from_str(alloc, "}")?,
+        )
+        .comment_delimiters(
+            String::from_str(alloc, "<#")?,
+            String::from_str(alloc, "#>")?,
+        );
+    builder
+        .trim_blocks(true)
+        .lstrip_blocks(true)
+        .keep_trailing_newline(true)
+        .build()
+}
+
+fn follows_syntax(alloc: Global, environment: &mut Environment<'_>) -> Result<bool, Error> {
+    environment.set_syntax(own_syntax(alloc)?);
+    let source = "  <% if 1 %>\n${ 6 * 7 }<# done #><% endif %>!\n";
+    let text = environment.render_str(&mut StateIds::new(), source, Value::undefined())?;
+    let empty = SyntaxConfig::builder().block_delimiters(String::new(alloc), String::new(alloc));
+    let is_refused = is_fault(empty.build(), ErrorKind::InvalidDelimiter);
+    Ok(text.as_str() == "42!\n" && is_refused && environment.syntax().keeps_newline())
+}
+// example ends here
+
+#[test]
+fn syntax_is_set(rt: HostRuntime) -> Result<(), Fail> {
+    let mut environment = Environment::new(rt.alloc())?;
+    assert!(rt; follows_syntax(rt.alloc(), &mut environment)?);
+    Ok(())
+}
+
+// example begins here
+fn evaluates(alloc: Global, environment: &Environment<'_>) -> Result<bool, Error> {
+    let expression = environment.compile_expression("number > 10 and number < 20")?;
+    let names = expression.undeclared_variables(false)?;
+    let context = named(alloc, "number", Value::number(15))?;
+    let value = expression.eval(&mut StateIds::new(), context)?;
+    Ok(names.contains("number") && value == Value::boolean(true))
+}
+
+fn evaluates_owned(alloc: Global, environment: &Environment<'_>) -> Result<bool, Error> {
+    let source = String::from_str(alloc, "[1, 2][-1]")?;
+    let value = environment
+        .compile_expression_owned(source)?
+        .eval(&mut StateIds::new(), Value::undefined())?;
+    Ok(value == Value::number(2))
+}
+// example ends here
+
+#[test]
+fn expressions_are_evaluated(rt: HostRuntime) -> Result<(), Fail> {
+    let environment = Environment::new(rt.alloc())?;
+    assert!(rt; evaluates(rt.alloc(), &environment)?);
+    assert!(rt; evaluates_owned(rt.alloc(), &environment)?);
+    Ok(())
+}
+
+// example begins here
+/// Answers true.
+#[derive(Drop)]
+struct Yes;
+
+impl Answering for Yes {
+    ghost answers = { λ _ args. just (gives (boolean true)) };
+
+    fn answer(&self, alloc: Global, _args: &[Value]) -> CallableAnswer {
+        CallableAnswer::value(alloc, Value::boolean(true))
+    }
+}
+
+// example ends here
+
+// example begins here
+/// Tells the template's name, keeps a value before a fault, or asks for a further call.
+#[derive(Clone, Copy)]
+enum Asking {
+    Title,
+    Kept,
+    Filter,
+    Macro,
+    Block,
+}
+
+impl Callable for Asking {
+    ghost answers = { elim [
+      | Title ↦ λ args view. just (gives (text view.name false))
+      | Kept ↦ λ args view. keeping (codes "k") (number (pos 1))
+          (just (faults (MissingArgument ∷ [])))
+      | Filter ↦ λ args view. just (asks_for (further.Filter (codes "yes") []))
+      | Macro ↦ λ args view. just (asks_for (further.Macro (codes "m") []))
+      | Block ↦ λ args view. just (asks_for (further.Block (codes "b")))
+    ] };
+
+    fn call(&self, alloc: Global, _args: &[Value], view: &View<'_>) -> CallableAnswer {
+        match self {
+            Asking::Title => match Value::text(alloc, view.name()) {
+                Ok(name) => CallableAnswer::value(alloc, name),
+                Err(error) => CallableAnswer::fault(alloc, error),
+            },
+            Asking::Kept => CallableAnswer::fault(
+                alloc,
+                Error::from(ErrorKind::MissingArgument),
+            ).keep(alloc, "k", Value::number(1)),
+            Asking::Filter => CallableAnswer::further_filter(alloc, "yes", Vec::new(alloc)),
+            Asking::Macro => CallableAnswer::further_macro(alloc, "m", Vec::new(alloc)),
+            Asking::Block => CallableAnswer::further_block(alloc, "b"),
+        }
+    }
+}
+// example ends here
+
+// example begins here
+const CALLS: &str =
+    "{% macro m() %}M{% endmacro %}{% block b %}B{% endblock %}{{ title() }} {{ 1|yes }} {{ 1 is yes }} {{ by_filter() }} {{ by_macro() }} {{ by_block() }}";
+
+fn add_objects(alloc: Global, environment: &mut Environment<'_>) -> Result<(), Error> {
+    environment.add_function("title", Box::new(alloc, Asking::Title)?)?;
+    environment.add_function("by_filter", Box::new(alloc, Asking::Filter)?)?;
+    environment.add_function("by_macro", Box::new(alloc, Asking::Macro)?)?;
+    environment.add_function("by_block", Box::new(alloc, Asking::Block)?)?;
+    environment.add_filter("yes", Box::new(alloc, Plain::new(Yes))?)?;
+    environment.add_test("yes", Box::new(alloc, Plain::new(Yes))?)
+}
+
+fn calls_objects(alloc: Global, environment: &mut Environment<'_>) -> Result<bool, Error> {
+    add_objects(alloc, environment)?;
+    let mut ids = StateIds::new();
+    let text = environment.render_str(&mut ids, CALLS, Value::undefined())?;
+    environment.remove_filter("yes");
+    environment.remove_test("yes");
+    let unknown = environment.render_str(&mut ids, "{{ 1|yes }}", Value::undefined());
+    let is_gone = is_fault(unknown, ErrorKind::UnknownFilter);
+    Ok(text.as_str() == "B<string> true true true M B" && is_gone)
+}
+// example ends here
+
+#[test]
+fn objects_answer(rt: HostRuntime) -> Result<(), Fail> {
+    let mut environment = Environment::new(rt.alloc())?;
+    assert!(rt; calls_objects(rt.alloc(), &mut environment)?);
+    Ok(())
+}
+
+// example begins here
+/// Rules for methods, for what values are written as, for escapes and for names of templates.
+#[derive(Drop)]
+struct OwnRules;
+
+impl MethodFallback for OwnRules {
+    ghost answers = { λ _ value name args view. just (gives (text name false)) };
+
+    fn call(
+        &self,
+        alloc: Global,
+        _value: &Value,
+        name: &str,
+        _args: &[Value],
+        _view: &View<'_>,
+    ) -> CallableAnswer {
+        match Value::text(alloc, name) {
+            Ok(name) => CallableAnswer::value(alloc, name),
+            Err(error) => CallableAnswer::fault(alloc, error),
+        }
+    }
+}
+
+impl Formatter for OwnRules {
+    ghost formats = { λ _. swapped };
+
+    fn format(&self, alloc: Global, value: &Value, view: &View<'_>) -> Result<String, Error> {
+        if *value == Value::none() {
+            return escape_formatter(alloc, &Value::undefined(), view);
+        }
+        escape_formatter(alloc, value, view)
+    }
+}
+// example ends here
+
+// example begins here
+impl EscapeRule for OwnRules {
+    ghost escapes = { λ _ name. Html };
+
+    fn escape(&self, _name: &str) -> AutoEscape {
+        AutoEscape::Html
+    }
+}
+
+impl PathJoin for OwnRules {
+    ghost joins = { λ _ name parent. Ok (codes "lib/" ++ name) };
+
+    fn join(&self, alloc: Global, name: &str, _parent: &str) -> Result<Name, Error> {
+        let mut path = String::from_str(alloc, "lib/")?;
+        path.push_str(name)?;
+        Ok(Name::new(alloc, path.as_str())?)
+    }
+}
+
+fn asks_rules(alloc: Global, environment: &mut Environment<'_>) -> Result<bool, Error> {
+    environment.set_unknown_method_callback(Box::new(alloc, OwnRules)?);
+    environment.set_formatter(Box::new(alloc, OwnRules)?);
+    environment.set_auto_escape_callback(Box::new(alloc, OwnRules)?);
+    environment.set_path_join_callback(Box::new(alloc, OwnRules)?);
+    environment.add_template("lib/foot", "{{ none }}.")?;
+    let source = "{{ x.twice() }}{{ '<' }}{% include 'foot' %}";
+    let text = environment.render_str(&mut StateIds::new(), source, Value::undefined())?;
+    Ok(text.as_str() == "twice&lt;.")
+}
+// example ends here
+
+#[test]
+fn callbacks_answer(rt: HostRuntime) -> Result<(), Fail> {
+    let mut environment = Environment::new(rt.alloc())?;
+    assert!(rt; asks_rules(rt.alloc(), &mut environment)?);
+    Ok(())
+}
+
+// example begins here
+/// Keeps a value in a state, and tells whether none was there.
+fn keeps(state: &mut State<'_>) -> Result<bool, Error> {
+    Ok(state.set_temp("seen", Value::boolean(true))?.is_none())
+}
+
+fn tells(state: &State<'_>) -> Result<bool, Error> {
+    Ok(
+        state.name() == "a.html"
+            && state.auto_escape() == AutoEscape::Html
+            && state.undefined_behavior() == UndefinedBehavior::Lenient
+            && state.env().fuel() == Some(100)
+            && state.fuel_levels() == Some((5, 95))
+            && state.current_block().is_none()
+            && state.lookup("_b")? == Some(Value::number(2))
+            && state.exports()?.len() == 1
+            && state.known_variables()?.len() == 5
+            && state.get_temp("seen").is_some(),
+    )
+}
+
+fn leaves_a_state(environment: &mut Environment<'_>) -> Result<bool, Error> {
+    environment.set_fuel(Some(100));
+    let source = "{% set a = 1 %}{% set _b = 2 %}x";
+    let template = environment.template_from_named_str("a.html", source)?;
+    let mut captured = template.render_captured(&mut StateIds::new(), Value::undefined())?;
+    let is_kept = captured.with_state_mut(|state| keeps(state))?;
+    let is_told = tells(captured.state())? && captured.output() == "x";
+    let output = captured.into_output();
+    Ok(is_kept && is_told && output.as_str() == "x")
+}
+// example ends here
+
+#[test]
+fn captured_renders_are_told(rt: HostRuntime) -> Result<(), Fail> {
+    let mut environment = Environment::new(rt.alloc())?;
+    assert!(rt; leaves_a_state(&mut environment)?);
+    Ok(())
+}
+
+// example begins here
+const PARTS: &str = "{% macro m(a) %}[{{ a }}]{% endmacro %}{% block b %}B{% endblock %}";
+
+fn runs_parts(alloc: Global, state: &mut State<'_>) -> Result<bool, Error> {
+    let mut args = Vec::new(alloc);
+    args.push(Value::number(5))?;
+    let called = state.call_macro("m", &args)?;
+    let block = state.render_block("b")?;
+    let mut writer = Counted::new(Vec::new(alloc));
+    state.render_block_to_write("b", &mut writer)?;
+    let is_written = writer.inner().as_slice() == "B".as_bytes();
+    Ok(called.as_str() == "[5]" && block.as_str() == "B" && is_written)
+}
+
+fn asks_objects(state: &mut State<'_>) -> Result<bool, Error> {
+    let filtered = state.apply_filter("yes", &[])?;
+    let holds = state.perform_test("yes", &[])?;
+    let is_refused = is_fault(state.apply_filter("kept", &[]), ErrorKind::MissingArgument);
+    let is_kept = state.get_temp("k").is_some();
+    let text = state.format(&Value::number(42))?;
+    let is_same = state.get_template("parts")?.source() == PARTS;
+    Ok(filtered.is_true() && holds && is_refused && is_kept && text.as_str() == "42" && is_same)
+}
+// example ends here
+
+// example begins here
+fn serves_states(alloc: Global, environment: &mut Environment<'_>) -> Result<bool, Error> {
+    add_objects(alloc, environment)?;
+    environment.add_filter("kept", Box::new(alloc, Asking::Kept)?)?;
+    environment.add_template("parts", PARTS)?;
+    let template = environment.get_template("parts")?;
+    let captured = template.render_captured(&mut StateIds::new(), Value::undefined())?;
+    let (output, mut state) = captured.into_parts();
+    let are_run = runs_parts(alloc, &mut state)? && asks_objects(&mut state)?;
+    Ok(output.as_str() == "B" && are_run)
+}
+
+fn makes_states(environment: &Environment<'_>) -> Result<bool, Error> {
+    let mut ids = StateIds::new();
+    let template = environment.template_from_str("{% block b %}B{% endblock %}")?;
+    let block = template.new_state(&mut ids)?.render_block("b")?;
+    let empty = environment.empty_state(&mut ids)?;
+    let range = empty.lookup("range")?;
+    Ok(block.as_str() == "B" && empty.name() == "<unknown>" && range == Some(Value::function(0)))
+}
+// example ends here
+
+#[test]
+fn states_are_called(rt: HostRuntime) -> Result<(), Fail> {
+    let mut environment = Environment::new(rt.alloc())?;
+    assert!(rt; serves_states(rt.alloc(), &mut environment)?);
+    assert!(rt; makes_states(&environment)?);
+    Ok(())
+}
+
+// example begins here
+fn writes(alloc: Global, template: &Template<'_, '_>) -> Result<bool, Error> {
+    let mut ids = StateIds::new();
+    let mut writer = Counted::new(Vec::new(alloc));
+    let captured = template.render_captured_to(&mut ids, Value::undefined(), &mut writer)?;
+    let dropped = template.render_captured_to(&mut ids, Value::undefined(), &mut NullWriter);
+    let is_whole = captured.output().is_empty() && writer.flush().is_ok() && dropped.is_ok();
+    let has_none = writer.failures() == 0;
+    let bytes = writer.into_inner();
+    Ok(is_whole && has_none && bytes.as_slice() == "Hello".as_bytes())
+}
+
+fn stops_at_a_limit(alloc: Global, template: &Template<'_, '_>) -> bool {
+    let mut limited = Limited::new(Counted::new(Vec::new(alloc)), 3);
+    let cut = template.render_captured_to(&mut StateIds::new(), Value::undefined(), &mut limited);
+    let is_cut = is_fault(cut, ErrorKind::WriteFailure) && limited.left() == 0;
+    let is_counted = limited.failures() == 1 && limited.inner().failures() == 0;
+    let bytes = limited.into_inner().into_inner();
+    is_cut && is_counted && bytes.as_slice() == "Hel".as_bytes()
+}
+// example ends here
+
+#[test]
+fn writers_are_written_to(rt: HostRuntime) -> Result<(), Fail> {
+    let environment = Environment::new(rt.alloc())?;
+    let template = environment.template_from_str("Hello")?;
+    assert!(rt; writes(rt.alloc(), &template)?);
+    assert!(rt; stops_at_a_limit(rt.alloc(), &template));
+    Ok(())
+}
+
+// example begins here
+fn captures_text(alloc: Global) -> Result<bool, Error> {
+    let mut output = Output::new(alloc, Counted::new(Vec::new(alloc)));
+    output.write_str("a")?;
+    output.begin_capture(CaptureMode::Capture)?;
+    output.write_str("<")?;
+    let value = output.end_capture(AutoEscape::Html)?;
+    output.begin_capture(CaptureMode::Discard)?;
+    let is_dropped = output.is_discarding() && output.end_capture(AutoEscape::None)?.is_undefined();
+    let is_written = output.writer().inner().as_slice() == "a".as_bytes();
+    let failures = output.into_writer().failures();
+    Ok(value.is_safe() && value.as_str() == Some("<") && is_dropped && is_written && failures == 0)
+}
+
+fn keeps_an_error(alloc: Global) -> bool {
+    let mut wrapper = WriteWrapper::new(Limited::new(Counted::new(Vec::new(alloc)), 1));
+    let is_taken = wrapper.write_str("a").is_ok() && wrapper.err.is_none();
+    let Err(error) = wrapper.write_str("b") else {
+        return false;
+    };
+    let is_kept = wrapper.err.is_some();
+    let taken = wrapper.take_err(error);
+    let is_dropped = NullWriter.write_str("lost").is_ok();
+    is_dropped
+        && is_taken
+        && is_kept
+        && taken.kind() == ErrorKind::WriteFailure
+        && wrapper.err.is_none()
+}
+// example ends here
+
+#[test]
+fn outputs_are_written_to(rt: HostRuntime) -> Result<(), Fail> {
+    assert!(rt; captures_text(rt.alloc())?);
+    assert!(rt; keeps_an_error(rt.alloc()));
+    Ok(())
+}
+
+// example begins here
+fn makes_trees(alloc: Global) -> Result<bool, Error> {
+    let is_expression = match parse_expr(alloc, "1 + 2")? {
+        Tree::Expression(_) => true,
+        Tree::Statements(_) => false,
+    };
+    Ok(is_expression && is_fault(parse_expr(alloc, "1 +"), ErrorKind::SyntaxError))
+}
+
+fn charges_code(alloc: Global) -> Result<bool, Error> {
+    let source = RcStr::from_str(alloc, "{{ name }}")?;
+    let tree = parse(alloc, &source, &SyntaxConfig::default())?;
+    let streams = generate(alloc, &tree)?;
+    let mut fuel = FuelTracker::new(10);
+    for instruction in streams.root.as_slice() {
+        fuel.track(instruction)?;
+    }
+    Ok(fuel.initial() == 10 && fuel.consumed() == 2 && fuel.remaining() == 8)
+}
+// example ends here
+
+// example begins here
+fn compiles(alloc: Global, environment: &Environment<'_>) -> Result<bool, Error> {
+    let mut config = TemplateConfig::default();
+    config.default_auto_escape = EscapeSetting::Own(OwnRules);
+    let compiled = CompiledTemplate::new(alloc, "a.txt", Source::Lent("{{ '<' }}"), &config)?;
+    let is_named = compiled.name() == "a.txt" && compiled.source() == "{{ '<' }}";
+    let is_escaped = compiled.escape() == AutoEscape::Html;
+    let reads_nothing = compiled.undeclared_variables(alloc, false)?.is_empty();
+    let template = environment.template_from_compiled(compiled)?;
+    let text = template.render(&mut StateIds::new(), Value::undefined())?;
+    let by_name = default_auto_escape_callback("a.txt");
+    Ok(
+        is_named
+            && is_escaped
+            && reads_nothing
+            && text.as_str() == "&lt;"
+            && by_name == AutoEscape::None,
+    )
+}
+// example ends here
+
+#[test]
+fn sources_are_compiled(rt: HostRuntime) -> Result<(), Fail> {
+    assert!(rt; makes_trees(rt.alloc())?);
+    assert!(rt; charges_code(rt.alloc())?);
+    let environment = Environment::new(rt.alloc())?;
+    assert!(rt; compiles(rt.alloc(), &environment)?);
+    Ok(())
+}
