@@ -137,13 +137,13 @@ keeps_same (Some text) = refl
 
 -- an end without a fault has no chain
 done_chain : (e : Ending) (w left : World) → answer_by e w ≡ Ok left → chain_in e ≡ []
-done_chain done w left is = refl
+done_chain (done vs) w left is = refl
 done_chain leave w left is = refl
 done_chain next w left is = refl
 done_chain (fault chain) w left is = absurd (cc)
 
 fault_chain : (e : Ending) (w : World) (answer : List ErrorKind) → answer_by e w ≡ Err answer → chain_in e ≡ answer
-fault_chain done w answer is = absurd (cc)
+fault_chain (done vs) w answer is = absurd (cc)
 fault_chain leave w answer is = absurd (cc)
 fault_chain next w answer is = absurd (cc)
 fault_chain (fault chain) w answer is = cc

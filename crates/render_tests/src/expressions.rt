@@ -6,27 +6,7 @@ use std::alloc::Global;
 use std::test::Fail;
 use template_machine::*;
 
-/// Expressions over a, which is 1, and `number`, which is 15; and their values as they are printed.
-static VALUES: [(&str, &str); 5] = [
-    ("a + 1", "2"),
-    ("[namespace(a=1)]", "[{\"a\": 1}]"),
-    (
-        "{\"a\": namespace(b=namespace(c=1))}",
-        "{\"a\": {\"b\": {\"c\": 1}}}",
-    ),
-    ("number > 10 and number < 20", "true"),
-    ("range(3)", "[0, 1, 2]"),
-];
-
-/// Expressions that fault, and their chains.
-static FAULTS: [(&str, &str); 5] = [
-    ("x.y", "UndefinedError"),
-    ("super()", "InvalidOperation"),
-    ("self.b()", "UnknownBlock"),
-    ("loop(1)", "UnknownFunction"),
-    ("a|upper", "UnknownFilter"),
-];
-
+/// A context in which a is 1 and `number` 15.
 fn context(alloc: Global) -> Result<Value, Error> {
     let mut map = ValueMap::new(alloc);
     map.insert(Value::text(alloc, "a")?, Value::number(1))?;
@@ -57,28 +37,51 @@ fn reads(environment: &Rows<'_>, source: &'static str, nested: bool, wanted: &st
     }
 }
 
-fn are_evaluated(alloc: Global, environment: &Rows<'_>) -> Result<(), Fail> {
-    for (source, wanted) in &VALUES {
-        let value = value_of(alloc, environment, *source)?;
-        let text = printing::to_text(alloc, &value, &NoRecords)?;
-        if text.as_str() != *wanted {
-            return Err(Fail::new(source));
-        }
+/// Whether an expression faults with this chain.
+fn faults(alloc: Global, environment: &Rows<'_>, source: &'static str, chain: &str) -> bool {
+    match value_of(alloc, environment, source) {
+        Ok(_value) => false,
+        Err(error) => is_chain(&error, chain),
     }
-    for (source, chain) in &FAULTS {
-        match value_of(alloc, environment, *source) {
-            Ok(_) => return Err(Fail::new(source)),
-            Err(error) if is_chain(&error, chain) => {}
-            Err(_) => return Err(Fail::new(source)),
-        }
-    }
-    Ok(())
+}
+
+/// Whether the value of an expression is printed so.
+fn prints(
+    alloc: Global,
+    environment: &Rows<'_>,
+    source: &'static str,
+    wanted: &str,
+) -> Result<bool, Error> {
+    let value = value_of(alloc, environment, source)?;
+    let text = printing::to_text(alloc, &value, &NoRecords)?;
+    Ok(text.as_str() == wanted)
+}
+
+/// Whether expressions have their values, in which namespaces are maps.
+fn are_evaluated(alloc: Global, environment: &Rows<'_>) -> Result<bool, Error> {
+    let nested = "{\"a\": namespace(b=namespace(c=1))}";
+    Ok(
+        prints(alloc, environment, "a + 1", "2")?
+            && prints(alloc, environment, "[namespace(a=1)]", "[{\"a\": 1}]")?
+            && prints(alloc, environment, nested, "{\"a\": {\"b\": {\"c\": 1}}}")?
+            && prints(alloc, environment, "number > 10 and number < 20", "true")?
+            && prints(alloc, environment, "range(3)", "[0, 1, 2]")?,
+    )
+}
+
+fn are_refused(alloc: Global, environment: &Rows<'_>) -> bool {
+    faults(alloc, environment, "x.y", "UndefinedError")
+        && faults(alloc, environment, "super()", "InvalidOperation")
+        && faults(alloc, environment, "self.b()", "UnknownBlock")
+        && faults(alloc, environment, "loop(1)", "UnknownFunction")
+        && faults(alloc, environment, "a|upper", "UnknownFilter")
 }
 
 #[test]
 fn expressions_have_values(rt: HostRuntime) -> Result<(), Fail> {
     let environment = Rows::new(rt.alloc())?;
-    are_evaluated(rt.alloc(), &environment)?;
+    assert!(rt; are_evaluated(rt.alloc(), &environment)?);
+    assert!(rt; are_refused(rt.alloc(), &environment));
     assert!(rt; value_of(rt.alloc(), &environment, "x")? == Value::undefined());
     assert!(rt; value_of(rt.alloc(), &environment, "a if b")? == Value::undefined());
     assert!(rt; is_syntax_error(&environment, "1 +") && is_syntax_error(&environment, ""));

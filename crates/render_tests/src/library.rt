@@ -1,7 +1,7 @@
 //! The examples of docs/LIBRARY.md: examples/check.sh compares both.
 
 // example begins here
-ghost use Rattle.std.specs.Prelude.{[], ◌∷◌, ◌++◌, Ok, true, codes, pos};
+ghost use Rattle.std.specs.Prelude.{[], ◌∷◌, ◌++◌, Ok, false, true, codes, pos};
 ghost use Rattle.tm_values.specs.Val.{boolean, number, text};
 ghost use Rattle.tm_values.specs.declared.error.ErrorKind.TheVariants.{MissingArgument};
 ghost use Rattle.tm_values.specs.declared.escape.AutoEscape.TheVariants.{Html};
