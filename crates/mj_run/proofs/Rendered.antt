@@ -11,7 +11,8 @@ use Rattle.tm_delimiters.specs.Syntax.{Syntax, default_syntax}
 use Rattle.tm_syntax.specs.Named.{Named, find}
 use Rattle.tm_values.specs.Answer.{Refused}
 use Rattle.tm_meaning.specs.World.{Object, Fallback, Format, World}
-use Rattle.tm_meaning.specs.Meaning.{Ending, done, leave, next, fault, Outcome, chain_in}
+use Rattle.tm_meaning.specs.Meaning.{Ending, done, leave, next, fault, Outcome}
+use Rattle.tm_meaning.specs.Runs.{chain_in}
 use Rattle.tm_output.specs.Counts.{Tally}
 use Rattle.tm_templates.specs.Defaults.{escape_by_name, escape_of}
 use Rattle.tm_templates.specs.declared.defaults.EscapeSetting.{EscapeSetting}

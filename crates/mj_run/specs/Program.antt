@@ -15,7 +15,8 @@ use Rattle.tm_values.specs.declared.escape.AutoEscape.{AutoEscape}
 use Rattle.tm_delimiters.specs.Syntax.{Syntax, default_syntax}
 use Rattle.tm_syntax.specs.Named.{Named, find, put}
 use Rattle.tm_compiler.specs.Spells.{SpellsNone}
-use Rattle.tm_meaning.specs.Meaning.{Outcome, chain_of}
+use Rattle.tm_meaning.specs.Meaning.{Outcome}
+use Rattle.tm_meaning.specs.Runs.{chain_of}
 use Rattle.tm_output.specs.Counts.{Tally, saturating_increment, AppendsBeginning}
 use Rattle.tm_templates.specs.Defaults.{escape_by_name}
 use Rattle.tm_templates.specs.Templates.{Compiled, IsTemplate}

@@ -8,7 +8,8 @@ use Rattle.tm_values.specs.declared.error.ErrorKind.{ErrorKind}
 use Rattle.tm_meaning.specs.World.{World}
 use Rattle.tm_meaning.specs.Tree.{Trees}
 use Rattle.tm_values.specs.Val.{Val}
-use Rattle.tm_meaning.specs.Meaning.{Ending, done, leave, next, fault, left_by, left_of, Outcome, rendered}
+use Rattle.tm_meaning.specs.Meaning.{Ending, done, leave, next, fault, left_by, Outcome}
+use Rattle.tm_meaning.specs.Runs.{left_of, rendered}
 use Rattle.tm_meaning.specs.Machine.{Capture, End, Finished, Failed, Stuck, Program, base_of, new_capture, put_in, put_out, run_from, running}
 use Rattle.tm_meaning.specs.Steps.{Final, final, step, Reaches}
 use Rattle.tm_meaning.specs.Compiled.{IsCompiled}
@@ -19,7 +20,7 @@ use Rattle.tm_parts.specs.declared.halt.Halt.{Halt}
 use Rattle.tm_parts.specs.declared.halt.Halt.TheVariants as halt
 use Rattle.tm_simulation.proofs.Follow.{air, inside}
 use Rattle.tm_simulation.proofs.Forms.{end_by}
-use Rattle.tm_simulation.proofs.Simulation.{render_runs}
+use Rattle.tm_simulation.proofs.Renders.{render_runs}
 use Rattle.tm_vm.specs.Answers.{HaltsAs, ReachesEnd}
 use Rattle.tm_vm.specs.Nested.{WroteBeginning}
 use Rattle.template_machine.specs.Environment.{TemplateValue}

@@ -11,8 +11,9 @@ use Rattle.tm_meaning.specs.Tree.{Trees, statements, empty}
 use Rattle.tm_meaning.specs.declared.stream.StreamId.{StreamId}
 use Rattle.tm_meaning.specs.Calls.{NestedCall, block_call, enter_block, refused, undone, whole}
 use Rattle.tm_meaning.specs.Machine.{Capture, new_capture, put_in, put_out}
-use Rattle.tm_meaning.specs.Meaning.{Ending, done, leave, next, fault, Outcome, Run, Under, behind, ended, in_place_of, nests_of, new_run, rendered}
-use Rattle.tm_meaning.specs.Meaning.{rendered_block, under}
+use Rattle.tm_meaning.specs.Meaning.{Ending, done, leave, next, fault, Outcome, Run, Under, behind, ended, in_place_of}
+use Rattle.tm_meaning.specs.Runs.{nests_of, new_run, rendered}
+use Rattle.tm_meaning.specs.Runs.{rendered_block, under}
 use Rattle.tm_parts.specs.declared.halt.Halt.{Halt}
 use Rattle.tm_parts.specs.declared.halt.Halt.TheVariants as halt
 use Rattle.tm_simulation.proofs.Asks.{block_asks_by, in_block}

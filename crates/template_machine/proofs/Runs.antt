@@ -10,7 +10,8 @@ use Rattle.tm_meaning.specs.Machine.{Capture, Config, Finished, Program, base_of
 use Rattle.tm_parts.specs.Halts.{failures_after}
 use Rattle.tm_parts.specs.declared.halt.Halt.{Halt}
 use Rattle.tm_meaning.specs.Steps.{step}
-use Rattle.tm_meaning.specs.Meaning.{left_of, Outcome}
+use Rattle.tm_meaning.specs.Meaning.{Outcome}
+use Rattle.tm_meaning.specs.Runs.{left_of}
 use Rattle.tm_vm.specs.Answers.{program, HaltsAs, ReachesEnd}
 use Rattle.tm_vm.specs.Nested.{WroteBeginning}
 use Rattle.tm_meaning.specs.declared.stream.TemplateId.TheVariants.{Own}

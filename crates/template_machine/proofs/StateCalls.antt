@@ -6,12 +6,13 @@ use Rattle.tm_values.specs.Val.{Val}
 use Rattle.tm_values.specs.declared.error.ErrorKind.{ErrorKind}
 use Rattle.tm_meaning.specs.World.{World, Good, Bad, without_first}
 use Rattle.tm_meaning.specs.Calls.{Asked, Callee, NestedCall, outermost, run_value, undone, wrapped}
-use Rattle.tm_meaning.specs.Meaning.{Ending, done, leave, next, fault, Outcome, nests_of, value_behind}
+use Rattle.tm_meaning.specs.Meaning.{Ending, done, leave, next, fault, Outcome, value_behind}
+use Rattle.tm_meaning.specs.Runs.{nests_of}
 use Rattle.tm_meaning.specs.Machine.{Capture, Config, End, Finished, Failed, Stuck, Over, Program, base_of, first_run, new_capture, running}
 use Rattle.tm_meaning.specs.Steps.{Final, begins, begun, final, over, step}
 use Rattle.tm_meaning.proofs.Ends.{one_end}
 use Rattle.tm_simulation.specs.Reached.{RunsTo, captures_with, end_by, final_in}
-use Rattle.tm_simulation.proofs.Simulation.{nested_comes_to_meaning}
+use Rattle.tm_simulation.proofs.Renders.{nested_comes_to_meaning}
 use Rattle.tm_output.specs.Pieces.{appends_nothing}
 use Rattle.tm_values.specs.declared.error.ErrorKind.TheVariants.{InvalidOperation}
 use Rattle.tm_parts.specs.Halts.{failures_after}

@@ -17,7 +17,8 @@ use Rattle.tm_tables.specs.Stated.{StatedObjects}
 use Rattle.tm_meaning.specs.declared.stream.StreamId.{StreamId}
 use Rattle.tm_meaning.specs.declared.stream.TemplateId.TheVariants.{Own}
 use Rattle.tm_meaning.specs.Machine.{Capture, new_capture, put_in, put_out}
-use Rattle.tm_meaning.specs.Meaning.{Ending, fault, Outcome, evaluated, first_world, nests_of, rendered, rendered_block, value_behind}
+use Rattle.tm_meaning.specs.Meaning.{Ending, fault, Outcome, value_behind}
+use Rattle.tm_meaning.specs.Runs.{evaluated, first_world, nests_of, rendered, rendered_block}
 use Rattle.tm_state.specs.Answers.{HasOneMore}
 use Rattle.tm_state.specs.State.{runs_block, saved_of}
 use Rattle.tm_state.specs.declared.saved.SavedBlock.{SavedBlock}

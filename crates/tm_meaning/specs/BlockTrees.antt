@@ -21,7 +21,8 @@ use Rattle.tm_meaning.specs.declared.reply.Reply.TheVariants.{Further as asks_fo
 use Rattle.tm_meaning.specs.declared.reply.Call.TheVariants as further
 use Rattle.tm_meaning.specs.Rows.{Page, Says, Behind, host_of, trees, world_of, nothing, raw, named, one, two, literal, literal_number}
 use Rattle.tm_meaning.specs.Rows.{literal_truth, and_one, if_one, else_one, x}
-use Rattle.tm_meaning.specs.Meaning.{Outcome, rendered, rendered_block, chain_of}
+use Rattle.tm_meaning.specs.Meaning.{Outcome}
+use Rattle.tm_meaning.specs.Runs.{rendered, rendered_block, chain_of}
 use Rattle.tm_meaning.specs.LoopRows.{numbers, alone_in_list}
 use Rattle.tm_meaning.specs.CallRows.{answers, call_none}
 use Rattle.tm_meaning.specs.MacroTrees.{called, macro_one, macro_two, paged, sets, three, four, with_one, writes}

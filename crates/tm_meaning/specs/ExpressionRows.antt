@@ -12,7 +12,8 @@ use Rattle.tm_syntax.specs.declared.tree.Step.{Attribute, Apply'}
 use Rattle.tm_syntax.specs.declared.tree.Stmt.{end_of-Stmt as no_statement}
 use Rattle.tm_syntax.specs.Forms.{chained, conditional, with_condition, binary, and_then}
 use Rattle.tm_meaning.specs.Tree.{body_of, expression}
-use Rattle.tm_meaning.specs.Meaning.{Outcome, rendered, chain_of, left_of}
+use Rattle.tm_meaning.specs.Meaning.{Outcome}
+use Rattle.tm_meaning.specs.Runs.{rendered, chain_of, left_of}
 use Rattle.tm_meaning.specs.Machine.{End, Finished, Failed, Stuck}
 use Rattle.tm_meaning.specs.Steps.{Final}
 use Rattle.tm_meaning.specs.Rows.{Page, host_of, trees, world_of, ended, nothing, with_value, named, raw, two, page}

@@ -19,7 +19,7 @@ use Rattle.tm_syntax.specs.declared.tree.Stmt.{If', Held-Stmt-If-2 as Otherwise,
 use Rattle.tm_syntax.specs.Forms.{chained, plain, binary, item, with_pair}
 use Rattle.tm_meaning.specs.Tree.{Body, TemplateTree, body_of}
 use Rattle.tm_meaning.specs.World.{Named, World, entry}
-use Rattle.tm_meaning.specs.Meaning.{first_world}
+use Rattle.tm_meaning.specs.Runs.{first_world}
 use Rattle.tm_meaning.specs.Rows.{Page, host_of, meant_from, ended_from, said, said_by, raw, named, one, two, literal, literal_number}
 use Rattle.tm_meaning.specs.Rows.{literal_truth, and_one, else_one, if_one, with_value, x}
 use Rattle.tm_meaning.specs.LoopRows.{numbers, alone_in_list, for_x}

@@ -5,6 +5,7 @@ pub mod Calls
 pub mod Tree
 pub mod Operators
 pub mod Meaning
+pub mod Runs
 pub mod Machine
 pub mod Instructions
 pub mod Steps

@@ -1,6 +1,6 @@
 -- What trees mean. No stream's place and no operand stands here.
-use Rattle.std.specs.Prelude.{ℕ, zero, suc, ◌+◌, ◌^◌, ◌-◌, pos, List, [], ◌∷◌, ◌++◌, Option, Some, None, Bool, true, false, ◌&&◌}
-use Rattle.std.specs.Prelude.{nat_lt, nat_eq, if◌then◌else◌, Ok, slice_get, length, codes}
+use Rattle.std.specs.Prelude.{ℕ, ◌+◌, ◌^◌, ◌-◌, pos, List, [], ◌∷◌, ◌++◌, Option, Some, None, Bool, true, false, ◌&&◌}
+use Rattle.std.specs.Prelude.{nat_lt, if◌then◌else◌, Ok, codes}
 use Rattle.tm_values.specs.Answer.{Answer, invalid}
 use Rattle.tm_values.specs.Val.{Val, undefined, number, text}
 use Rattle.tm_values.specs.declared.error.ErrorKind.{ErrorKind}
@@ -8,7 +8,8 @@ use Rattle.tm_values.specs.declared.error.ErrorKind.TheVariants.{InvalidOperatio
 use Rattle.tm_values.specs.declared.escape.AutoEscape.{AutoEscape}
 use Rattle.tm_syntax.specs.declared.tree.BinaryOperator.{BinaryOperator}
 use Rattle.tm_syntax.specs.declared.tree.Expr.{Expr, Var, Const, List', Tuple', Map', Call', SelfBlock, Row_of-Expr}
-use Rattle.tm_syntax.specs.declared.tree.Expr.{end_of-Expr as no_expr, more_of-Expr as expr, Row_of-Pair, end_of-Pair as no_pair, Row_of-Argument}
+use Rattle.tm_syntax.specs.declared.tree.Expr.{end_of-Expr as no_expr, more_of-Expr as expr, Row_of-Pair, end_of-Pair as no_pair}
+use Rattle.tm_syntax.specs.declared.tree.Expr.{Row_of-Argument}
 use Rattle.tm_syntax.specs.declared.tree.Expr.{end_of-Argument as no_argument, more_of-Argument as argument, Row_of-Keyword}
 use Rattle.tm_syntax.specs.declared.tree.Expr.{end_of-Keyword as no_keyword, more_of-Keyword as keyword_and, Row_of-Step}
 use Rattle.tm_syntax.specs.declared.tree.Expr.{end_of-Step as no_step, more_of-Step as step}
@@ -34,16 +35,16 @@ use Rattle.tm_syntax.specs.Forms.{unary, chained, conditional, with_condition, w
 use Rattle.tm_syntax.specs.Forms.{spread_keywords, slice, binary, compare, and_then, or_else}
 use Rattle.tm_syntax.specs.Code.{count_targets, for_flags, pass_flags, macro_head}
 use Rattle.tm_syntax.specs.Fragments.{MacroHead}
-use Rattle.tm_syntax.specs.Loops.{passes, Numbers, first_numbers, within_loop, past, pasts, FoundLoop, stream_loops, FoundMacro, stream_macros}
-use Rattle.tm_meaning.specs.World.{choose, TemplateId, StreamId, root_of, World, HostValue, Res, Good, Bad, bind, answered, tick, ticked, looked_up}
-use Rattle.tm_meaning.specs.World.{template_at, emitted, escape_for, with_escape, captured_text, open_loop, next_turn}
+use Rattle.tm_syntax.specs.Loops.{passes, Numbers, within_loop, past, pasts}
+use Rattle.tm_meaning.specs.World.{choose, TemplateId, World, HostValue, Res, Good, Bad, bind, answered, tick, ticked, looked_up}
+use Rattle.tm_meaning.specs.World.{emitted, escape_for, with_escape, captured_text, open_loop, next_turn}
 use Rattle.tm_meaning.specs.World.{cleared, items_over, store, set_member, unpacked_items, push, pop, plain_scope, enclose, own_closure}
 use Rattle.tm_meaning.specs.World.{make_macro, module_of}
-use Rattle.tm_meaning.specs.Calls.{Callee, whole, macro_of, NestedCall, Asked, has, refused, runs, recurs, undone, wrapped, run_value}
-use Rattle.tm_meaning.specs.Inheritance.{load, names_left}
+use Rattle.tm_meaning.specs.Calls.{Callee, whole, NestedCall, Asked, has, refused, runs, recurs, undone, wrapped, run_value}
+use Rattle.tm_meaning.specs.Inheritance.{load}
 use Rattle.tm_meaning.specs.Calls.{enter_block, enter_super, enter_include, call_named}
-use Rattle.tm_meaning.specs.Calls.{applied, call_callee, call_innermost, own_blocks}
-use Rattle.tm_meaning.specs.Tree.{StreamTree, statements, expression, empty, Trees}
+use Rattle.tm_meaning.specs.Calls.{applied, call_callee, call_innermost}
+use Rattle.tm_meaning.specs.Tree.{statements, expression}
 use Rattle.tm_meaning.specs.Operators.{truth, applied_unary, operated, applied_binary, attribute, item_at, slice_of}
 use Rattle.tm_meaning.specs.Operators.{list_of_values, map_of_pairs, listed, mapped, passed, turned}
 use Rattle.tm_values.specs.Truth.{is_undefined}
@@ -559,149 +560,3 @@ abbrev mutual
   exec_behind_loop u at no_else none_taken run out w = so_far run out w
   exec_behind_loop u at (otherwise _ body) none_taken run out w =
       use_it (tick w) run out (λ _ world1. choose none_taken (λ _. exec_all u at body run out world1) (λ _. so_far run out world1))
-
--- ---------------------------------------------------------------- runs
-abbrev pub failed : ErrorKind → Run → List ℕ → World → Outcome
-failed kind run out w = ended (fault (kind ∷ [])) run out w
-
-abbrev pub new_run : Bool → World → Run
-new_run heard w = record { first = w.escape; heard = heard; inside = false; parent = None }
-
--- what is done, or a fault where its charge wasn't paid
-abbrev pub done_by : Res (Unit {0}) → Outcome → Outcome
-done_by (Good _ w) o = record o { ending = done []; world = w }
-done_by (Bad chain w) o = record o { ending = fault chain; world = w }
-
--- The end of statements that a run has: whatever it was, the run is over. A loop that isn't there is left, or goes on, at a charge; no source
--- has such a tree.
-abbrev pub at_end : Ending → Outcome → Outcome
-at_end (done vs) o = record o { ending = done [] }
-at_end (fault chain) o = o
-at_end e o = done_by (tick o.world) o
-
--- a value that is left, or the fault before it
-abbrev pub leaving : Res Val → Run → List ℕ → Outcome
-leaving m run out = use_it m run out (λ v w. ended (done (v ∷ [])) run out w)
-
--- A stream runs its statements, or evaluates its expression, whose value is left.
-abbrev pub stream_run : Under → StreamTree → Run → List ℕ → World → Outcome
-stream_run u (statements body) run out w = let o = exec_all u first_numbers body.row run out w in at_end o.ending o
-stream_run u (expression e) run out w = leaving (eval u run e w) run out
-
--- A macro's body, once its parameters have taken the values of its arguments.
-abbrev pub macro_body : Under → FoundMacro → List Val → Run → List ℕ → World → Outcome
-macro_body u m given run out w =
-    use_it (take_parameters u run m.parameters given w) run out (λ _ world1. exec_all u m.at m.body.row run out world1)
-
--- the run of a macro, where there is one that takes so many arguments
-abbrev pub macro_run : Under → Option FoundMacro → List Val → Run → List ℕ → World → Outcome
-macro_run u None given run out w = failed InvalidOperation run out w
-macro_run u (Some m) given run out w =
-    choose (nat_eq (length m.parameters) (length given))
-    (λ _. let o = macro_body u m given run out w in at_end o.ending o) (λ _. failed InvalidOperation run out w)
-
-abbrev pub over : HostValue → Nests → Again → Under
-over host nests again = record { host = host; nests = nests; again = again }
-
--- what a round of a loop does with its item
-abbrev pub turn_of : Under → FoundLoop → Val → Run → List ℕ → World → Outcome
-turn_of u l v run out w = use_it (assign u run l.target v w) run out (λ _ world1. exec_all u l.at l.body.row run out world1)
-
-abbrev pub again_in : Under → Option FoundLoop → Again
-again_in u None n items run out w = failed InvalidOperation run out w
-again_in u (Some l) n items run out w =
-    choose l.recursive (λ _. loop_over u.host n true (turn_of u l) items run out w) (λ _. failed InvalidOperation run out w)
-
--- the loops of a stream, over as many levels: level zero isn't reached, since each call opens a scope within the limit, and there is one
--- level more than the limit
-abbrev pub again_of : HostValue → Nests → StreamTree → ℕ → Again
-again_of host nests tree zero n items run out w = failed InvalidOperation run out w
-again_of host nests tree (suc k) n items run out w =
-    again_in (over host nests (again_of host nests tree k)) (slice_get (stream_loops tree) n) n items run out w
-
-abbrev pub under : HostValue → Nests → StreamTree → Under
-under host nests tree = over host nests (again_of host nests tree (host.limit + 1))
-
--- what follows a stream's end: the run of the parent that waits, if one does
-abbrev pub to_parent : Option TemplateId → Outcome → (TemplateId → Outcome) → Outcome
-to_parent None o f = o
-to_parent (Some t) o f = f t
-
-abbrev pub restarting : Ending → Outcome → (TemplateId → Outcome) → Outcome
-restarting (fault chain) o f = o
-restarting e o f = to_parent o.parent o f
-
--- A stream, and behind it the root of the parent that it asks for, in the scopes that are left and heard as the run was at its start; over
--- so many names that were not loaded before. Each parent's name was not, so with none left no parent is asked for.
-abbrev pub run_of : HostValue → Nests → Trees → ℕ → StreamId → Run → List ℕ → World → Outcome
-run_of host nests trees zero s run out w =
-    let o = stream_run (under host nests (trees s)) (trees s) run out w in
-    restarting o.ending o (λ t. failed InvalidOperation run o.text o.world)
-run_of host nests trees (suc n) s run out w =
-    let o = stream_run (under host nests (trees s)) (trees s) run out w in
-    restarting o.ending o (λ t. run_of host nests trees n (root_of t) run o.text (record o.world { stream = root_of t }))
-
--- what nests, over as many levels of depth: level zero isn't reached, since each run that nests stands at least one deeper, and within the
--- limit
-abbrev pub nests_of : HostValue → Trees → ℕ → Nests
-nests_of host trees zero callee heard out w = failed InvalidOperation (new_run heard w) out w
-nests_of host trees (suc n) (macro_of s entry given) heard out w =
-    macro_run (under host (nests_of host trees n) (trees s)) (slice_get (stream_macros (trees s)) entry) given (new_run heard w) out w
-nests_of host trees (suc n) (whole s) heard out w =
-    run_of host (nests_of host trees n) trees (names_left host w) s (new_run heard w) out w
-
--- ---------------------------------------------------------------- renders
-abbrev pub first_fuel : Option ℕ → ℕ
-first_fuel None = 2 ^ 64 - 1
-first_fuel (Some fuel) = fuel
-
--- What a render starts from: one scope over the context value, no records, the template's blocks each alone, and the fuel that was set,
--- else the greatest u64.
-abbrev pub first_world : HostValue → TemplateId → ℕ → Option ℕ → Val → World
-first_world host t id fuel context = record {
-  id = id;
-  scopes = record { frames = plain_scope context ∷ []; outer = 0 };
-  namespaces = [];
-  loops = [];
-  closures = [];
-  streams = [];
-  temps = [];
-  blocks = own_blocks t (template_at host t).blocks;
-  places = [];
-  loaded = [];
-  block = None;
-  escape = (template_at host t).escape;
-  stream = root_of t;
-  fuel_set = fuel;
-  fuel = first_fuel fuel;
-}
-
--- What a render means, from a world: the stream that it names, heard.
-abbrev pub rendered : HostValue → Trees → World → Outcome
-rendered host trees w = nests_of host trees (host.limit + 1) (whole w.stream) true [] w
-
--- The one value that a run left, or its fault. A run that left another number of values is no expression's.
-abbrev pub value_left : Ending → World → Res Val
-value_left (done (v ∷ [])) w = Good v w
-value_left (fault chain) w = Bad chain w
-value_left e w = Bad (InvalidOperation ∷ []) w
-
--- What an expression means, from a world: the stream that it names runs in the same way, and leaves the expression's value.
-abbrev pub evaluated : HostValue → Trees → World → Res Val
-evaluated host trees w = let o = rendered host trees w in value_left o.ending o.world
-
--- What the block of a name means that a state is asked for, from its world: its tag, heard and where no parent waits.
-abbrev pub rendered_block : HostValue → Trees → List ℕ → World → Outcome
-rendered_block host trees b w = block_tag (under host (nests_of host trees (host.limit + 1)) (statements empty)) (new_run true w) b [] w
-
--- the chain of kinds, which is empty where all was done
-abbrev pub chain_in : Ending → List ErrorKind
-chain_in (fault chain) = chain
-chain_in e = []
-
-abbrev pub chain_of : Outcome → List ErrorKind
-chain_of o = chain_in o.ending
-
--- the values that are left where all was done
-abbrev pub left_of : Outcome → List Val
-left_of o = left_by o.ending

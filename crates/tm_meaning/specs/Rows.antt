@@ -29,7 +29,7 @@ use Rattle.tm_meaning.specs.World.{Bindings, find_name, view_of, own, World, Hos
 use Rattle.tm_meaning.specs.World.{fuel_levels, Template}
 use Rattle.tm_meaning.specs.Calls.{whole}
 use Rattle.tm_meaning.specs.Tree.{Body, body_of, StreamTree, statements, TemplateTree, Trees, template_of, trees_of}
-use Rattle.tm_meaning.specs.Meaning.{rendered, first_world, chain_of}
+use Rattle.tm_meaning.specs.Runs.{rendered, first_world, chain_of}
 use Rattle.tm_meaning.specs.Machine.{Program, Finished, Failed, Stuck, End, base_of}
 use Rattle.tm_meaning.specs.Steps.{Final, begins, run_for}
 

@@ -5,6 +5,7 @@ mod applications;
 mod blocks;
 mod cursor;
 mod distinct;
+mod emissions;
 mod expressions;
 mod imports;
 mod lists;

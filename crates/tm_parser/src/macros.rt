@@ -13,8 +13,8 @@ ghost use Rattle.tm_values.specs.declared.error.ErrorKind.TheVariants.{OutOfMemo
 
 use crate::cursor::{Cursor, refusal};
 use crate::distinct::are_distinct;
+use crate::emissions::is_call;
 use crate::lists::{boxed, with_one};
-use crate::statements::is_call;
 use sqlite_items::{Boxed, Items};
 use std::alloc::{AllocError, Global};
 use tm_syntax::{Application, CallBlock, Expr, Macro, Name, Parameter, Sign, Step, Stmt, Tag};

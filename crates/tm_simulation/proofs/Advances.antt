@@ -1,31 +1,21 @@
 -- What a world keeps: one part however statements end (`Advances`), and more where that is no fault (`Kept`).
-use Rattle.std.proofs.Common.{◌≡◌, ℕ, zero, suc, ◌+◌, List, [], ◌∷◌, length, Option, Some, None, Bool, true, false, nat_lt, ◌++◌, refl, sym}
-use Rattle.std.proofs.Common.{subst, ap, ◌∙◌, arith, append_assoc, ◌≤◌}
+use Rattle.std.proofs.Common.{◌≡◌, ℕ, zero, suc, ◌+◌, List, [], ◌∷◌, length, Option, Some, None, Bool, true, false, ◌++◌, refl, sym}
+use Rattle.std.proofs.Common.{ap, ◌∙◌, arith, append_assoc, ◌≤◌}
 use Rattle.std.specs.Prelude.{◌-◌, drop, slice_get, if◌then◌else◌}
 use Rattle.std.proofs.lemmas.List.{append-nil, length-append}
 use Rattle.std.proofs.Math.Seq.{drop-append_seam}
 use Rattle.tm_values.specs.Val.{Val}
 use Rattle.tm_values.specs.declared.escape.AutoEscape.{AutoEscape}
 use Rattle.tm_values.specs.declared.error.ErrorKind.TheVariants.{InvalidOperation}
-use Rattle.tm_syntax.specs.declared.instruction.LoopFlags.{LoopFlags}
-use Rattle.tm_meaning.specs.World.{Bindings, choose, with_frames, World, Scopes, Scope, Loop, loop_scope, new_loop, turned_at, turned_of}
-use Rattle.tm_meaning.specs.World.{top_mark, next_turn, without_locals, cleared, Res, Good, Bad, pop, depth, without_first, stored_in}
+use Rattle.tm_meaning.specs.World.{Bindings, choose, with_frames, World, Scopes, Scope, Loop}
+use Rattle.tm_meaning.specs.World.{top_mark, without_locals, cleared, Res, Good, Bad, pop, depth, without_first, stored_in}
 use Rattle.tm_meaning.specs.World.{own_closure, put_at, put_in, put_enclosed, store, with_escape, owning, one_closure_more}
 use Rattle.tm_meaning.specs.World.{closing_over, is_there, with_stream}
-use Rattle.tm_meaning.specs.Calls.{keeping_at, is_changed, outermost, undone, of_block, of_super, of_macro, of_include, run_undone}
-use Rattle.tm_meaning.specs.Calls.{scopes_behind}
-use Rattle.tm_meaning.specs.declared.stream.TemplateId.{TemplateId}
-use Rattle.tm_meaning.specs.declared.mark.LoopMark.{LoopMark}
+use Rattle.tm_meaning.specs.Calls.{outermost}
 use Rattle.tm_simulation.specs.Kept.{shape, shapes, GoesOn, bare, LieOver, BlocksGrow, NamesGrow}
-use Rattle.tm_simulation.proofs.Parents.{blocks_same, blocks_then, blocks_behind, names_same, names_then, count_fewer}
-use Rattle.tm_meaning.specs.Inheritance.{with_blocks, names_left}
-use Rattle.tm_meaning.specs.World.{HostValue, Template}
-use Rattle.tm_meaning.specs.declared.stream.TemplateId.TheVariants.{Entry as entry}
+use Rattle.tm_simulation.proofs.Parents.{blocks_same, blocks_then, names_same, names_then}
 use Rattle.tm_meaning.specs.declared.stream.StreamId.{StreamId}
-use Rattle.tm_syntax.specs.Named.{Named, name_cmp, put, put_each}
-use Rattle.std.specs.Ordering.{match_ordering}
-use Rattle.std.specs.declared.cmp.Ordering.{Ordering}
-use Rattle.std.specs.declared.cmp.Ordering.TheVariants.{Less, Equal, Greater}
+use Rattle.tm_syntax.specs.Named.{put}
 
 -- ---------------------------------------------------------------- records
 pub shapes_long : (ls : List Loop) → length (shapes ls) ≡ length ls
@@ -36,7 +26,7 @@ pub shapes_behind : (a b : List Loop) → shapes (a ++ b) ≡ shapes a ++ shapes
 shapes_behind [] b = refl
 shapes_behind (l ∷ ls) b = ap (λ m. shape l ∷ m) (shapes_behind ls b)
 
-goes_on_same : (ls : List Loop) → GoesOn ls ls
+pub goes_on_same : (ls : List Loop) → GoesOn ls ls
 goes_on_same ls = ([], sym (append-nil (shapes ls)))
 
 goes_on_then : (a b c : List Loop) → GoesOn a b → GoesOn b c → GoesOn a c
@@ -66,7 +56,7 @@ below_bare : (s : Scope) (ss there : List Scope) → bare there ≡ bare (s ∷ 
 below_bare s ss [] e = absurd (cc e)
 below_bare s ss (t ∷ ts) e = (t, cc e)
 
-lie_same : (old new : List Scope) → bare new ≡ bare old → LieOver old new
+pub lie_same : (old new : List Scope) → bare new ≡ bare old → LieOver old new
 lie_same old new e = ([], new, refl, e)
 
 lie_then : (a b c : List Scope) → LieOver a b → LieOver b c → LieOver a c
@@ -89,7 +79,7 @@ outermost_below s ss new (more, there, is, same) =
     ap (outermost (length ss)) all ∙ outermost_there (more ++ below.0 ∷ []) ss
 
 -- those that lie over these have these as their outermost, but for the names of the innermost one of these
-outermost_bare : (old new : List Scope) → LieOver old new → bare (outermost (length old) new) ≡ bare old
+pub outermost_bare : (old new : List Scope) → LieOver old new → bare (outermost (length old) new) ≡ bare old
 outermost_bare old new (more, there, is, same) =
     let long : length old ≡ length there = sym (bare_long old) ∙ ap length (sym same) ∙ bare_long there in
     ap (λ frames. bare (outermost (length old) frames)) is ∙ ap (λ n. bare (outermost n (more ++ there))) long
@@ -126,7 +116,7 @@ pub record Kept (old new : World) : Type 0 where
   pub same_scopes : bare new.scopes.frames ≡ bare old.scopes.frames
   pub same_escape : new.escape ≡ old.escape
 
-lasts_then : {a b c : World} → Lasts a b → Lasts b c → Lasts a c
+pub lasts_then : {a b c : World} → Lasts a b → Lasts b c → Lasts a c
 lasts_then {a = a} {b = b} {c = c} h k = record {
   same_id = k.same_id ∙ h.same_id;
   same_fuel_set = k.same_fuel_set ∙ h.same_fuel_set;
@@ -187,7 +177,7 @@ lasts_to left loops namespaces temps scopes stream block escape w less more_loop
   same_places = refl;
 }
 
-lasts_anywhere : (scopes : Scopes) (stream : StreamId) (block : Option (List ℕ)) (escape : AutoEscape) (w : World) →
+pub lasts_anywhere : (scopes : Scopes) (stream : StreamId) (block : Option (List ℕ)) (escape : AutoEscape) (w : World) →
     Lasts w (record w { scopes = scopes; stream = stream; block = block; escape = escape })
 lasts_anywhere scopes stream block escape w =
     lasts_to w.fuel w.loops w.namespaces w.temps scopes stream block escape w (omega arith) (goes_on_same w.loops) (omega arith)
@@ -403,294 +393,3 @@ kept_unescaped e w world1 k = record {
   same_scopes = k.same_scopes;
   same_escape = refl;
 }
-
--- ---------------------------------------------------------------- runs
--- a world in another stream
-abbrev pub in_stream : StreamId → World → World
-in_stream s w = record w { stream = s }
-
--- what is kept in one stream is kept in another one
-pub kept_in : (s : StreamId) {w v : World} → Kept w v → Kept (in_stream s w) (in_stream s v)
-kept_in s {w = w} {v = v} h =
-    let a = h.advances in
-    let l = a.lasts in
-    record {
-      advances = record {
-        lasts = record {
-          same_id = l.same_id;
-          same_fuel_set = l.same_fuel_set;
-          fuel = l.fuel;
-          loops = l.loops;
-          namespaces = l.namespaces;
-          closures = l.closures;
-          streams = l.streams;
-          temps = l.temps;
-          loaded = l.loaded;
-          blocks = l.blocks;
-          same_places = l.same_places;
-        };
-        scopes = a.scopes;
-        outer = a.outer;
-        same_stream = refl;
-        same_block = a.same_block;
-      };
-      same_scopes = h.same_scopes;
-      same_escape = h.same_escape;
-    }
-
--- a world with one scope more, whose outermost one stands at a depth
-abbrev pub within_at : ℕ → Scope → World → World
-within_at outer s w = record w { scopes = record { frames = s ∷ w.scopes.frames; outer = outer } }
-
--- A block's run, in whichever stream it ended: what is put back behind it gives the very scopes before it, and all is kept.
-pub undone_scopes_at : (outer : ℕ) (s : Scope) (stream : StreamId) (block : Option (List ℕ)) (w v : World) →
-    Advances (in_stream v.stream (record (within_at outer s w) { stream = stream; block = block })) v →
-    (undone (of_block w) v).scopes ≡ w.scopes
-undone_scopes_at outer s stream block w v l =
-    ap (λ frames. record { frames = frames; outer = w.scopes.outer }) (outermost_below s w.scopes.frames v.scopes.frames l.scopes)
-
-pub undone_at : (outer : ℕ) (s : Scope) (stream : StreamId) (block : Option (List ℕ)) (w v : World) →
-    Advances (in_stream v.stream (record (within_at outer s w) { stream = stream; block = block })) v → Kept w (undone (of_block w) v)
-undone_at outer s stream block w v l =
-    let inner : Scopes = record { frames = s ∷ w.scopes.frames; outer = outer } in
-    let back : Scopes = record { frames = outermost (length w.scopes.frames) v.scopes.frames; outer = w.scopes.outer } in
-    kept_lasting
-    (lasts_then (lasts_then (lasts_anywhere inner v.stream block w.escape w) l.lasts) (lasts_anywhere back w.stream w.block w.escape v))
-    (undone_scopes_at outer s stream block w v l) refl refl refl
-
--- the same at the depth at which the scopes stand
-pub undone_scopes : (s : Scope) (stream : StreamId) (block : Option (List ℕ)) (w v : World) →
-    Advances (in_stream v.stream (record (within s w) { stream = stream; block = block })) v → (undone (of_block w) v).scopes ≡ w.scopes
-undone_scopes s stream block w v l = undone_scopes_at w.scopes.outer s stream block w v l
-
--- the very scopes are there behind a `super()` too
-pub super_undone_scopes : (s : Scope) (stream : StreamId) (places : Named ℕ) (w v : World) →
-    Advances (in_stream v.stream (record (within s w) { stream = stream; places = places })) v → (undone (of_super w) v).scopes ≡ w.scopes
-super_undone_scopes s stream places w v h =
-    ap (λ frames. record { frames = frames; outer = w.scopes.outer }) (outermost_below s w.scopes.frames v.scopes.frames h.scopes)
-
-pub undone_kept : (s : Scope) (stream : StreamId) (block : Option (List ℕ)) (w v : World) →
-    Advances (in_stream v.stream (record (within s w) { stream = stream; block = block })) v → Kept w (undone (of_block w) v)
-undone_kept s stream block w v l = undone_at w.scopes.outer s stream block w v l
-
--- The same behind a `super()`, in whose run the places were others.
-pub super_undone_kept : (s : Scope) (stream : StreamId) (places : Named ℕ) (w v : World) →
-    Advances (in_stream v.stream (record (within s w) { stream = stream; places = places })) v → Kept w (undone (of_super w) v)
-super_undone_kept s stream places w v h =
-    let k = h.lasts in
-    kept_lasting (record {
-      same_id = k.same_id;
-      same_fuel_set = k.same_fuel_set;
-      fuel = k.fuel;
-      loops = k.loops;
-      namespaces = k.namespaces;
-      closures = k.closures;
-      streams = k.streams;
-      temps = k.temps;
-      loaded = k.loaded;
-      blocks = k.blocks;
-      same_places = refl;
-    }) (super_undone_scopes s stream places w v h) refl refl refl
-
--- A parent is loaded.
-pub loading_kept : (x : List ℕ) (t : Template) (w : World) →
-    Kept w (record w { loaded = w.loaded ++ x ∷ []; blocks = with_blocks (entry x) t.blocks w.blocks })
-loading_kept x t w = kept_lasting (record {
-  same_id = refl;
-  same_fuel_set = refl;
-  fuel = omega arith;
-  loops = goes_on_same w.loops;
-  namespaces = omega arith;
-  closures = omega arith;
-  streams = omega arith;
-  temps = omega arith;
-  loaded = (x ∷ [], refl);
-  blocks = blocks_behind (entry x) t.blocks w.blocks;
-  same_places = refl;
-}) refl refl refl refl
-
--- No more names are left to be loaded.
-pub names_advance : (host : HostValue) {w v : World} → Advances w v → names_left host v ≤ names_left host w
-names_advance host {w = w} {v = v} h =
-    let loaded = h.lasts.loaded in
-    subst (λ names. names_left host (record v { loaded = names }) ≤ names_left host w) (sym loaded.1)
-    (count_fewer host.templates w.loaded loaded.0)
-
--- What lasts in a run lasts behind it, which began in other scopes and another stream, with another block, escape and lists of blocks.
-run_lasts : (scopes back : Scopes) (stream : StreamId) (block : Option (List ℕ)) (escape : AutoEscape) (blocks : Named (List TemplateId))
-    (places : Named ℕ) (w v : World) →
-    Lasts (record w { scopes = scopes; stream = stream; block = block; escape = escape; blocks = blocks; places = places }) v →
-    Lasts w (run_undone w back v)
-run_lasts scopes back stream block escape blocks places w v l = record {
-  same_id = l.same_id;
-  same_fuel_set = l.same_fuel_set;
-  fuel = l.fuel;
-  loops = l.loops;
-  namespaces = l.namespaces;
-  closures = l.closures;
-  streams = l.streams;
-  temps = l.temps;
-  loaded = names_same w.loaded;
-  blocks = blocks_same w.blocks;
-  same_places = refl;
-}
-
--- A macro's run, in whichever scopes, and whichever stream it ended: what is put back behind it are the very scopes before it, and all is
--- kept.
-pub macro_undone_kept : (scopes : Scopes) (stream : StreamId) (w v : World) →
-    Advances (in_stream v.stream (record w { scopes = scopes; stream = stream; block = None })) v → Kept w (undone (of_macro w) v)
-macro_undone_kept scopes stream w v h =
-    kept_lasting (run_lasts scopes w.scopes v.stream None w.escape w.blocks w.places w v h.lasts) refl refl refl refl
-
--- An include's run, in whichever stream it ended: what is put back behind it are the scopes before it, but for the names of the innermost
--- one, and all is kept.
-abbrev pub in_include : ℕ → StreamId → AutoEscape → Named (List TemplateId) → World → World
-in_include outer stream escape blocks w = record w {
-  scopes = record { frames = owning None w.scopes.frames; outer = outer };
-  stream = stream;
-  escape = escape;
-  blocks = blocks;
-  places = [];
-}
-
-pub include_undone_bare : (outer : ℕ) (stream : StreamId) (escape : AutoEscape) (blocks : Named (List TemplateId)) (w v : World) →
-    Advances (in_stream v.stream (in_include outer stream escape blocks w)) v →
-    bare (undone (of_include w) v).scopes.frames ≡ bare w.scopes.frames
-include_undone_bare outer stream escape blocks w v h =
-    let lie = h.scopes in
-    own_bare (own_closure w.scopes.frames) (outermost (length w.scopes.frames) v.scopes.frames)
-    ∙ outermost_bare w.scopes.frames v.scopes.frames (lie.0, lie.1, lie.2, lie.3 ∙ own_bare None w.scopes.frames)
-
-pub include_undone_kept : (outer : ℕ) (stream : StreamId) (escape : AutoEscape) (blocks : Named (List TemplateId)) (w v : World) →
-    Advances (in_stream v.stream (in_include outer stream escape blocks w)) v → Kept w (undone (of_include w) v)
-include_undone_kept outer stream escape blocks w v h =
-    let inner : Scopes = record { frames = owning None w.scopes.frames; outer = outer } in
-    let back = scopes_behind w.scopes v.scopes in
-    let same = include_undone_bare outer stream escape blocks w v h in
-    record {
-      advances = record {
-        lasts = run_lasts inner back v.stream w.block escape blocks [] w v h.lasts;
-        scopes = lie_same w.scopes.frames back.frames same;
-        outer = refl;
-        same_stream = refl;
-        same_block = refl;
-      };
-      same_scopes = same;
-      same_escape = refl;
-    }
-
--- ---------------------------------------------------------------- loops
--- the record that is asked for its next item
-pub turned_behind : (a b : List Loop) → turned_at (length a) (a ++ b) ≡ a ++ turned_at 0 b
-turned_behind [] b = refl
-turned_behind (l ∷ ls) b = ap (λ m. l ∷ m) (turned_behind ls b)
-
-shape_if : (b : Bool) (l : Loop) → shape (if b then l else record l { turns = l.turns + 1 }) ≡ (if b then shape l else record (shape l)
-    { turns = l.turns + 1 })
-shape_if true l = refl
-shape_if false l = refl
-
-pub turned_shapes : (n : ℕ) (ls : List Loop) → shapes (turned_at n ls) ≡ turned_at n (shapes ls)
-turned_shapes n [] = refl
-turned_shapes zero (l ∷ ls) = ap (λ m. m ∷ shapes ls) (shape_if (nat_lt (length l.items) l.turns) l)
-turned_shapes (suc n) (l ∷ ls) = ap (λ m. shape l ∷ m) (turned_shapes n ls)
-
--- the mark of a loop whose record stands behind those of a world
-abbrev pub mark_behind : LoopFlags → World → LoopMark
-mark_behind g w = record { number = length w.loops; variable = g.variable }
-
--- a world with its scope more
-abbrev pub in_loop_of : LoopFlags → World → World
-in_loop_of g w = within (loop_scope (mark_behind g w)) w
-
-pub kept_turned : (g : LoopFlags) (w world1 : World) → Kept (in_loop_of g w) world1 → Kept (in_loop_of g w) (next_turn world1)
-kept_turned g w world1 k =
-    let top : top_mark world1.scopes.frames ≡ Some (mark_behind g w) = kept_top k in
-    let is : next_turn world1 ≡ record world1 { loops = turned_at (length w.loops) world1.loops } = ap (λ m. turned_of m world1) top in
-    let a = k.advances in
-    let l = a.lasts in
-    let long = ap (λ n. turned_at n (shapes w.loops ++ l.loops.0)) (sym (shapes_long w.loops)) in
-    let loops : shapes (turned_at (length w.loops) world1.loops) ≡ shapes w.loops ++ turned_at 0 l.loops.0 =
-    turned_shapes (length w.loops) world1.loops ∙ ap (turned_at (length w.loops)) l.loops.1 ∙ long ∙ turned_behind
-    (shapes w.loops) l.loops.0 in
-    subst (λ x. Kept (in_loop_of g w) x) (sym is) (record {
-      advances = record {
-        lasts = record {
-          same_id = l.same_id;
-          same_fuel_set = l.same_fuel_set;
-          fuel = l.fuel;
-          loops = (turned_at 0 l.loops.0, loops);
-          namespaces = l.namespaces;
-          closures = l.closures;
-          streams = l.streams;
-          temps = l.temps;
-          loaded = l.loaded;
-          blocks = l.blocks;
-          same_places = l.same_places;
-        };
-        scopes = a.scopes;
-        outer = a.outer;
-        same_stream = a.same_stream;
-        same_block = a.same_block;
-      };
-      same_scopes = k.same_scopes;
-      same_escape = k.same_escape;
-    })
-
--- what is so in a loop's scope is so around it
-pub advances_around : (g : LoopFlags) (w world1 : World) → Kept (in_loop_of g w) world1 → Advances w world1
-advances_around g w world1 k = advances_then (advances_within (loop_scope (mark_behind g w)) w) k.advances
-
--- a world with a loop of these items more
-abbrev pub opened : LoopFlags → ℕ → World → List Val → World
-opened g n w vs = record (in_loop_of g w) { loops = w.loops ++ new_loop vs g n w ∷ [] }
-
-pub opened_kept : (g : LoopFlags) (n : ℕ) (w : World) (vs : List Val) → Kept (in_loop_of g w) (opened g n w vs)
-opened_kept g n w vs =
-    let one = new_loop vs g n w ∷ [] in
-    kept_lasting (lasts_by_loops (in_loop_of g w) (w.loops ++ one) (one, shapes_behind w.loops one)) refl refl refl refl
-
-keeping_shape : (b : Bool) (args : List Val) (l : Loop) → shape (if b then record l { kept = Some args } else l) ≡ shape l
-keeping_shape true args l = refl
-keeping_shape false args l = refl
-
-keeping_shapes : (n : ℕ) (args : List Val) (ls : List Loop) → shapes (keeping_at n args ls) ≡ shapes ls
-keeping_shapes n args [] = refl
-keeping_shapes zero args (l ∷ ls) = ap (λ m. m ∷ shapes ls) (keeping_shape (is_changed l.kept args) args l)
-keeping_shapes (suc n) args (l ∷ ls) = ap (λ m. shape l ∷ m) (keeping_shapes n args ls)
-
-pub keeping_kept : (n : ℕ) (args : List Val) (w : World) → Kept w (record w { loops = keeping_at n args w.loops })
-keeping_kept n args w =
-    kept_lasting (lasts_by_loops w (keeping_at n args w.loops) ([], keeping_shapes n args w.loops ∙ sym (append-nil (shapes w.loops))))
-    refl refl refl refl
-
-abbrev pub recorded : LoopFlags → ℕ → List Val → World → World → Res (Unit {0})
-recorded g n vs w world1 = Good tt (record world1 { loops = world1.loops ++ new_loop vs g n w ∷ [] })
-
--- ---------------------------------------------------------------- fuel
--- what is left of fuel is no more
-abbrev pub NoMore : Option ℕ → ℕ → Type 0
-NoMore (Some left) before = left ≤ before
-NoMore None before = Unit {0}
-
-pub charged_by : (free enough : Bool) (charge before : ℕ) →
-    NoMore (if free then Some before else if enough then Some (before - charge) else None) before
-charged_by true enough charge before = omega arith
-charged_by false true charge before = omega arith
-charged_by false false charge before = tt
-
--- ---------------------------------------------------------------- values that are kept
--- a name put among others takes none away
-put_by : (o : Ordering) (x : List ℕ) (v : Val) (p : List ℕ × Val) (ps qs : Bindings) → length ps ≤ length qs →
-    length (p ∷ ps) ≤ length (match_ordering o ((x, v) ∷ p ∷ ps) ((p.0, v) ∷ ps) (p ∷ qs))
-put_by Less x v p ps qs h = omega arith
-put_by Equal x v p ps qs h = omega arith
-put_by Greater x v p ps qs h = omega (arith, h)
-
-put_long : (x : List ℕ) (v : Val) (ps : Bindings) → length ps ≤ length (put x v ps)
-put_long x v [] = omega arith
-put_long x v (p ∷ ps) = put_by (name_cmp x p.0) x v p ps (put x v ps) (put_long x v ps)
-
-pub put_each_long : (more ps : Bindings) → length ps ≤ length (put_each more ps)
-put_each_long [] ps = omega arith
-put_each_long (p ∷ more) ps = omega (arith, put_long p.0 p.1 ps, put_each_long more (put p.0 p.1 ps))

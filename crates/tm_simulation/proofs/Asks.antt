@@ -46,8 +46,9 @@ use Rattle.tm_simulation.proofs.Raised.{unpacked_raises, escape_raises, emitted_
 use Rattle.tm_simulation.proofs.Raised.{namespace_raises, name_raises, method_raises, text_raises, choices_raise, raised_arise}
 use Rattle.tm_simulation.proofs.Loads.{need_does, answer_does, not_true}
 use Rattle.tm_simulation.proofs.Advances.{Advances, Kept, advances_then, lasts_by_namespaces, lasts_by_temps, advances_same}
-use Rattle.tm_simulation.proofs.Advances.{kept_same, kept_then, kept_lasting, undone_kept, in_stream, kept_depth, within, one_more}
-use Rattle.tm_simulation.proofs.Advances.{put_each_long, keeping_kept, undone_at, super_undone_kept, macro_undone_kept, include_undone_kept}
+use Rattle.tm_simulation.proofs.Advances.{kept_same, kept_then, kept_lasting, kept_depth, within, one_more}
+use Rattle.tm_simulation.proofs.RunAdvances.{undone_kept, in_stream}
+use Rattle.tm_simulation.proofs.RunAdvances.{put_each_long, keeping_kept, undone_at, super_undone_kept, macro_undone_kept, include_undone_kept}
 use Rattle.tm_simulation.proofs.Gives.{answered_gives, Gives, refused_arises, gives_bind, operation_gives}
 
 -- A value keeps the world; a run starts at least one level deeper, within the limit, and however it ends what is put back behind it keeps the world.

@@ -15,7 +15,8 @@ use Rattle.tm_syntax.specs.Fragments.{Fragment, straight, ◌⨾◌, jump_out, b
 use Rattle.tm_syntax.specs.Fragments.{MacroHead, behind_body, beyond, Labels, outward, inward, jump, assemble, ending_at, over, either}
 use Rattle.tm_syntax.proofs.Standing.{HasAt, At, beyond_is}
 use Rattle.tm_simulation.proofs.Counts.{Plain, Loopless, plain, jump_none, none_loops, behind_loops, none_places}
-use Rattle.tm_simulation.proofs.Counts.{one_loop_more, counted, counted_none, entered, entered_none, Counts, Has, it, front, back}
+use Rattle.tm_simulation.proofs.Counts.{one_loop_more, counted, counted_none, Has, it, front, back}
+use Rattle.tm_simulation.proofs.Entries.{entered, entered_none, Counts}
 
 -- ---------------------------------------------------------------- lists side by side
 -- Two lists are as long, and each item of one stands in a relation to that of the other.

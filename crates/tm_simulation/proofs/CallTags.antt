@@ -19,7 +19,8 @@ use Rattle.tm_meaning.specs.Meaning.{Run, Under, declared, with_caller, passed_s
 use Rattle.tm_meaning.specs.Meaning.{eval_arguments, eval_keywords, eval_lists, eval_step}
 use Rattle.tm_meaning.specs.Operators.{named_by}
 use Rattle.tm_meaning.specs.Machine.{onto}
-use Rattle.tm_simulation.proofs.Counts.{of_number, unmarked}
+use Rattle.tm_simulation.proofs.Counts.{unmarked}
+use Rattle.tm_simulation.proofs.Entries.{of_number}
 use Rattle.tm_simulation.proofs.TreeLoops.{expr_loopless, arguments_loopless, step_loopless}
 use Rattle.tm_simulation.proofs.Advances.{Kept}
 use Rattle.tm_simulation.proofs.Gives.{tick_gives}

@@ -12,7 +12,7 @@ use Rattle.tm_meaning.specs.Calls.{method_object}
 use Rattle.tm_syntax.specs.Named.{name_cmp}
 use Rattle.std.specs.BTreeMap.{is_at}
 use Rattle.std.specs.Prelude.{cond, Option, None}
-use Rattle.tm_meaning.specs.Meaning.{rendered, chain_of}
+use Rattle.tm_meaning.specs.Runs.{rendered, chain_of}
 use Rattle.tm_simulation.specs.Chains.{wrapped, is_raised, Arises, raised, by_object, AnswersOnly, by_formatter, by_join, RepliesOnly, IfAny}
 use Rattle.tm_simulation.specs.Chains.{IsObject, is_function, is_filter, is_test, is_method, ObjectStates, NamedStates}
 use Rattle.tm_simulation.specs.Chains.{HasRaised, FunctionStates, FallbackStates, FormatterStates, StatesOnly, ends_in_memory}

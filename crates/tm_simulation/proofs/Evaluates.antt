@@ -45,9 +45,11 @@ use Rattle.tm_meaning.specs.declared.wrapping.Wrapping.{Wrapping}
 use Rattle.tm_simulation.specs.Chains.{Arises, wrapped as wraps}
 use Rattle.tm_simulation.proofs.Raised.{truth_raises, unary_raises, binary_raises, attribute_raises, item_raises, settable_raises}
 use Rattle.tm_simulation.proofs.Raised.{Raises, sliced_raises, merged_raises, spread_items_raises}
-use Rattle.tm_simulation.proofs.Advances.{Advances, Kept, advances_then, lasts_by_namespaces, kept_same, kept_then, kept_lasting, in_stream}
-use Rattle.tm_simulation.proofs.Advances.{store_kept, kept_popped, kept_cleared, mark_behind, in_loop_of, kept_turned, advances_around}
-use Rattle.tm_simulation.proofs.Advances.{opened, opened_kept}
+use Rattle.tm_simulation.proofs.Advances.{Advances, Kept, advances_then, lasts_by_namespaces, kept_same, kept_then, kept_lasting}
+use Rattle.tm_simulation.proofs.RunAdvances.{in_stream}
+use Rattle.tm_simulation.proofs.Advances.{store_kept, kept_popped, kept_cleared}
+use Rattle.tm_simulation.proofs.RunAdvances.{mark_behind, in_loop_of, kept_turned, advances_around}
+use Rattle.tm_simulation.proofs.RunAdvances.{opened, opened_kept}
 use Rattle.tm_simulation.proofs.Gives.{Gives, RunEnds, run_ends_as, EndingKeeps, OutcomeKeeps, ends_as, gives_bind, gives_kept}
 use Rattle.tm_simulation.proofs.Gives.{choose_gives, tick_gives}
 use Rattle.tm_simulation.proofs.Gives.{ticked_gives}

@@ -16,11 +16,13 @@ use Rattle.tm_syntax.specs.Loops.{Numbers, passes, within_loop, past, pasts, Fou
 use Rattle.tm_meaning.specs.World.{World, answered, tick, pop, depth, emitted, escape_for, with_escape, captured_text}
 use Rattle.tm_meaning.specs.World.{plain_scope}
 use Rattle.tm_meaning.specs.Calls.{Callee}
-use Rattle.tm_meaning.specs.Meaning.{again_in, turn_of, Run, Outcome, Under, use_it, say, eval, loop_items, assign}
+use Rattle.tm_meaning.specs.Meaning.{Run, Outcome, Under, use_it, say, eval, loop_items, assign}
+use Rattle.tm_meaning.specs.Runs.{again_in, turn_of}
 use Rattle.tm_meaning.specs.Operators.{truth}
 use Rattle.tm_meaning.specs.Meaning.{set_to, set_each, capturing, loop_over, has_none, exec_behind_loop, emit, filtered, use_text}
 use Rattle.tm_meaning.specs.Meaning.{import, import_names}
-use Rattle.tm_meaning.specs.Meaning.{behind_first, exec, exec_all, exec_else, declared, take_parameters, macro_body, call, with_caller}
+use Rattle.tm_meaning.specs.Meaning.{behind_first, exec, exec_all, exec_else, declared, take_parameters, call, with_caller}
+use Rattle.tm_meaning.specs.Runs.{macro_body}
 use Rattle.std.specs.Prelude.{codes}
 use Rattle.tm_simulation.proofs.Advances.{kept_same, within, advances_within, kept_popped, advances_escaped, kept_unescaped}
 use Rattle.tm_simulation.proofs.Gives.{OutcomeKeeps, RunEnds, tick_gives, ends_here, ends_refused, ends_then, ends_use}

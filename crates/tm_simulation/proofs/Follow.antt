@@ -9,7 +9,8 @@ use Rattle.tm_syntax.specs.declared.instruction.LoopFlags.{LoopFlags}
 use Rattle.tm_meaning.specs.World.{choose, World, HostValue, Scope, Res, Good, Bad, bind, tick, pop, loop_scope}
 use Rattle.tm_meaning.specs.Meaning.{Run, Outcome, Ending, done, leave, next, fault, ended, so_far, use_it, then_do, closing_by, closing}
 use Rattle.tm_meaning.specs.Meaning.{captured_by, captured, round_end}
-use Rattle.tm_simulation.proofs.Advances.{Kept, within, one_more, mark_behind, recorded, opened}
+use Rattle.tm_simulation.proofs.Advances.{Kept, within, one_more}
+use Rattle.tm_simulation.proofs.RunAdvances.{mark_behind, recorded, opened}
 use Rattle.tm_simulation.proofs.Gives.{Gives, EndingKeeps, OutcomeKeeps, ends_as}
 use Rattle.tm_meaning.specs.Machine.{Capture, Activation, Config, Failed, Next, More, Program, after, goes}
 use Rattle.tm_meaning.specs.Steps.{act, step, Final, final, Leads, over, more}

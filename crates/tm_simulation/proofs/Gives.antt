@@ -16,10 +16,11 @@ use Rattle.tm_meaning.specs.declared.stream.TemplateId.{TemplateId}
 use Rattle.tm_simulation.specs.Chains.{is_raised, Arises, raised, AnswersOnly}
 use Rattle.tm_simulation.proofs.Raised.{Raises, raised_arise}
 use Rattle.tm_simulation.proofs.Advances.{Advances, Kept, advances_then, lasts_by_fuel, advances_same, kept_same, kept_then}
-use Rattle.tm_simulation.proofs.Advances.{kept_lasting, in_stream, within, one_more, kept_popped, kept_cleared, mark_behind, in_loop_of}
-use Rattle.tm_simulation.proofs.Advances.{kept_turned, kept_in, names_advance}
+use Rattle.tm_simulation.proofs.Advances.{kept_lasting, within, one_more, kept_popped, kept_cleared}
+use Rattle.tm_simulation.proofs.RunAdvances.{in_stream, mark_behind, in_loop_of}
+use Rattle.tm_simulation.proofs.RunAdvances.{kept_turned, kept_in, names_advance}
 use Rattle.tm_meaning.specs.declared.stream.StreamId.{StreamId}
-use Rattle.tm_simulation.proofs.Advances.{advances_around, opened, opened_kept, recorded, NoMore, charged_by}
+use Rattle.tm_simulation.proofs.RunAdvances.{advances_around, opened, opened_kept, recorded, NoMore, charged_by}
 
 -- Where evaluation gives a value the world is kept, and where it ends in a fault that advances it, by a chain that arises.
 abbrev pub Gives : {A : Type 0} → HostValue → World → Res A → Type 0

@@ -10,16 +10,21 @@ use Rattle.tm_meaning.specs.World.{choose, root_of, World, HostValue, Scope, Res
 use Rattle.tm_meaning.specs.World.{template_at}
 use Rattle.tm_meaning.specs.Calls.{Callee, whole, macro_of, NestedCall, block_call, undone, runs, super_call, enter_super, own_blocks}
 use Rattle.tm_meaning.specs.Calls.{include_depth, include_call, in_template, enter_include}
-use Rattle.tm_meaning.specs.Meaning.{over, under, again_of, ended, Run, Outcome, Ending, done, leave, next, fault, Nests, Under, done_by}
-use Rattle.tm_meaning.specs.Meaning.{behind, in_place_of, block_tag, audible, none_waits, at_end, new_run, nests_of, rendered, chain_in}
-use Rattle.tm_meaning.specs.Meaning.{chain_of, eval, macro_body, macro_run, stream_run, restarting, run_of, failed}
+use Rattle.tm_meaning.specs.Meaning.{ended, Run, Outcome, Ending, done, leave, next, fault, Nests, Under}
+use Rattle.tm_meaning.specs.Runs.{over, under, again_of, done_by}
+use Rattle.tm_meaning.specs.Meaning.{behind, in_place_of, block_tag, audible, none_waits}
+use Rattle.tm_meaning.specs.Runs.{at_end, new_run, nests_of, rendered, chain_in}
+use Rattle.tm_meaning.specs.Meaning.{eval}
+use Rattle.tm_meaning.specs.Runs.{chain_of, macro_body, macro_run, stream_run, restarting, run_of, failed}
 use Rattle.tm_meaning.specs.Inheritance.{names_left, place_in}
 use Rattle.tm_simulation.specs.Kept.{UnlessFault, Stays, Grows, EndsThere, PutsBack, GivesBack, bare}
 use Rattle.tm_meaning.specs.declared.stream.TemplateId.{TemplateId}
 use Rattle.tm_meaning.specs.declared.stream.StreamId.{StreamId}
 use Rattle.tm_simulation.specs.Chains.{Arises, IfAny}
-use Rattle.tm_simulation.proofs.Advances.{Kept, advances_then, kept_same, kept_then, in_stream, undone_scopes, undone_kept, super_undone_scopes}
-use Rattle.tm_simulation.proofs.Advances.{own_bare, include_undone_bare}
+use Rattle.tm_simulation.proofs.Advances.{Kept, advances_then, kept_same, kept_then}
+use Rattle.tm_simulation.proofs.RunAdvances.{in_stream, undone_scopes, undone_kept, super_undone_scopes}
+use Rattle.tm_simulation.proofs.Advances.{own_bare}
+use Rattle.tm_simulation.proofs.RunAdvances.{include_undone_bare}
 use Rattle.tm_simulation.proofs.Parents.{blocks_same}
 use Rattle.tm_simulation.proofs.Gives.{Gives, RunEnds, run_ends, run_ends_by, run_ends_from, run_ends_behind, run_ends_as, ends_advance}
 use Rattle.tm_simulation.proofs.Gives.{EndingKeeps, OutcomeKeeps, ends_as, ends_from, ends_parents, parents_left, parents_kept}

@@ -9,11 +9,12 @@ use Rattle.tm_meaning.specs.World.{depth}
 use Rattle.tm_meaning.specs.World.{with_escape}
 use Rattle.tm_meaning.specs.Calls.{Callee, Asked, has, refused, runs, recurs}
 use Rattle.tm_meaning.specs.Tree.{Trees}
-use Rattle.tm_meaning.specs.Meaning.{Again, over, text_behind, Run}
+use Rattle.tm_meaning.specs.Meaning.{Again, text_behind, Run}
+use Rattle.tm_meaning.specs.Runs.{over}
 use Rattle.tm_meaning.specs.Meaning.{Under, value_of, in_place_of}
 use Rattle.tm_meaning.specs.Meaning.{audible as heard_here}
 use Rattle.tm_meaning.specs.Meaning.{capturing}
-use Rattle.tm_meaning.specs.Meaning.{nests_of}
+use Rattle.tm_meaning.specs.Runs.{nests_of}
 use Rattle.tm_meaning.specs.Machine.{new_capture, recursion, place_of_loop}
 use Rattle.tm_meaning.specs.Machine.{Program, asked, asked_in_place}
 use Rattle.tm_meaning.specs.Steps.{over as is_over}

@@ -1,5 +1,6 @@
 pub mod Parents
 pub mod Advances
+pub mod RunAdvances
 pub mod Raised
 pub mod Gives
 pub mod Loads
@@ -27,8 +28,10 @@ mod Rounds
 mod Statements
 mod Recursion
 pub mod Simulation
+pub mod Renders
 mod Numbered
 mod Cached
 mod Counts
+mod Entries
 mod Begins
 mod TreeLoops

@@ -12,7 +12,8 @@ use Rattle.tm_meaning.specs.Meaning.{Run, so_far, use_it}
 use Rattle.tm_meaning.specs.declared.stream.TemplateId.{TemplateId}
 use Rattle.tm_simulation.specs.Chains.{Arises, by_join}
 use Rattle.tm_simulation.proofs.Parents.{count_loaded}
-use Rattle.tm_simulation.proofs.Advances.{Advances, Kept, advances_same, loading_kept}
+use Rattle.tm_simulation.proofs.Advances.{Advances, Kept, advances_same}
+use Rattle.tm_simulation.proofs.RunAdvances.{loading_kept}
 use Rattle.tm_simulation.proofs.Gives.{Gives, OutcomeKeeps, parents_left, ends_from, ends_fault, refused_arises}
 
 pub need_does : {A B : Type 0} (Holds : Res B → Type 0) (w : World) (found : Option A) (kind : ErrorKind) (g : A → World → Res B) →

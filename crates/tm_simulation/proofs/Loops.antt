@@ -10,7 +10,8 @@ use Rattle.tm_syntax.specs.declared.instruction.LoopFlags.{LoopFlags}
 use Rattle.tm_meaning.specs.declared.mark.LoopMark.{LoopMark}
 use Rattle.tm_meaning.specs.Meaning.{has_none}
 use Rattle.tm_simulation.specs.Kept.{shape, shapes}
-use Rattle.tm_simulation.proofs.Advances.{Kept, shapes_long, shapes_behind, turned_shapes, opened, mark_behind, in_loop_of, kept_top}
+use Rattle.tm_simulation.proofs.Advances.{Kept, shapes_long, shapes_behind, kept_top}
+use Rattle.tm_simulation.proofs.RunAdvances.{turned_shapes, opened, mark_behind, in_loop_of}
 
 pub seam_some : {A : Type 0} (a b : List A) (v : A) → slice_get (a ++ v ∷ b) (length a) ≡ Some v
 seam_some [] b v = refl

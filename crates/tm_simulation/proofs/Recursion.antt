@@ -12,7 +12,8 @@ use Rattle.tm_syntax.specs.Code.{target_code, statements_code}
 use Rattle.tm_meaning.specs.World.{choose, World, Loop, loop_scope, new_loop, open_loop}
 use Rattle.tm_meaning.specs.World.{top_loop, depth, pop}
 use Rattle.tm_meaning.specs.World.{captured_text}
-use Rattle.tm_meaning.specs.Meaning.{ended, again_in, text_behind, Run, Ending, done, leave, next}
+use Rattle.tm_meaning.specs.Meaning.{ended, text_behind, Run, Ending, done, leave, next}
+use Rattle.tm_meaning.specs.Runs.{again_in}
 use Rattle.tm_meaning.specs.Meaning.{fault, Under}
 use Rattle.tm_meaning.specs.Meaning.{capturing}
 use Rattle.tm_meaning.specs.Meaning.{rounds, loop_over, has_none}
@@ -27,11 +28,11 @@ use Rattle.tm_syntax.proofs.Standing.{HasAt, At}
 use Rattle.tm_syntax.specs.declared.instruction.LoopPlace.{LoopPlace}
 use Rattle.tm_syntax.specs.Loops.{FoundLoop}
 use Rattle.tm_simulation.proofs.Begins.{Both, IsAt, Looped}
-use Rattle.tm_simulation.proofs.Counts.{Counts}
+use Rattle.tm_simulation.proofs.Entries.{Counts}
 use Rattle.tm_simulation.proofs.TreeLoops.{found}
 use Rattle.tm_simulation.proofs.Loops.{on_top_loop, new_record}
 use Rattle.tm_simulation.proofs.Advances.{Kept, kept_frames}
-use Rattle.tm_simulation.proofs.Advances.{mark_behind, in_loop_of, opened, opened_kept}
+use Rattle.tm_simulation.proofs.RunAdvances.{mark_behind, in_loop_of, opened, opened_kept}
 use Rattle.tm_simulation.proofs.Follow.{LeadsToEnd}
 use Rattle.tm_simulation.proofs.Follow.{opened_then, captures_of, told_by, Spot, told, cfg}
 use Rattle.tm_simulation.proofs.Follow.{later, Follows, Then, Ends, whole_of}

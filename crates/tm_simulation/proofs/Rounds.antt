@@ -34,11 +34,13 @@ use Rattle.tm_meaning.specs.Instructions.{on_loop}
 use Rattle.tm_meaning.specs.Instructions.{iterate_of, iterate_with, push_did_not_iterate_of, pop_loop_with, looping}
 use Rattle.tm_simulation.specs.Kept.{shapes}
 use Rattle.tm_syntax.specs.Loops.{Numbers, loops_before}
-use Rattle.tm_simulation.proofs.Counts.{Counts, counted_none}
+use Rattle.tm_simulation.proofs.Counts.{counted_none}
+use Rattle.tm_simulation.proofs.Entries.{Counts}
 use Rattle.tm_simulation.proofs.TreeLoops.{expr_loopless}
 use Rattle.tm_simulation.proofs.Loops.{LeftOf, next_item, no_item, left_then, turned_items, on_top_loop, next_record, new_record, none_is}
 use Rattle.tm_simulation.proofs.Advances.{Kept, kept_frames, kept_then, kept_record}
-use Rattle.tm_simulation.proofs.Advances.{kept_cleared, kept_turned, mark_behind, in_loop_of, opened, opened_kept}
+use Rattle.tm_simulation.proofs.Advances.{kept_cleared}
+use Rattle.tm_simulation.proofs.RunAdvances.{kept_turned, mark_behind, in_loop_of, opened, opened_kept}
 use Rattle.tm_simulation.proofs.Gives.{ends_use, OutcomeKeeps, tick_gives}
 use Rattle.tm_simulation.proofs.Asks.{items_give}
 use Rattle.tm_simulation.proofs.Evaluates.{eval_gives}

@@ -9,41 +9,40 @@ use Rattle.tm_syntax.specs.Fragments.{Fragment, beyond, ending_at, whole_labels,
 use Rattle.tm_syntax.specs.Blocks.{fragment_of}
 use Rattle.tm_syntax.specs.Code.{expr_code, statements_code, parameters_code}
 use Rattle.tm_syntax.specs.declared.tree.Expr.{Expr}
-use Rattle.tm_meaning.specs.World.{choose, root_of, HostValue, World}
+use Rattle.tm_meaning.specs.World.{choose, root_of, World}
 use Rattle.tm_values.specs.declared.error.ErrorKind.{ErrorKind}
 use Rattle.tm_values.specs.declared.escape.AutoEscape.{AutoEscape}
 use Rattle.tm_meaning.specs.World.{Res, Good, Bad, tick}
 use Rattle.tm_meaning.specs.World.{captured_text}
 use Rattle.tm_meaning.specs.Calls.{Callee, whole, macro_of}
 use Rattle.tm_meaning.specs.Tree.{Body, StreamTree, statements, expression, Trees}
-use Rattle.tm_meaning.specs.Meaning.{under, again_of, Ending, done, leave, next}
+use Rattle.tm_meaning.specs.Meaning.{Ending, done, leave, next}
+use Rattle.tm_meaning.specs.Runs.{under, again_of}
 use Rattle.tm_meaning.specs.Meaning.{fault, Under}
 use Rattle.tm_meaning.specs.Meaning.{capturing}
-use Rattle.tm_meaning.specs.Meaning.{done_by, leaving, eval, exec_all, macro_body, macro_run, take_parameters}
-use Rattle.tm_meaning.specs.Meaning.{new_run, at_end, failed, nests_of, rendered, Run, Outcome, stream_run, restarting, run_of}
+use Rattle.tm_meaning.specs.Meaning.{eval, exec_all, take_parameters}
+use Rattle.tm_meaning.specs.Runs.{done_by, leaving, macro_body, macro_run}
+use Rattle.tm_meaning.specs.Meaning.{Run, Outcome}
+use Rattle.tm_meaning.specs.Runs.{new_run, at_end, failed, nests_of, rendered, stream_run, restarting, run_of}
 use Rattle.tm_meaning.specs.Inheritance.{names_left}
-use Rattle.tm_meaning.specs.Machine.{new_capture, recursion, Capture as OpenCapture, Finished}
-use Rattle.tm_meaning.specs.Machine.{Stuck, Over, Program, base_of, run_from, run_of_macro, onto, restarted}
-use Rattle.tm_meaning.specs.Steps.{act, begun, finish, parent_next, return_of, step, Final, final, Leads, over as is_over, restart as restarts}
-use Rattle.tm_meaning.specs.Compiled.{IsCompiled, code_of}
-use Rattle.tm_meaning.proofs.Ends.{one_end}
-use Rattle.tm_simulation.specs.Reached.{RunsTo, Renders, text_in, end_by, final_in, final_of, HasLevels}
+use Rattle.tm_meaning.specs.Machine.{new_capture, recursion, Finished}
+use Rattle.tm_meaning.specs.Machine.{Over, Program, base_of, run_from, run_of_macro, onto, restarted}
+use Rattle.tm_meaning.specs.Steps.{act, begun, finish, parent_next, return_of, step, Final, final, Leads, over as is_over}
+use Rattle.tm_meaning.specs.Steps.{restart as restarts}
+use Rattle.tm_simulation.specs.Reached.{HasLevels}
 use Rattle.tm_syntax.proofs.Standing.{At, beyond_is, stands_whole}
 use Rattle.tm_syntax.specs.Loops.{Numbers, first_numbers, stream_loops, loop_places, pasts, FoundMacro, stream_macros}
 use Rattle.tm_values.specs.Val.{Val}
 use Rattle.tm_syntax.specs.Entries.{entries}
 use Rattle.tm_values.specs.declared.error.ErrorKind.TheVariants.{InvalidOperation}
-use Rattle.tm_syntax.specs.CacheNumbers.{numbered}
-use Rattle.tm_simulation.specs.Uncached.{AllUncached, HasNoCaches, with_numbers}
-use Rattle.tm_simulation.proofs.Cached.{begins_too}
-use Rattle.tm_simulation.proofs.Numbered.{IsNumbered, numbered_is}
-use Rattle.tm_simulation.proofs.Counts.{Counts, counts_whole, entries_are, plain_uncached}
+use Rattle.tm_simulation.proofs.Entries.{Counts, counts_whole, entries_are}
 use Rattle.tm_simulation.proofs.Begins.{Both, Paired, paired_at, IsAt, IsEntered, Begins, none_begin, body_code}
 use Rattle.tm_simulation.proofs.Begins.{Stands as BodyStands}
 use Rattle.tm_simulation.proofs.Declares.{take_parameters_give}
 use Rattle.tm_simulation.proofs.Macros.{parameters_run}
 use Rattle.tm_simulation.proofs.TreeLoops.{expr_loopless, statements_begin}
-use Rattle.tm_simulation.proofs.Advances.{Kept, in_stream, kept_frames, kept_depth, kept_then}
+use Rattle.tm_simulation.proofs.Advances.{Kept, kept_frames, kept_depth, kept_then}
+use Rattle.tm_simulation.proofs.RunAdvances.{in_stream}
 use Rattle.tm_simulation.proofs.Advances.{within}
 use Rattle.tm_simulation.proofs.Gives.{EndingKeeps, Gives, ends_as, ends_parents, parents_left, parents_kept, tick_gives}
 use Rattle.tm_simulation.proofs.Executes.{execs_end, body_ends}
@@ -52,7 +51,7 @@ use Rattle.tm_simulation.proofs.Follow.{RunContext, LeadsToEnd, follows_map_kept
 use Rattle.tm_simulation.proofs.Follow.{Bed, air, inside, captures_of, told_by, Spot, told, cfg}
 use Rattle.tm_simulation.proofs.Follow.{later, Follows, Then, Ends, whole_of}
 use Rattle.tm_simulation.proofs.Follow.{use_then, Go, silent, at, after_then, move}
-use Rattle.tm_simulation.proofs.Forms.{Fits, Stands, end_by as bed_end, end_of, Entered}
+use Rattle.tm_simulation.proofs.Forms.{Fits, Stands, end_of, Entered}
 use Rattle.tm_meaning.specs.declared.stream.TemplateId.{TemplateId}
 use Rattle.tm_meaning.specs.declared.stream.StreamId.{StreamId}
 use Rattle.tm_meaning.specs.declared.base.Base.{Base}
@@ -77,11 +76,11 @@ stands_start : (id : StreamId) (b : Bed) (out : List ℕ) (heard : Bool) (w : Wo
 stands_start id b out heard w = (refl, omega arith, fits_start b out heard w)
 
 -- the code of a stream before it has its cache numbers
-abbrev unnumbered_of : StreamTree → List Instruction
+abbrev pub unnumbered_of : StreamTree → List Instruction
 unnumbered_of tree = assembled (fragment_of tree)
 
 -- Each stream of the program is this code of its tree.
-abbrev IsUnnumbered : Trees → Program → Type 0
+abbrev pub IsUnnumbered : Trees → Program → Type 0
 IsUnnumbered trees p = (s : StreamId) → p.code s ≡ unnumbered_of (trees s)
 
 -- the numbers behind a stream's tree
@@ -90,7 +89,7 @@ numbers_behind (statements body) = pasts first_numbers body.row
 numbers_behind (expression e) = first_numbers
 
 -- a stream's code begins the loops and macros of its tree
-tree_begins : (tree : StreamTree) →
+pub tree_begins : (tree : StreamTree) →
     Begins first_numbers (fragment_of tree) (stream_loops tree) (stream_macros tree) (numbers_behind tree)
 tree_begins (statements body) = statements_begin [] first_numbers body.row
 tree_begins (expression e) = none_begin first_numbers (expr_code e) (expr_loopless e)
@@ -433,7 +432,7 @@ module _ (p : Program) (trees : Trees) (compiled : IsUnnumbered trees p) where
       subst (λ m. there g m (new_run heard w)) (same_captures b x out) two
 
   -- A stream and its parents, where no more names are left than so many: each parent's was not loaded before.
-  chain_runs : (n : ℕ) → AllNested p trees n → (m : ℕ) (id : StreamId) (heard : Bool) (b : Bed) (out : List ℕ) (w : World) →
+  pub chain_runs : (n : ℕ) → AllNested p trees n → (m : ℕ) (id : StreamId) (heard : Bool) (b : Bed) (out : List ℕ) (w : World) →
       HasLevels p.host (suc n) w → names_left p.host w ≤ m →
       Entered p (whole id) heard b out w (run_of p.host (nests_of p.host trees n) trees m id (new_run heard w) out w)
   chain_runs n below zero id heard b out w deep left =
@@ -519,7 +518,7 @@ module _ (p : Program) (trees : Trees) (compiled : IsUnnumbered trees p) where
 
   -- What nests comes to what it means. Level zero isn't reached, since a run stands one level deeper than the one that needs it, within the
   -- limit.
-  nests_run : (n : ℕ) → AllNested p trees n
+  pub nests_run : (n : ℕ) → AllNested p trees n
   nests_run zero k heard b out w deep within = absurd (omega (arith, deep, within))
   nests_run (suc n) (macro_of id m given) heard b out w deep within =
       macro_runs n id (slice_get (stream_macros (trees id)) m) (slice_get (entries (p.code id)) m) (all_entered id m) given
@@ -528,7 +527,7 @@ module _ (p : Program) (trees : Trees) (compiled : IsUnnumbered trees p) where
       chain_runs n (nests_run n) (names_left p.host w) id heard b out w deep (omega arith)
 
   -- And so does any run that has levels enough, from any world, heard or not.
-  level_runs : (n : ℕ) (k : Callee) (heard : Bool) (b : Bed) (out : List ℕ) (w : World) → HasLevels p.host (suc n) w →
+  pub level_runs : (n : ℕ) (k : Callee) (heard : Bool) (b : Bed) (out : List ℕ) (w : World) → HasLevels p.host (suc n) w →
       Entered p k heard b out w (nests_of p.host trees (suc n) k heard out w)
   level_runs n (macro_of id m given) heard b out w deep =
       macro_runs n id (slice_get (stream_macros (trees id)) m) (slice_get (entries (p.code id)) m) (all_entered id m) given
@@ -537,119 +536,8 @@ module _ (p : Program) (trees : Trees) (compiled : IsUnnumbered trees p) where
       chain_runs n (nests_run n) (names_left p.host w) id heard b out w deep (omega arith)
 
   -- A render's run comes to what its trees mean.
-  unnumbered_render : (b : Bed) (w : World) → Entered p (whole w.stream) true b [] w (rendered p.host trees w)
+  pub unnumbered_render : (b : Bed) (w : World) → Entered p (whole w.stream) true b [] w (rendered p.host trees w)
   unnumbered_render b w =
       let e : suc p.host.limit ≡ p.host.limit + 1 = omega arith in
       subst (λ n. Entered p (whole w.stream) true b [] w (nests_of p.host trees n (whole w.stream) true [] w)) e
       (level_runs p.host.limit (whole w.stream) true b [] w (omega arith))
-
--- ---------------------------------------------------------------- over any captures
-unheard_end : (e : Ending) (out : List ℕ) (w : World) → bed_end e air out w ≡ final out (end_by e [] w)
-unheard_end (done vs) out w = refl
-unheard_end leave out w = refl
-unheard_end next out w = refl
-unheard_end (fault chain) out w = refl
-
-captured_end : (e : Ending) (h : Bool) (told : List ℕ) (ks : List OpenCapture) (out : List ℕ) (w : World) →
-    bed_end e (inside h told ks) out w ≡ final told (end_by e (record { heard = h; text = out } ∷ ks) w)
-captured_end (done vs) h told ks out w = refl
-captured_end leave h told ks out w = refl
-captured_end next h told ks out w = refl
-captured_end (fault chain) h told ks out w = refl
-
-unnumbered_comes : (trees : Trees) (p : Program) (n : ℕ) (k : Callee) (heard : Bool) (captures : List OpenCapture)
-    (told : List ℕ) (w : World) → IsUnnumbered trees p → HasLevels p.host (suc n) w →
-    RunsTo p k heard captures told w (final_in captures told (nests_of p.host trees (suc n) k heard (text_in captures told) w))
-unnumbered_comes trees p n k heard [] told w compiled enough =
-    let o = nests_of p.host trees (suc n) k heard told w in
-    subst (λ e. RunsTo p k heard [] told w e) (unheard_end o.ending o.text o.world)
-    (level_runs p trees compiled n k heard air told w enough)
-unnumbered_comes trees p n k heard (c ∷ ks) told w compiled enough =
-    let o = nests_of p.host trees (suc n) k heard c.text w in
-    subst (λ e. RunsTo p k heard (c ∷ ks) told w e) (captured_end o.ending c.heard told ks o.text o.world)
-    (level_runs p trees compiled n k heard (inside c.heard told ks) c.text w enough)
-
--- ---------------------------------------------------------------- with cache numbers
-pub numbers_change_nothing : (p : Program) (k : Callee) (heard : Bool) (captures : List OpenCapture) (told : List ℕ) (w : World)
-    (end : Final) → HasNoCaches p → RunsTo p k heard captures told w end → RunsTo (with_numbers p) k heard captures told w end
-numbers_change_nothing p k heard captures told w end none run =
-    begins_too p.host p.code (λ s. numbered (p.code s)) (λ s. numbered_is (p.code s) (none s)) (base_of heard captures w) told k captures w
-    end run
-
--- the same streams before they have them
-abbrev unnumbered : Trees → Program → Program
-unnumbered trees p = record { host = p.host; code = λ s. unnumbered_of (trees s) }
-
-uncached : (trees : Trees) (s : StreamId) → AllUncached (unnumbered_of (trees s))
-uncached trees s =
-    let c = fragment_of (trees s) in
-    plain_uncached (whole_labels c) 0 c (tree_begins (trees s)).plain_code
-
-numbered_streams : (trees : Trees) (p : Program) → IsCompiled trees p → (s : StreamId) →
-    IsNumbered (unnumbered_of (trees s)) (p.code s)
-numbered_streams trees p compiled s =
-    let code = unnumbered_of (trees s) in
-    subst (λ c. IsNumbered code c) (sym (compiled s)) (numbered_is code (uncached trees s))
-
-once_numbered : (trees : Trees) (p : Program) (k : Callee) (heard : Bool) (captures : List OpenCapture) (told : List ℕ) (w : World)
-    (end : Final) → IsCompiled trees p → RunsTo (unnumbered trees p) k heard captures told w end → RunsTo p k heard captures told w end
-once_numbered trees p k heard captures told w end compiled run =
-    begins_too p.host (λ s. unnumbered_of (trees s)) p.code (numbered_streams trees p compiled) (base_of heard captures w) told k
-    captures w end run
-
-pub nested_comes_to_meaning : (trees : Trees) (p : Program) (n : ℕ) (k : Callee) (heard : Bool) (captures : List OpenCapture)
-    (told : List ℕ) (w : World) → IsCompiled trees p → HasLevels p.host (suc n) w →
-    RunsTo p k heard captures told w (final_in captures told (nests_of p.host trees (suc n) k heard (text_in captures told) w))
-nested_comes_to_meaning trees p n k heard captures told w compiled enough =
-    once_numbered trees p k heard captures told w _ compiled
-    (unnumbered_comes trees (unnumbered trees p) n k heard captures told w (λ s. refl) enough)
-
--- Fragment comes to one end, whatever the levels.
-pub same_with_levels : (host : HostValue) (trees : Trees) (n m : ℕ) (k : Callee) (heard : Bool) (out : List ℕ) (w : World) →
-    HasLevels host (suc n) w → HasLevels host (suc m) w →
-    final_of (nests_of host trees (suc n) k heard out w) ≡ final_of (nests_of host trees (suc m) k heard out w)
-same_with_levels host trees n m k heard out w enough also =
-    let p : Program = record { host = host; code = λ s. code_of (trees s) } in
-    let compiled : IsCompiled trees p = λ s. refl in
-    one_end (nested_comes_to_meaning trees p n k heard [] out w compiled enough)
-    (nested_comes_to_meaning trees p m k heard [] out w compiled also)
-
--- A stream and its parents come to one end, over as many names as there are left or more.
-pub same_with_names : (host : HostValue) (trees : Trees) (n m k : ℕ) (s : StreamId) (heard : Bool) (out : List ℕ) (w : World) →
-    HasLevels host (suc n) w → names_left host w ≤ m → names_left host w ≤ k →
-    let nests = nests_of host trees n in
-    final_of (run_of host nests trees m s (new_run heard w) out w) ≡ final_of (run_of host nests trees k s (new_run heard w) out w)
-same_with_names host trees n m k s heard out w enough left also =
-    let p : Program = record { host = host; code = λ r. unnumbered_of (trees r) } in
-    let nests = nests_of host trees n in
-    let o = run_of host nests trees m s (new_run heard w) out w in
-    let q = run_of host nests trees k s (new_run heard w) out w in
-    sym (unheard_end o.ending o.text o.world)
-    ∙ one_end (chain_runs p trees (λ r. refl) n (nests_run p trees (λ r. refl) n) m s heard air out w enough left)
-    (chain_runs p trees (λ r. refl) n (nests_run p trees (λ r. refl) n) k s heard air out w enough also)
-    ∙ unheard_end q.ending q.text q.world
-
--- ---------------------------------------------------------------- renders
--- A render's run comes to what its trees mean, heard by the writer or by captures.
-pub render_runs : (p : Program) (trees : Trees) → IsCompiled trees p → (b : Bed) (w : World) →
-    Entered p (whole w.stream) true b [] w (rendered p.host trees w)
-render_runs p trees compiled b w =
-    once_numbered trees p (whole w.stream) true (captures_of b []) (told_by b []) w _ compiled
-    (unnumbered_render (unnumbered trees p) trees (λ s. refl) b w)
-
-pub comes_to_meaning : (trees : Trees) (p : Program) (w : World) → IsCompiled trees p → Renders p w (final_of (rendered p.host trees w))
-comes_to_meaning trees p w compiled =
-    let o = rendered p.host trees w in
-    subst (λ e. Renders p w e) (unheard_end o.ending o.text o.world) (render_runs p trees compiled air w)
-
-not_stuck_by : (e : Ending) (w left : World) → end_by e [] w ≡ Stuck left → ⊥
-not_stuck_by (done vs) w left e = cc
-not_stuck_by leave w left e = cc
-not_stuck_by next w left e = cc
-not_stuck_by (fault chain) w left e = cc
-
-pub never_stuck : (trees : Trees) (p : Program) (w left : World) (got : List ℕ) → IsCompiled trees p →
-    Renders p w (final got (Stuck left)) → ⊥
-never_stuck trees p w left got compiled reached =
-    let o = rendered p.host trees w in
-    not_stuck_by o.ending o.world left (ap (λ (f : Final). f.end) (one_end (comes_to_meaning trees p w compiled) reached))

@@ -38,14 +38,15 @@ use Rattle.tm_meaning.specs.Instructions.{replacing, awaiting}
 use Rattle.tm_meaning.specs.Instructions.{looping}
 use Rattle.tm_simulation.specs.Kept.{shapes}
 use Rattle.tm_syntax.specs.Loops.{Numbers, loops_before, passes, within_loop, past, pasts}
-use Rattle.tm_simulation.proofs.Counts.{Counts, counts_behind, of_number, one_marked}
+use Rattle.tm_simulation.proofs.Entries.{Counts, counts_behind, of_number, one_marked}
 use Rattle.tm_syntax.proofs.Standing.{AtWhere}
 use Rattle.tm_simulation.proofs.Begins.{after_none}
 use Rattle.tm_simulation.proofs.TreeLoops.{expr_loopless, target_loopless, assignments_loopless, found, iterable_begins, statement_begins}
 use Rattle.tm_simulation.proofs.TreeLoops.{statements_begin, call_has}
 use Rattle.tm_simulation.proofs.Loops.{new_record}
 use Rattle.tm_simulation.proofs.Advances.{Kept, kept_top, kept_frames, kept_same, kept_then, kept_popped}
-use Rattle.tm_simulation.proofs.Advances.{mark_behind, in_loop_of, opened, opened_kept, within}
+use Rattle.tm_simulation.proofs.Advances.{within}
+use Rattle.tm_simulation.proofs.RunAdvances.{mark_behind, in_loop_of, opened, opened_kept}
 use Rattle.tm_simulation.proofs.Gives.{loop_ends, tick_gives}
 use Rattle.tm_simulation.proofs.Asks.{escape_gives}
 use Rattle.tm_simulation.proofs.Asks.{innermost_asks, super_asks}

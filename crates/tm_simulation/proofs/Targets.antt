@@ -34,7 +34,7 @@ use Rattle.tm_meaning.specs.Machine.{stuck}
 use Rattle.tm_meaning.specs.Instructions.{is_no_loop}
 use Rattle.tm_syntax.proofs.Standing.{HasAt}
 use Rattle.tm_syntax.specs.Loops.{Numbers}
-use Rattle.tm_simulation.proofs.Counts.{Counts}
+use Rattle.tm_simulation.proofs.Entries.{Counts}
 use Rattle.tm_simulation.proofs.Advances.{Kept, kept_top, kept_frames, kept_then, kept_popped}
 use Rattle.tm_simulation.proofs.Advances.{within}
 use Rattle.tm_simulation.proofs.Advances.{kept_unescaped}

@@ -57,7 +57,8 @@ use Rattle.tm_syntax.specs.Code.{included_code, lookups_code, stores_code}
 use Rattle.tm_syntax.specs.Code.{branches_code, after_loop_code, filters_code, use_code, default_code, parameters_code, macro_head}
 use Rattle.tm_syntax.proofs.Standing.{HasAt, At}
 use Rattle.std.specs.Prelude.{codes}
-use Rattle.tm_simulation.proofs.Counts.{NoneBegins, Loopless, Counts, one_loop_more, counted_none, Has, it, front, back}
+use Rattle.tm_simulation.proofs.Counts.{NoneBegins, Loopless, one_loop_more, counted_none, Has, it, front, back}
+use Rattle.tm_simulation.proofs.Entries.{Counts}
 use Rattle.tm_simulation.proofs.Begins.{Begins, IsLoop, IsMacro, both_begin, loop_begins, macro_begins, none_begin, after_none}
 use Rattle.tm_simulation.proofs.Begins.{before_none, over_begins, either_begins, one_part_begins}
 

@@ -9,7 +9,7 @@ use Rattle.tm_meaning.specs.World.{own_closure, owning}
 use Rattle.tm_meaning.specs.Calls.{Asked, runs, cut_to, block_call, macro_call, Undo, of_block, of_super, of_macro, of_include, Callee, whole}
 use Rattle.tm_meaning.specs.Calls.{macro_of, outermost}
 use Rattle.tm_meaning.specs.Inheritance.{place_in}
-use Rattle.tm_meaning.specs.Meaning.{first_fuel}
+use Rattle.tm_meaning.specs.Runs.{first_fuel}
 use Rattle.tm_meaning.specs.declared.stream.TemplateId.{TemplateId}
 use Rattle.tm_meaning.specs.declared.stream.StreamId.{StreamId}
 use Rattle.tm_syntax.specs.declared.instruction.LoopFlags.{LoopFlags}

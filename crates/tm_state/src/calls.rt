@@ -45,6 +45,7 @@ impl StateData {
     /// call or a `super()` needs; what a function keeps is kept, also where it answers a fault. UnknownFunction where the name isn't found,
     /// InvalidOperation where its value can't be called, or not there or so, or a context value on the way
     /// can't be known, and what the function refuses.
+    #[inline(always)]
     pub fn call<H: Host>(
         &mut self,
         alloc: Global,
@@ -63,6 +64,7 @@ impl StateData {
     }
 
     /// The same of a name that is looked up.
+    #[inline(always)]
     fn call_looked_up<H: Host>(
         &mut self,
         alloc: Global,
@@ -77,11 +79,14 @@ impl StateData {
         let Some(found) = self.lookup(host, name)? else {
             return Err(Error::from(ErrorKind::UnknownFunction));
         };
-        if let Node::Loop(state, number) = &found.node {
-            let recursion = self.call_found(alloc, host, *state, *number, args)?;
-            return Ok(CallResult::Recursion(recursion));
+        match &found.node {
+            Node::Loop(state, number) => {
+                let recursion = self.call_found(alloc, host, *state, *number, args)?;
+                Ok(CallResult::Recursion(recursion))
+            }
+            Node::Macro(declared) => self.call_macro(alloc, host, declared, args),
+            _ => self.call_value(alloc, host, &found, args),
         }
-        self.call_value(alloc, host, &found, args)
     }
 
     /// What the value of a name gives for these arguments, which is called as a value, or the run that it needs; what a
@@ -343,6 +348,7 @@ impl StateData {
     }
 
     /// The run of a macro that is called with these arguments.
+    #[inline(always)]
     #[tactic(auto, using(crate::proofs::Answered::macro_needed))]
     fn call_macro<H: Host>(
         &mut self,

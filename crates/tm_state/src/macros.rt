@@ -10,7 +10,6 @@ ghost use Rattle.tm_values.specs.Answer.{OkOrOutOfMemory};
 
 use crate::bound::{bind, given_caller, takes_caller};
 use crate::nested::{NestedRun, RunOf};
-use crate::saved::{Saved, SavedMacro};
 use crate::state::StateData;
 use std::alloc::Global;
 use std::rc::RcStr;
@@ -113,6 +112,7 @@ impl StateData {
     /// this. InvalidOperation where the macro is another state's, its stream or its closure isn't there, or its scopes
     /// would lie deeper than the limit, TooManyArguments where the values don't fit its arguments; OutOfMemory. Then the
     /// state stays as it was.
+    #[inline(always)]
     pub(crate) fn macro_run<H: Host>(
         &mut self,
         alloc: Global,
@@ -131,20 +131,25 @@ impl StateData {
         ensures unchanged { OnErr result (self.new ≡ self.old) }
         ensures kept { KeepsFixedAndNames self.old self.new }
     {
-        let (stream, given, saved) = self.enter_macro(alloc, host, declared, args, levels)?;
-        let run = NestedRun {
-            run: RunOf::Macro(stream, declared.entry(), given),
-            heard: true,
-            value: true,
-            text,
-            wrap: None,
-            saved: Saved::Macro(saved),
-        };
-        self.boxed(alloc, run)
+        let mut entry = self.macro_box(alloc)?;
+        self.enter_macro(alloc, host, declared, args, levels, text, &mut *entry)?;
+        Ok(entry)
     }
 
-    /// Enters a macro that is called with these values, and gives its stream, its arguments, and what is put back behind
-    /// it. As `macro_run`; then the state stays as it was.
+    /// A box for a macro's run, one that was kept or a new one. Fails by OutOfMemory alone.
+    fn macro_box(&mut self, alloc: Global) -> Result<Box<NestedRun>, Error>
+        ensures unchanged { self.new ≡ self.old }
+        ensures kind { IfErr result (λ e. e ≡ ErrorKind.OutOfMemory ∷ []) }
+    {
+        match self.rooms.take_run() {
+            Some(kept) => Ok(kept),
+            None => NestedRun::of_no_macro(alloc).boxed(alloc),
+        }
+    }
+
+    /// Enters a macro that is called with these values, and writes its run, with what is put back behind it, into an
+    /// entry. As `macro_run`; then the state stays as it was.
+    #[inline(always)]
     fn enter_macro<H: Host>(
         &mut self,
         alloc: Global,
@@ -152,13 +157,13 @@ impl StateData {
         declared: &Macro,
         args: &[Value],
         levels: usize,
-    ) -> Result<(StreamId, Vec<Value>, SavedMacro), Error>
-        ensures ok { IfOk result (λ r. (r.2 ≡ saved_scopes self.old)
-            × (enter_macro levels (H.meaning host.now) declared.now args.now self.old
-            ≡ runs_macro r.0 declared.now r.1.items self.old self.new)) }
-        ensures deeper { OnOk result ((length self.new.scopes.frames ≡ 2)
-            × (depth self.old.scopes + 1 ≤ depth self.new.scopes)
-            × (depth self.new.scopes ≤ (H.meaning host.now).limit)) }
+        text: RunText,
+        entry: &mut NestedRun,
+    ) -> Result<(), Error>
+        ensures ok { OnOk result (NeedsMacro text entry.new (enter_macro levels
+            (H.meaning host.now) declared.now args.now self.old) self.old self.new) }
+        ensures deeper { OnOk result
+            (CallDeeper (H.meaning host.now).limit entry.new.saved self.old self.new) }
         ensures err { IfErr result (λ e. is_want_of_memory e ≡ false → enter_macro levels
             (H.meaning host.now) declared.now args.now self.old ≡ refused e self.old) }
         ensures unchanged { OnErr result (self.new ≡ self.old) }
@@ -183,8 +188,10 @@ impl StateData {
         let context = self.macro_scopes(alloc, declared, args, outer)?;
         let running = stream.share()?;
         let lists = self.lists.copy(alloc)?;
+        let run = RunOf::Macro(stream, declared.entry(), given);
         let saved = self.run_macro(running, context, lists);
-        Ok((stream, given, saved))
+        entry.refill(run, text, saved);
+        Ok(())
     }
 
     /// The stream of a macro, where that and the macro's closure are there. InvalidOperation where they aren't;

@@ -1,11 +1,13 @@
 //! A run that is needed before the next instruction.
-ghost use Rattle.std.specs.Prelude.{◌≡◌, [], ◌∷◌, IfOk, IfErr};
+ghost use Rattle.std.specs.Prelude.{◌≡◌, [], ◌∷◌, IfOk, IfErr, None, true};
+ghost use Rattle.tm_state.specs.declared.saved.Saved.TheVariants.{Macro};
 
-use crate::saved::Saved;
+use crate::saved::{Saved, SavedMacro};
 use std::alloc::Global;
 use std::mem;
 use tm_meaning::{RunText, StreamId, TemplateId, Wrapping};
-use tm_values::{Error, ErrorKind, Value};
+use tm_tables::{Context, Lists};
+use tm_values::{AutoEscape, Error, ErrorKind, Value};
 
 /// What runs.
 #[derive(Drop)]
@@ -42,6 +44,48 @@ impl NestedRun {
     {
         let own = StreamId::root(TemplateId::Own);
         mem::replace(&mut self.run, RunOf::Stream(own))
+    }
+
+    /// What stands for a macro's run before one is entered.
+    pub(crate) fn of_no_macro(alloc: Global) -> NestedRun {
+        let saved = SavedMacro {
+            context: Context::new(alloc),
+            stream: StreamId::root(TemplateId::Own),
+            block: None,
+            escape: AutoEscape::None,
+            lists: Lists::new(alloc),
+        };
+        NestedRun {
+            run: RunOf::Stream(StreamId::root(TemplateId::Own)),
+            heard: true,
+            value: true,
+            text: RunText::Captured,
+            wrap: None,
+            saved: Saved::Macro(saved),
+        }
+    }
+
+    /// The run of a macro, whose text is a value, in place of one that is over.
+    #[inline(always)]
+    pub(crate) fn refill(&mut self, run: RunOf, text: RunText, saved: SavedMacro)
+        ensures { self.new ≡ record {
+          run = run;
+          heard = true;
+          value = true;
+          text = text;
+          wrap = None;
+          saved = Macro saved;
+        } }
+    {
+        self.run = run;
+        self.heard = true;
+        self.value = true;
+        self.text = text;
+        self.wrap = None;
+        match &mut self.saved {
+            Saved::Macro(before) => *before = saved,
+            _ => self.saved = Saved::Macro(saved),
+        }
     }
 
     /// This, boxed; OutOfMemory where there is no memory for it.

@@ -1,15 +1,17 @@
 //! Rooms of what is over, which are used again.
 ghost use Rattle.std.specs.Prelude.{◌≡◌, []};
 
+use crate::nested::NestedRun;
 use std::alloc::Global;
 use tm_tables::Context;
 use tm_values::Value;
 
-/// Rooms of what is over, which hold nothing. No contract sees them.
+/// Rooms of what is over, which hold no values. No contract sees them.
 #[derive(Drop)]
 pub(crate) struct Rooms {
     scopes: Vec<Context>,
     operands: Vec<Vec<Value>>,
+    runs: Vec<Box<NestedRun>>,
 }
 
 impl Rooms {
@@ -18,7 +20,13 @@ impl Rooms {
         Rooms {
             scopes: Vec::new(alloc),
             operands: Vec::new(alloc),
+            runs: Vec::new(alloc),
         }
+    }
+
+    /// The allocator of the rooms.
+    pub(crate) fn allocator(&self) -> Global {
+        *self.runs.allocator()
     }
 
     /// The room of a macro's scopes, where one is there.
@@ -51,5 +59,17 @@ impl Rooms {
     pub(crate) fn keep_operands(&mut self, mut values: Vec<Value>) {
         values.clear();
         let _kept = self.operands.push(values);
+    }
+
+    /// The box of a macro's run that is over, where one is there.
+    #[inline(always)]
+    pub(crate) fn take_run(&mut self) -> Option<Box<NestedRun>> {
+        self.runs.pop()
+    }
+
+    /// Keeps the box of a macro's run that is over, where there is memory for that.
+    #[inline(always)]
+    pub(crate) fn keep_run(&mut self, run: Box<NestedRun>) {
+        let _kept = self.runs.push(run);
     }
 }

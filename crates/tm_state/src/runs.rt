@@ -154,6 +154,7 @@ impl StateData {
     }
 
     /// Lets a macro run in scopes of its own, and gives what that replaces, with a second owner of the lists.
+    #[inline(always)]
     pub(crate) fn run_macro(
         &mut self,
         stream: StreamId,
@@ -207,6 +208,18 @@ impl StateData {
         }
     }
 
+    /// The same of what the run in a box replaced. The box of a macro's run is kept for another one.
+    pub fn put_back_of(&mut self, mut run: Box<NestedRun>)
+        ensures { self.new ≡ put_back run.value.saved self.old }
+    {
+        let saved = match &mut run.saved {
+            Saved::Macro(saved) => saved,
+            saved => return self.put_back(saved),
+        };
+        self.leave_macro(saved);
+        self.rooms.keep_run(run);
+    }
+
     /// Leaves the scopes that a block opened, and puts back what it replaced.
     #[inline(always)]
     fn leave_block(&mut self, saved: &mut SavedBlock)
@@ -242,7 +255,9 @@ impl StateData {
         mem::swap(&mut self.stream, stream);
         mem::swap(&mut self.block, block);
         self.escape = *escape;
-        mem::swap(&mut self.lists, lists);
+        // Nothing that is kept owns lists.
+        let none = Lists::new(self.rooms.allocator());
+        self.lists = mem::replace(lists, none);
     }
 
     /// Leaves the scopes that an include opened, and puts back what it replaced. Names that it gave stay.

@@ -119,6 +119,7 @@ impl Frame {
 
     /// A scope over a context value, which reads a closure where one is given, without names of its own. It keeps the
     /// room of its names.
+    #[inline(always)]
     pub(crate) fn renew(&mut self, context: Value, reads: Option<usize>)
         ensures { self.new ≡ record (plain_scope context) { reads = reads } }
     {

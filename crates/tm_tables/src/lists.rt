@@ -21,6 +21,7 @@ use tm_values::{Error, ErrorKind};
 
 impl NameTable<usize> {
     /// The same places. AllocError for want of memory.
+    #[inline(always)]
     fn copy(&self, alloc: Global) -> Result<NameTable<usize>, AllocError>
         ensures { IfOk result (λ copy. copy ≡ self.now) }
     {
@@ -244,6 +245,7 @@ impl Lists {
     }
 
     /// The same lists and names, which are shared, and a copy of the places. Fails by OutOfMemory alone.
+    #[inline(always)]
     pub fn copy(&self, alloc: Global) -> Result<Lists, Error>
         ensures { OkOrOutOfMemory result (λ copy. copy ≡ self.now) }
     {

@@ -19,6 +19,7 @@ use tm_values::{Error, ErrorKind, Value};
 
 impl Machine {
     /// Replaces so many values by what the function of a name answers to them, or by the text of the loop that it calls.
+    #[inline(never)]
     pub(crate) fn do_call_function<H: Host>(
         &mut self,
         alloc: Global,
@@ -41,6 +42,7 @@ impl Machine {
     }
 
     /// The same of so many values.
+    #[inline(always)]
     fn call_function<H: Host>(
         &mut self,
         alloc: Global,
@@ -65,6 +67,7 @@ impl Machine {
 
     /// Goes on behind a call of so many values: its value replaces them, or the text of the loop or of the run that
     /// it needs will.
+    #[inline(always)]
     fn go_on_with<H: Host>(
         &mut self,
         alloc: Global,
@@ -110,7 +113,7 @@ impl Machine {
 
     /// Goes on behind a run, whose text is a value in place of so many operands. OutOfMemory where there is no memory
     /// for its capture; then what the run replaced is put back.
-    #[inline(never)]
+    #[inline(always)]
     fn enter_as_value(
         &mut self,
         alloc: Global,

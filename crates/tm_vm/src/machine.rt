@@ -174,6 +174,7 @@ impl Machine {
         let run = nested.take_run();
         let wrap = nested.wrap;
         let value = nested.value;
+        let text = nested.text;
         let Some(waiting) = self.begin(alloc, host, run) else {
             self.put_back(&mut nested.saved);
             let refusal = Halt::Fault(Error::from(ErrorKind::InvalidOperation));
@@ -181,17 +182,18 @@ impl Machine {
         };
         let result = self.run(alloc, host, nested.heard, writer);
         self.resume(alloc, waiting);
-        self.put_back(&mut nested.saved);
+        self.put_back_of(entry);
         if let Err(halt) = result {
             return Err(wrapped(alloc, wrap, halt));
         }
         if value {
-            return self.push_captured(alloc, nested.text);
+            return self.push_captured(alloc, text);
         }
         Ok(())
     }
 
     /// Puts the innermost capture's text on top, as such a value; stuck where no capture is open.
+    #[inline(always)]
     pub(crate) fn push_captured(&mut self, alloc: Global, kind: RunText) -> Result<(), Halt>
         ensures captured { IsCaptured kind result self.old self.new }
         ensures same_world { self.new.world ≡ self.old.world }
@@ -251,6 +253,14 @@ impl Machine {
         ensures { self.new ≡ record self.old { world = put_back saved.old self.old.world } }
     {
         self.state.put_back(saved);
+    }
+
+    /// The same of what the run in a box replaced.
+    #[inline(always)]
+    fn put_back_of(&mut self, entry: Box<NestedRun>)
+        ensures { self.new ≡ record self.old { world = put_back entry.value.saved self.old.world } }
+    {
+        self.state.put_back_of(entry);
     }
 
     /// The instructions of the run's stream.

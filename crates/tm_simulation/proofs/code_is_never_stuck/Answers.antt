@@ -1,4 +1,4 @@
-use Rattle.tm_simulation.proofs.Simulation.{never_stuck}
+use Rattle.tm_simulation.proofs.Renders.{never_stuck}
 use Rattle.tm_simulation.proofs.code_is_never_stuck.Goals as goal
 
 pub returns : goal.returns

@@ -1,4 +1,4 @@
-use Rattle.tm_simulation.proofs.Simulation.{same_with_levels}
+use Rattle.tm_simulation.proofs.Renders.{same_with_levels}
 use Rattle.tm_simulation.proofs.levels_change_no_meaning.Goals as goal
 
 pub returns : goal.returns

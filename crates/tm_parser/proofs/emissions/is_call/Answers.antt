@@ -2,7 +2,7 @@ use Rattle.std.proofs.Common.{false, sym, ap, ◌∙◌}
 use Rattle.tm_parser.specs.Statements as spec
 use Rattle.tm_syntax.specs.declared.tree.Argument.TheBlock.{hidden-the_row-Step-5 as row_of_steps}
 use Rattle.tm_parser.proofs.Calls.{is_call_of_chain}
-use Rattle.tm_parser.proofs.statements.is_call.Goals as goal
+use Rattle.tm_parser.proofs.emissions.is_call.Goals as goal
 
 pub returns-in-Chain : goal.returns-in-Chain
 returns-in-Chain c =

@@ -1,6 +1,6 @@
 use Rattle.std.proofs.Common.{arith}
 use Rattle.tm_parser.proofs.Calls.{calls_of_loop}
-use Rattle.tm_parser.proofs.statements.is_call_of_loop.Goals as goal
+use Rattle.tm_parser.proofs.emissions.is_call_of_loop.Goals as goal
 
 pub returns-then-not-is_empty : goal.returns-then-not-is_empty
 returns-then-not-is_empty c = grind (arith, calls_of_loop)

@@ -1,7 +1,7 @@
 use Rattle.std.proofs.Common.{◌≡◌, drop, false}
 use Rattle.tm_syntax.specs.declared.tree.Argument.TheBlock.{hidden-the_row-Step-5 as row_of_steps}
 use Rattle.tm_parser.specs.Statements.{last_calls}
-use Rattle.tm_parser.proofs.statements.ends_in_call.Given as goal
+use Rattle.tm_parser.proofs.emissions.ends_in_call.Given as goal
 
 abbrev pub invariant-loop-step : goal.invariant-loop-step
 invariant-loop-step l = last_calls l.last (row_of_steps (drop l.step-index l.steps)) ≡ last_calls false (row_of_steps l.steps)

@@ -1,7 +1,7 @@
 use Rattle.std.proofs.Common.{sym, ap, ◌∙◌}
 use Rattle.tm_parser.specs.Statements as spec
 use Rattle.tm_parser.proofs.Calls.{called_with, is_called, not_spread, plain-form, spread-form}
-use Rattle.tm_parser.proofs.statements.emit_value.Goals as goal
+use Rattle.tm_parser.proofs.emissions.emit_value.Goals as goal
 
 pub unreachable-requires-in_default-pop : goal.unreachable-requires-in_default-pop
 unreachable-requires-in_default-pop c =

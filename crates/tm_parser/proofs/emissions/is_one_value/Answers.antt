@@ -1,5 +1,5 @@
 use Rattle.tm_parser.proofs.Calls.{not_one, one}
-use Rattle.tm_parser.proofs.statements.is_one_value.Goals as goal
+use Rattle.tm_parser.proofs.emissions.is_one_value.Goals as goal
 
 pub returns-then-given-ne1 : goal.returns-then-given-ne1
 returns-then-given-ne1 c = not_one c.args.given.now c.if-given-ne1.true

@@ -1,6 +1,6 @@
 use Rattle.std.proofs.lemmas.List.{drop_all}
 use Rattle.tm_parser.proofs.Calls.{one_more, no_more}
-use Rattle.tm_parser.proofs.statements.ends_in_call.Goals as goal
+use Rattle.tm_parser.proofs.emissions.ends_in_call.Goals as goal
 
 pub loop-step-preserved : goal.loop-step-preserved
 loop-step-preserved c =

@@ -1,0 +1,176 @@
+//! What is emitted in place, and what is a call.
+ghost use Rattle.std.specs.Prelude.{◌≡◌, ◌++◌, [], ◌∷◌, false, is_some, MatchResult};
+ghost use Rattle.tm_parser.specs.Statements as spec;
+ghost use Rattle.tm_parser.specs.Statements.{body};
+ghost use Rattle.tm_parser.specs.Statements.{statement};
+ghost use Rattle.tm_syntax.specs.declared.tree.Stmt.TheVariants.{EmitExpr};
+ghost use Rattle.tm_values.specs.declared.error.ErrorKind.TheVariants.{OutOfMemory};
+ghost use Rattle.tm_syntax.specs.declared.tree.Argument.TheBlock.{hidden-the_row-Step-5 as row_of_steps};
+ghost use Rattle.tm_syntax.specs.declared.tree.Argument.TheBlock.{hidden-the_row-Argument-3 as row_of_arguments};
+ghost use Rattle.tm_syntax.specs.declared.tree.Argument.TheBlock.{hidden-the_row-Keyword-4 as row_of_keywords};
+
+use crate::lists::with_one;
+use sqlite_items::{Boxed, Items};
+use tm_syntax::{Application, Argument, Expr, Keyword, Step, Stmt};
+use tm_values::Error;
+
+/// Statements with one more that emits a value. OutOfMemory for want of memory.
+#[inline(always)]
+pub(crate) fn with_emission(body: Items<Stmt>, value: Boxed<Expr>) -> Result<Items<Stmt>, Error>
+    ensures { MatchResult result
+        (λ items. items ≡ body ++ spec.emit_statement value ∷ [])
+        (λ e. e ≡ OutOfMemory ∷ []) }
+{
+    if is_call_of_name(value.get()) {
+        return with_one(body, emit_statement(value)?);
+    }
+    with_one(body, Stmt::EmitExpr(value))
+}
+
+/// Whether an expression is the call of a name or of a block: what may be emitted in place.
+#[inline(always)]
+#[tactic(auto, unfolding(crate::specs::Statements::loop_argument, crate::specs::Statements::calls_super))]
+fn is_call_of_name(expr: &Expr) -> bool
+    ensures { result ≡ false → spec.emit_statement expr.now ≡ EmitExpr expr.now }
+{
+    match expr {
+        Expr::SelfBlock(_) | Expr::Call(_, _, _) => true,
+        _ => false,
+    }
+}
+
+/// The statement that emits a value: a block, `super()` and `loop(..)` write in place. OutOfMemory
+/// where the name of a block can have no second owner.
+#[inline(never)]
+#[tactic(auto, unfolding(crate::specs::Statements::calls_super))]
+pub(crate) fn emit_statement(value: Boxed<Expr>) -> Result<Stmt, Error>
+    ensures { MatchResult result
+        (λ statement. statement ≡ spec.emit_statement value)
+        (λ e. e ≡ OutOfMemory ∷ []) }
+{
+    if let Expr::SelfBlock(name) = value.get() {
+        return Ok(Stmt::EmitBlock(name.share()?));
+    }
+    if is_call_of_super(value.get()) {
+        return Ok(Stmt::EmitSuper);
+    }
+    Ok(emit_value(value))
+}
+
+/// Whether an expression is the call of `super` with nothing.
+#[tactic(auto, unfolding(crate::specs::Statements::calls_super))]
+fn is_call_of_super(expr: &Expr) -> bool
+    ensures { result ≡ spec.calls_super expr.now }
+{
+    match expr {
+        Expr::Call(name, given, named) => {
+            name.is("super") && is_nothing(given.as_slice(), named.as_slice())
+        }
+        _ => false,
+    }
+}
+
+/// Whether a call is passed nothing.
+#[tactic(auto, using(crate::proofs::Calls::nothing_passed))]
+fn is_nothing(given: &[Argument], named: &[Keyword]) -> bool
+    ensures { result ≡ spec.is_nothing (row_of_arguments given.now) (row_of_keywords named.now) }
+{
+    given.is_empty() && named.is_empty()
+}
+
+/// The statement that emits a value: a call of the innermost loop where it is one.
+#[tactic(auto, unfolding(crate::specs::Statements::loop_argument))]
+fn emit_value(value: Boxed<Expr>) -> Stmt
+    ensures { result ≡ spec.emit_value value }
+{
+    if !is_call_of_loop(value.get()) {
+        return Stmt::EmitExpr(value);
+    }
+    let Expr::Call(_, mut given, _) = value.into_inner() else {
+        unreachable!()
+    };
+    let Some(argument) = given.pop() else {
+        unreachable!()
+    };
+    let Argument::Plain(value) = argument else {
+        unreachable!()
+    };
+    Stmt::EmitLoop(value)
+}
+
+/// Whether an expression is the call of `loop` with one argument, by its place.
+#[tactic(auto, unfolding(crate::specs::Statements::loop_argument))]
+fn is_call_of_loop(expr: &Expr) -> bool
+    ensures { result ≡ is_some (spec.loop_argument expr.now) }
+{
+    match expr {
+        Expr::Call(name, given, named) => {
+            if !name.is("loop") {
+                return false;
+            }
+            if !named.is_empty() {
+                return false;
+            }
+            is_one_value(given.as_slice())
+        }
+        _ => false,
+    }
+}
+
+/// Whether these arguments are one value.
+fn is_one_value(given: &[Argument]) -> bool
+    ensures { result ≡ is_some (spec.only_one (row_of_arguments given.now)) }
+{
+    if given.len() != 1 {
+        return false;
+    }
+    is_plain(&given[0])
+}
+
+/// Whether an argument is a value.
+fn is_plain(argument: &Argument) -> bool
+    ensures { result ≡ spec.is_plain argument.now }
+{
+    match argument {
+        Argument::Plain(_) => true,
+        Argument::Spread(_) => false,
+    }
+}
+
+/// Whether an expression is the call of a name, of a block, of a method or of a value.
+pub fn is_call(expr: &Expr) -> bool
+    ensures { result ≡ spec.is_call expr.now }
+{
+    match expr {
+        Expr::Call(_, _, _) | Expr::SelfBlock(_) => true,
+        Expr::Chain(_, steps) => ends_in_call(steps.as_slice()),
+        Expr::Var(_)
+        | Expr::Const(_)
+        | Expr::List(_)
+        | Expr::Tuple(_)
+        | Expr::Map(_)
+        | Expr::Unary(_, _)
+        | Expr::Conditional(_, _) => false,
+    }
+}
+
+/// Whether the last of steps is a call; false where there is none.
+fn ends_in_call(steps: &[Step]) -> bool
+    ensures { result ≡ spec.last_calls false (row_of_steps steps.now) }
+{
+    let mut last = false;
+    for step in steps {
+        last = calls(step);
+    }
+    last
+}
+
+/// Whether a step is the call of a method or of a value.
+fn calls(step: &Step) -> bool
+    ensures { result ≡ spec.calls step.now }
+{
+    match step {
+        Step::Apply(Application::Method, _, _, _) | Step::Call(_, _) => true,
+        _ => false,
+    }
+}
