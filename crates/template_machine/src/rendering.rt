@@ -154,7 +154,7 @@ impl<O: Parties> Rendering<'_, O> {
     {
         let template = self.id()?;
         let own = self.own.compiled();
-        StateData::new(
+        let mut state = StateData::new(
             self.allocator(),
             id,
             template,
@@ -162,7 +162,20 @@ impl<O: Parties> Rendering<'_, O> {
             own.escape(),
             self.environment.fuel(),
             context,
-        )
+        )?;
+        state.set_template_place(self.place());
+        Ok(state)
+    }
+
+    /// Where the template stands in its environment, as a hint.
+    fn place(&self) -> usize {
+        let Some(name) = self.name else {
+            return NO_PLACE;
+        };
+        match self.environment.find_entry(NO_PLACE, name.as_str()) {
+            Some((place, _name, _template)) => place,
+            None => NO_PLACE,
+        }
     }
 
     /// Runs the stream that a state names, heard, over captures and a writer, and gives the captures that are left.
@@ -228,8 +241,8 @@ impl<O: Parties> Host for Rendering<'_, O> {
         self.environment.undefined_behavior()
     }
 
-    fn template_name(&self, template: &TemplateId) -> &str {
-        self.template(template).name()
+    fn template_name(&self, template: &TemplateId, place: usize) -> &str {
+        self.template_at(template, place).name()
     }
 
     fn template_escape(&self, template: &TemplateId) -> AutoEscape {

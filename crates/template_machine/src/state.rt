@@ -131,7 +131,8 @@ impl<'env, O: Parties> StateOf<'env, O> {
     pub fn name(&self) -> &str
         ensures { result.now ≡ name_of (host_of O.stated self.now.template) self.now.world }
     {
-        self.rendering.template_name(&self.kept.stream().template)
+        self.rendering
+            .template_name(&self.kept.stream().template, self.kept.template_place())
     }
 
     /// The template that a name means here: the environment's of the name that is joined to the running template's.

@@ -303,6 +303,22 @@ impl Stack {
         Ok(Some(self.values.split_off(held - count)?))
     }
 
+    /// Puts a value in the place of the topmost so many, or of all where there are fewer. Fails by OutOfMemory alone.
+    #[inline(always)]
+    pub fn replace_topmost(&mut self, count: usize, value: Value) -> Result<(), Error>
+        ensures ok { OnOk result (self.new ≡ value ∷ drop count self.old) }
+        ensures kind { IfErr result (λ e. e ≡ ErrorKind.OutOfMemory ∷ []) }
+    {
+        if count == 1 && !self.values.is_empty() {
+            drop(self.values.take_last());
+            // There is room where it was taken from.
+            self.values.push_reserved(value);
+            return Ok(());
+        }
+        self.remove(count);
+        self.push(value)
+    }
+
     /// Drops the topmost so many values, or all where there are fewer.
     pub fn remove(&mut self, count: usize)
         ensures { self.new ≡ drop count self.old }

@@ -16,6 +16,7 @@ impl StateData {
     /// What these values give that are passed to what a name stands for: the first one's method, a filter, or
     /// the truth of what a test answers. InvalidOperation for a method of no value, and what the call refuses.
     /// The place is a hint at where the filter or the test stands.
+    #[inline(always)]
     pub fn apply<H: Host>(
         &mut self,
         alloc: Global,
@@ -59,6 +60,7 @@ impl StateData {
     /// What the filter of a name gives for these values; what it keeps is kept, also where it answers a fault.
     /// UnknownFilter where there is none of that name, InvalidOperation for a further call beyond the limit, and the
     /// fault of what is called.
+    #[inline(always)]
     #[tactic(auto, using(crate::proofs::Answered::followed))]
     pub fn apply_filter<H: Host>(
         &mut self,
@@ -97,6 +99,7 @@ impl StateData {
     }
 
     /// What the filter of a name answers.
+    #[inline(always)]
     #[tactic(auto, using(crate::proofs::Answered::named))]
     pub(crate) fn filter_answer<H: Host>(
         &self,

@@ -120,7 +120,11 @@ impl StateData {
         if !host.joins_names() {
             return Ok(host.entry(name, self.template_place));
         }
-        let joined = host.joined_name(alloc, name, host.template_name(&self.stream.template))?;
+        let joined = host.joined_name(
+            alloc,
+            name,
+            host.template_name(&self.stream.template, self.template_place),
+        )?;
         Ok(host.entry(joined.as_str(), self.template_place))
     }
 

@@ -176,7 +176,11 @@ impl StateData {
         if waiting.is_some() || inside {
             return Err(Error::from(ErrorKind::InvalidOperation));
         }
-        host.joined_name(alloc, name, host.template_name(&self.stream.template))
+        host.joined_name(
+            alloc,
+            name,
+            host.template_name(&self.stream.template, self.template_place),
+        )
     }
 
     /// Loads the template of a name. InvalidOperation where that was loaded before, TemplateNotFound where there is none;

@@ -143,7 +143,7 @@ impl StateData {
             &self.loops,
             host.globals(),
             &self.temps,
-            host.template_name(&self.stream.template),
+            host.template_name(&self.stream.template, self.template_place),
             self.escape,
             host.undefined_behavior(),
         )
@@ -219,6 +219,9 @@ impl StateData {
         ensures kind { IfErr result (λ e. e ≡ ErrorKind.OutOfMemory ∷ []) }
         ensures rest { self.new ≡ record self.old { temps = self.new.temps } }
     {
+        if temps.is_empty() {
+            return Ok(());
+        }
         keep_each(&mut self.temps, temps)
     }
 
@@ -319,10 +322,17 @@ impl StateData {
         &self.stream
     }
 
-    /// Where the template stands that was included last, as a hint for the look-ups of a host.
+    /// Where the template stands that was rendered or included last, as a hint for the look-ups of a host.
     #[inline(always)]
     pub fn template_place(&self) -> usize {
         self.template_place
+    }
+
+    /// Takes a place as that hint.
+    pub fn set_template_place(&mut self, place: usize)
+        ensures { self.new ≡ self.old }
+    {
+        self.template_place = place;
     }
 
     /// How what is emitted is escaped.

@@ -36,8 +36,8 @@ pub trait Host {
     fn undefined_behavior(&self) -> UndefinedBehavior
         ensures { result ≡ (meaning self.now).undefined };
 
-    /// The name of a template.
-    fn template_name(&self, template: &TemplateId) -> &str
+    /// The name of a template, wherever it stands.
+    fn template_name(&self, template: &TemplateId, place: usize) -> &str
         ensures { result.now ≡ (template_at (meaning self.now) template.now).name };
 
     /// How what a template emits is escaped.

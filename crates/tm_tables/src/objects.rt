@@ -282,6 +282,7 @@ impl<C: Callable, M: Drop, F: Drop, R: Drop, J: Drop> Objects<C, M, F, R, J> {
 }
 
 /// What the object of a name answers, wherever it stands; none where there is none of that name.
+#[inline(always)]
 #[tactic(auto, using(crate::proofs::NamedObjects::stated))]
 fn named_answer<C: Callable>(
     objects: &NameTable<C>,

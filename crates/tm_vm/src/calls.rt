@@ -333,8 +333,9 @@ impl Machine {
         ensures { Silently (goes (value ∷ drop count self.old.run.operands) self.old.world self.old)
             self.old self.new result }
     {
-        self.run.operands.remove(count);
-        self.push_next(value)
+        self.run.operands.replace_topmost(count, value)?;
+        self.run.advance();
+        Ok(Flow::GoOn)
     }
 
     /// Runs the block of a name in place, where it is heard and no parent waits.

@@ -19,7 +19,7 @@ use tm_meaning::{Base, RunText, StreamId, TemplateId, Wrapping};
 use tm_parts::{Captures, Halt, Sink};
 use tm_state::{NestedRun, RunOf, Saved, StateData};
 use tm_syntax::Code;
-use tm_tables::{Host, NO_PLACE};
+use tm_tables::Host;
 use tm_values::{Error, ErrorKind, Value};
 
 /// A halt of a nested run, as it is told: a fault is wrapped in the kind, where there is one.
@@ -221,7 +221,7 @@ impl Machine {
                 Some(self.enter(Activation::over(alloc, stream, floor, 0, room)))
             }
             RunOf::Macro(stream, number, args) => {
-                let code = host.instructions(&stream, NO_PLACE);
+                let code = host.instructions(&stream, self.state.template_place());
                 let (place, count) = code.entry(number)?;
                 if count != args.len() {
                     return None;
