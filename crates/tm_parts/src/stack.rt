@@ -310,7 +310,7 @@ impl Stack {
         ensures kind { IfErr result (λ e. e ≡ ErrorKind.OutOfMemory ∷ []) }
     {
         if count == 1 && !self.values.is_empty() {
-            drop(self.values.take_last());
+            let _replaced = self.values.take_last();
             // There is room where it was taken from.
             self.values.push_reserved(value);
             return Ok(());

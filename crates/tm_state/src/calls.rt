@@ -84,7 +84,7 @@ impl StateData {
                 let recursion = self.call_found(alloc, host, *state, *number, args)?;
                 Ok(CallResult::Recursion(recursion))
             }
-            Node::Macro(declared) => self.call_macro(alloc, host, declared, args),
+            Node::Macro(found) => self.call_macro(alloc, host, found, args),
             _ => self.call_value(alloc, host, &found, args),
         }
     }
