@@ -18,7 +18,7 @@ use Rattle.tm_syntax.specs.Fragments.{assemble, ending_at, whole_labels, assembl
 use Rattle.tm_syntax.specs.Entries.{Entries, entries_from, entries, entry_number, name_count}
 use Rattle.tm_syntax.proofs.Standing.{At, AtWhere, beyond_is, beyond_all_is, stands_whole}
 use Rattle.tm_simulation.proofs.Counts.{builds, simple_builds, NoneBegins, Plain, Loopless, jump_none, marked_so, Has, after_one}
-use Rattle.tm_simulation.proofs.Counts.{one_begins, one_loop_more, counted, counted_none, loops_counted, front, back}
+use Rattle.tm_simulation.proofs.Counts.{one_begins, one_loop_more, counted, counted_none, loops_counted, it, front, back}
 
 -- ---------------------------------------------------------------- where macros are entered
 -- the entries of code that stands at a place, outer ones before those in them
