@@ -4,19 +4,22 @@
 set -euo pipefail
 cd "$(dirname "${BASH_SOURCE[0]}")"
 
-# compare_code DOCUMENT TEST: the rust blocks of the document, in order, must be the marked parts of the test's file, blanks aside.
+# compare_code DOCUMENT TEST..: the rust blocks of the document, in order, must be the marked parts of the tests' files, but for blanks and
+# what only lets one of these files use another.
 compare_code() {
-    local shown tested
-    shown=$(sed -n '/^```rust$/,/^```$/p' "../$1" | sed '/^```/d' | tr -d '[:space:]')
-    tested=$(sed -n '/example begins here/,/example ends here/p' "../$2" | sed '/example begins here/d; /example ends here/d' | tr -d '[:space:]')
+    local document=$1 shown tested
+    shift
+    shown=$(sed -n '/^```rust$/,/^```$/p' "../$document" | sed '/^```/d' | tr -d '[:space:]')
+    tested=$(cat "${@/#/../crates/render_tests/src/}" | sed -n '/example begins here/,/example ends here/p' \
+        | sed '/example begins here/d; /example ends here/d; s/^pub(crate) //' | tr -d '[:space:]')
     if [[ -z $shown || $shown != "$tested" ]]; then
-        echo "the code in $1 isn't that of $2" >&2
+        echo "the code in $document isn't that of $*" >&2
         exit 1
     fi
 }
 
-compare_code README.md crates/render_tests/src/readme.rt
-compare_code docs/LIBRARY.md crates/render_tests/src/library.rt
+compare_code README.md readme.rt
+compare_code docs/LIBRARY.md library.rt library_parts.rt
 
 passed=0
 failed=0

@@ -18,6 +18,8 @@ mod includes;
 #[cfg(test)]
 mod library;
 #[cfg(test)]
+mod library_parts;
+#[cfg(test)]
 mod limited;
 #[cfg(test)]
 mod loops;

@@ -1,4 +1,4 @@
-//! The examples of docs/LIBRARY.md: examples/check.sh compares both.
+//! The examples of docs/LIBRARY.md but for the last ones: examples/check.sh compares both.
 
 // example begins here
 ghost use Rattle.std.specs.Prelude.{[], ◌∷◌, ◌++◌, Ok, false, true, codes, pos};
@@ -24,7 +24,7 @@ use std::test::Fail;
 
 // example begins here
 /// Whether an answer is an error of this kind.
-fn is_fault<T: Drop>(answer: Result<T, Error>, kind: ErrorKind) -> bool {
+pub(crate) fn is_fault<T: Drop>(answer: Result<T, Error>, kind: ErrorKind) -> bool {
     match answer {
         Ok(_) => false,
         Err(error) => error.kind() == kind,
@@ -390,7 +390,7 @@ fn objects_answer(rt: HostRuntime) -> Result<(), Fail> {
 // example begins here
 /// Rules for methods, for what values are written as, for escapes and for names of templates.
 #[derive(Drop)]
-struct OwnRules;
+pub(crate) struct OwnRules;
 
 impl MethodFallback for OwnRules {
     ghost answers = { λ _ value name args view. just (gives (text name false)) };
@@ -583,94 +583,5 @@ fn writers_are_written_to(rt: HostRuntime) -> Result<(), Fail> {
     let template = environment.template_from_str("Hello")?;
     assert!(rt; writes(rt.alloc(), &template)?);
     assert!(rt; stops_at_a_limit(rt.alloc(), &template));
-    Ok(())
-}
-
-// example begins here
-fn captures_text(alloc: Global) -> Result<bool, Error> {
-    let mut output = Output::new(alloc, Counted::new(Vec::new(alloc)));
-    output.write_str("a")?;
-    output.begin_capture(CaptureMode::Capture)?;
-    output.write_str("<")?;
-    let value = output.end_capture(AutoEscape::Html)?;
-    output.begin_capture(CaptureMode::Discard)?;
-    let is_dropped = output.is_discarding() && output.end_capture(AutoEscape::None)?.is_undefined();
-    let is_written = output.writer().inner().as_slice() == "a".as_bytes();
-    let failures = output.into_writer().failures();
-    Ok(value.is_safe() && value.as_str() == Some("<") && is_dropped && is_written && failures == 0)
-}
-
-fn keeps_an_error(alloc: Global) -> bool {
-    let mut wrapper = WriteWrapper::new(Limited::new(Counted::new(Vec::new(alloc)), 1));
-    let is_taken = wrapper.write_str("a").is_ok() && wrapper.err.is_none();
-    let Err(error) = wrapper.write_str("b") else {
-        return false;
-    };
-    let is_kept = wrapper.err.is_some();
-    let taken = wrapper.take_err(error);
-    let is_dropped = NullWriter.write_str("lost").is_ok();
-    is_dropped
-        && is_taken
-        && is_kept
-        && taken.kind() == ErrorKind::WriteFailure
-        && wrapper.err.is_none()
-}
-// example ends here
-
-#[test]
-fn outputs_are_written_to(rt: HostRuntime) -> Result<(), Fail> {
-    assert!(rt; captures_text(rt.alloc())?);
-    assert!(rt; keeps_an_error(rt.alloc()));
-    Ok(())
-}
-
-// example begins here
-fn makes_trees(alloc: Global) -> Result<bool, Error> {
-    let is_expression = match parse_expr(alloc, "1 + 2")? {
-        Tree::Expression(_) => true,
-        Tree::Statements(_) => false,
-    };
-    Ok(is_expression && is_fault(parse_expr(alloc, "1 +"), ErrorKind::SyntaxError))
-}
-
-fn charges_code(alloc: Global) -> Result<bool, Error> {
-    let source = RcStr::from_str(alloc, "{{ name }}")?;
-    let tree = parse(alloc, &source, &SyntaxConfig::default())?;
-    let streams = generate(alloc, &tree)?;
-    let mut fuel = FuelTracker::new(10);
-    for instruction in streams.root.as_slice() {
-        fuel.track(instruction)?;
-    }
-    Ok(fuel.initial() == 10 && fuel.consumed() == 2 && fuel.remaining() == 8)
-}
-// example ends here
-
-// example begins here
-fn compiles(alloc: Global, environment: &Environment<'_>) -> Result<bool, Error> {
-    let mut config = TemplateConfig::default();
-    config.default_auto_escape = EscapeSetting::Own(OwnRules);
-    let compiled = CompiledTemplate::new(alloc, "a.txt", Source::Lent("{{ '<' }}"), &config)?;
-    let is_named = compiled.name() == "a.txt" && compiled.source() == "{{ '<' }}";
-    let is_escaped = compiled.escape() == AutoEscape::Html;
-    let reads_nothing = compiled.undeclared_variables(alloc, false)?.is_empty();
-    let template = environment.template_from_compiled(compiled)?;
-    let text = template.render(&mut StateIds::new(), Value::undefined())?;
-    let by_name = default_auto_escape_callback("a.txt");
-    Ok(
-        is_named
-            && is_escaped
-            && reads_nothing
-            && text.as_str() == "&lt;"
-            && by_name == AutoEscape::None,
-    )
-}
-// example ends here
-
-#[test]
-fn sources_are_compiled(rt: HostRuntime) -> Result<(), Fail> {
-    assert!(rt; makes_trees(rt.alloc())?);
-    assert!(rt; charges_code(rt.alloc())?);
-    let environment = Environment::new(rt.alloc())?;
-    assert!(rt; compiles(rt.alloc(), &environment)?);
     Ok(())
 }

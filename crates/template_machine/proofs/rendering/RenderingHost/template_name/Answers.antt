@@ -6,5 +6,5 @@ use Rattle.template_machine.proofs.rendering.RenderingHost.template_name.Goals a
 
 pub returns : goal.returns
 returns g c =
-    c.name.ensures ∙ ap (λ (t : Compiled). t.name) c.template.ensures
+    c.name.ensures ∙ ap (λ (t : Compiled). t.name) c.template_at.ensures
     ∙ ap (λ (t : Template). t.name) (sym (template_meant g.O.Parties.stated c.args.self.now c.args.template.now))
