@@ -315,19 +315,19 @@ run_nested-returns-in-Err-clause-ran g t c =
     c.take_run-run.ensures.run c.take_run-run.ensures.rest c.deref_mut-nested.ensures.value in
     let now = g.W.Sink.written c.args.writer.now in
     let new = g.W.Sink.written c.run-result.new.writer in
-    let same = ap (λ (x : Config). x.world) c.put_back-2.ensures ∙ ap (λ (x : Config). put_back e.saved x.world) c.resume.ensures in
-    subst (λ (x : NestedRun). HaltsAs c.wrapped-in-Err.result c.put_back-2.new.self.world (EndsIn p x c.args.self.now now new)) whole
+    let same = ap (λ (x : Config). x.world) c.put_back_of.ensures ∙ ap (λ (x : Config). put_back e.saved x.world) c.resume.ensures in
+    subst (λ (x : NestedRun). HaltsAs c.wrapped-in-Err.result c.put_back_of.new.self.world (EndsIn p x c.args.self.now now new)) whole
     (wrapped_ends p e c.in-Some.waiting c.args.self.now c.begin.new.self c.run-result.new.self now new c.in-Some.ensures
-    c.put_back-2.new.self c.in-Err.halt c.wrapped-in-Err.result same c.wrapped-in-Err.ensures c.in-Err.ensures.ended)
+    c.put_back_of.new.self c.in-Err.halt c.wrapped-in-Err.result same c.wrapped-in-Err.ensures c.in-Err.ensures.ended)
 
 pub run_nested-returns-in-Err-clause-back : goal.run_nested-returns-in-Err-clause-back
 run_nested-returns-in-Err-clause-back g t c =
     let e : NestedRun = record c.take_run-run.new.self { run = c.take_run-run.result } in
     let whole = retaken c.take_run-run.new.self c.deref_mut-nested.result.now c.args.entry.value c.take_run-run.result
     c.take_run-run.ensures.run c.take_run-run.ensures.rest c.deref_mut-nested.ensures.value in
-    let same = ap (λ (x : Config). x.world) c.put_back-2.ensures ∙ ap (λ (x : Config). put_back e.saved x.world) c.resume.ensures
+    let same = ap (λ (x : Config). x.world) c.put_back_of.ensures ∙ ap (λ (x : Config). put_back e.saved x.world) c.resume.ensures
     ∙ ap (λ (x : NestedRun). put_back x.saved c.run-result.new.self.world) whole in
-    was_back c.args.entry.value.saved c.args.self.now.world c.begin.new.self.world c.run-result.new.self.world c.put_back-2.new.self.world
+    was_back c.args.entry.value.saved c.args.self.now.world c.begin.new.self.world c.run-result.new.self.world c.put_back_of.new.self.world
     c.in-Some.ensures.3 c.requires c.in-Err.ensures.no_fewer same
 
 pub run_nested-returns-then-value-clause-ran : goal.run_nested-returns-then-value-clause-ran
@@ -338,10 +338,10 @@ run_nested-returns-then-value-clause-ran g t c =
     c.take_run-run.ensures.run c.take_run-run.ensures.rest c.deref_mut-nested.ensures.value in
     let now = g.W.Sink.written c.args.writer.now in
     let new = g.W.Sink.written c.run-result.new.writer in
-    let at = c.put_back-2.ensures ∙ ap (λ (x : Config). record x { world = put_back e.saved x.world }) c.resume.ensures in
+    let at = c.put_back_of.ensures ∙ ap (λ (x : Config). record x { world = put_back e.saved x.world }) c.resume.ensures in
     subst (λ (x : NestedRun). RanNested p x c.args.self.now c.push_captured.new.self now new c.push_captured.result) whole
     (as_value p e c.in-Some.waiting c.args.self.now c.begin.new.self c.run-result.new.self now new c.in-Some.ensures
-    c.put_back-2.new.self c.push_captured.new.self c.push_captured.result
+    c.put_back_of.new.self c.push_captured.new.self c.push_captured.result
     c.push_captured.ensures.captured at c.if-value.true c.push_captured.ensures.same_world c.in_default-result.ensures.ended)
 
 pub run_nested-returns-then-value-clause-back : goal.run_nested-returns-then-value-clause-back
@@ -349,7 +349,7 @@ run_nested-returns-then-value-clause-back g t c =
     let e : NestedRun = record c.take_run-run.new.self { run = c.take_run-run.result } in
     let whole = retaken c.take_run-run.new.self c.deref_mut-nested.result.now c.args.entry.value c.take_run-run.result
     c.take_run-run.ensures.run c.take_run-run.ensures.rest c.deref_mut-nested.ensures.value in
-    let same = c.push_captured.ensures.same_world ∙ ap (λ (x : Config). x.world) c.put_back-2.ensures
+    let same = c.push_captured.ensures.same_world ∙ ap (λ (x : Config). x.world) c.put_back_of.ensures
     ∙ ap (λ (x : Config). put_back e.saved x.world) c.resume.ensures
     ∙ ap (λ (x : NestedRun). put_back x.saved c.run-result.new.self.world) whole in
     was_back c.args.entry.value.saved c.args.self.now.world c.begin.new.self.world c.run-result.new.self.world
@@ -363,19 +363,19 @@ run_nested-returns-clause-ran g t c =
     c.take_run-run.ensures.run c.take_run-run.ensures.rest c.deref_mut-nested.ensures.value in
     let now = g.W.Sink.written c.args.writer.now in
     let new = g.W.Sink.written c.run-result.new.writer in
-    let at = c.put_back-2.ensures ∙ ap (λ (x : Config). record x { world = put_back e.saved x.world }) c.resume.ensures in
-    subst (λ (x : NestedRun). Went p x c.args.self.now c.put_back-2.new.self now new) whole
+    let at = c.put_back_of.ensures ∙ ap (λ (x : Config). record x { world = put_back e.saved x.world }) c.resume.ensures in
+    subst (λ (x : NestedRun). Went p x c.args.self.now c.put_back_of.new.self now new) whole
     (in_place p e c.in-Some.waiting c.args.self.now c.begin.new.self c.run-result.new.self now new c.in-Some.ensures
-    c.put_back-2.new.self at c.if-value.false c.in_default-result.ensures.ended)
+    c.put_back_of.new.self at c.if-value.false c.in_default-result.ensures.ended)
 
 pub run_nested-returns-clause-back : goal.run_nested-returns-clause-back
 run_nested-returns-clause-back g t c =
     let e : NestedRun = record c.take_run-run.new.self { run = c.take_run-run.result } in
     let whole = retaken c.take_run-run.new.self c.deref_mut-nested.result.now c.args.entry.value c.take_run-run.result
     c.take_run-run.ensures.run c.take_run-run.ensures.rest c.deref_mut-nested.ensures.value in
-    let same = ap (λ (x : Config). x.world) c.put_back-2.ensures ∙ ap (λ (x : Config). put_back e.saved x.world) c.resume.ensures
+    let same = ap (λ (x : Config). x.world) c.put_back_of.ensures ∙ ap (λ (x : Config). put_back e.saved x.world) c.resume.ensures
     ∙ ap (λ (x : NestedRun). put_back x.saved c.run-result.new.self.world) whole in
-    was_back c.args.entry.value.saved c.args.self.now.world c.begin.new.self.world c.run-result.new.self.world c.put_back-2.new.self.world
+    was_back c.args.entry.value.saved c.args.self.now.world c.begin.new.self.world c.run-result.new.self.world c.put_back_of.new.self.world
     c.in-Some.ensures.3 c.requires c.in_default-result.ensures.no_fewer same
 
 pub run_nested-returns-in_default-clause-back : goal.run_nested-returns-in_default-clause-back
