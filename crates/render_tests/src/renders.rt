@@ -94,10 +94,13 @@ pub(crate) fn row_of(line: &str) -> Row<'_> {
     }
 }
 
-/// Whether these are the names, in this order.
+/// Whether these are the names, in this order, with one blank between them.
 pub(crate) fn are(names: &[&str], wanted: &str) -> bool {
+    if wanted.is_empty() {
+        return names.is_empty();
+    }
     let mut rest = names.iter();
-    for name in wanted.split_whitespace() {
+    for name in wanted.split(' ') {
         match rest.next() {
             Some(found) if *found == name => {}
             _ => return false,
