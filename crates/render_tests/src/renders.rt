@@ -94,13 +94,10 @@ pub(crate) fn row_of(line: &str) -> Row<'_> {
     }
 }
 
-/// Whether these are the names, in this order, with one blank between them.
+/// Whether these are the names, in this order.
 pub(crate) fn are(names: &[&str], wanted: &str) -> bool {
-    if wanted.is_empty() {
-        return names.is_empty();
-    }
     let mut rest = names.iter();
-    for name in wanted.split(' ') {
+    for name in wanted.split_whitespace() {
         match rest.next() {
             Some(found) if *found == name => {}
             _ => return false,
