@@ -1,6 +1,6 @@
 #!/usr/bin/env bash
 # Renders each example by ./mj, with the JSON file, the names and the other templates that it has (.json, .names, .others), and compares the
-# output with its .expected file. The code in README.md and in docs/LIBRARY.md must be that of their tests in crates/render_tests/src.
+# output with its .expected file. The code in README.md and in docs/LIBRARY.md must be that of their tests.
 set -euo pipefail
 cd "$(dirname "${BASH_SOURCE[0]}")"
 
@@ -10,7 +10,7 @@ compare_code() {
     local document=$1 shown tested
     shift
     shown=$(sed -n '/^```rust$/,/^```$/p' "../$document" | sed '/^```/d' | tr -d '[:space:]')
-    tested=$(cat "${@/#/../crates/render_tests/src/}" | sed -n '/example begins here/,/example ends here/p' \
+    tested=$(cat "${@/#/../crates/}" | sed -n '/example begins here/,/example ends here/p' \
         | sed '/example begins here/d; /example ends here/d; s/^pub(crate) //' | tr -d '[:space:]')
     if [[ -z $shown || $shown != "$tested" ]]; then
         echo "the code in $document isn't that of $*" >&2
@@ -18,8 +18,8 @@ compare_code() {
     fi
 }
 
-compare_code README.md readme.rt
-compare_code docs/LIBRARY.md library.rt library_parts.rt
+compare_code README.md render_tests/src/readme.rt
+compare_code docs/LIBRARY.md library_tests/src/library.rt library_tests/src/library_parts.rt
 
 passed=0
 failed=0

@@ -16,10 +16,6 @@ mod expressions;
 #[cfg(test)]
 mod includes;
 #[cfg(test)]
-mod library;
-#[cfg(test)]
-mod library_parts;
-#[cfg(test)]
 mod limited;
 #[cfg(test)]
 mod loops;

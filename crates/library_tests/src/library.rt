@@ -11,8 +11,8 @@ ghost use Rattle.tm_meaning.specs.declared.reply.Reply.TheVariants.{Further as a
 ghost use Rattle.tm_meaning.specs.declared.reply.Call.TheVariants as further;
 ghost use Rattle.tm_tables.specs.Stated.{just, keeping};
 ghost use Rattle.render_tests.specs.Asked.{swapped};
-ghost use Rattle.render_tests.specs.declared.library.Asking.TheVariants.{Title, Kept, Filter};
-ghost use Rattle.render_tests.specs.declared.library.Asking.TheVariants.{Macro, Block};
+ghost use Rattle.library_tests.specs.declared.library.Asking.TheVariants.{Title, Kept, Filter};
+ghost use Rattle.library_tests.specs.declared.library.Asking.TheVariants.{Macro, Block};
 
 use std::alloc::Global;
 use std::cmp::Ordering;

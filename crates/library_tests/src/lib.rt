@@ -1,0 +1,7 @@
+//! Tests of the code in docs/LIBRARY.md.
+#![tactic(auto)]
+
+#[cfg(test)]
+mod library;
+#[cfg(test)]
+mod library_parts;
