@@ -1,6 +1,6 @@
 -- Numbers by steps: that those before the stop are counted, and that what is asked for decides.
-use Rattle.std.proofs.Common.{◌≡◌, ◌≢◌, ◌<◌, ◌≤◌, ◌*◌, ◌≤ℤ◌, ◌*ℤ◌, ◌^◌, ◌&&◌, not, nat_lt, slice_get, ℕ, ℤ, pos, negsuc, Bool, true, false}
-use Rattle.std.proofs.Common.{Option, Some, None, Ok, List, length, refl, sym, ap, ◌∙◌, arith, suc}
+use Rattle.std.proofs.Common.{◌≡◌, ◌≢◌, ◌<◌, ◌≤◌, ◌*◌, ◌≤ℤ◌, ◌<ℤ◌, ◌*ℤ◌, ◌^◌, ◌&&◌, not, nat_lt, slice_get, ℕ, ℤ, pos, negsuc, Bool, true, false}
+use Rattle.std.proofs.Common.{Option, Some, None, Ok, List, [], ◌∷◌, length, map as each, refl, sym, ap, ◌∙◌, arith, suc}
 use Rattle.std.proofs.lemmas.Bool.Decides.{nat_tests}
 use Rattle.std.proofs.lemmas.Int.{ints}
 use Rattle.std.proofs.lemmas.List.FromFn.{length-map-range_with_len, get_or-map-range_with_len}
@@ -16,9 +16,11 @@ use Rattle.std.specs.Borrow.{Bor}
 use Rattle.tm_definitions.specs.Ranges.{Span, count_of, numbers_of, is_served, served, ranged, required_in, later_in, span_of, range_of}
 use Rattle.tm_definitions.specs.Ranges.{AreStepped, StandBefore, LeaveNoneOut}
 use Rattle.tm_primitives.proofs.Laws.{before_at, past_at}
-use Rattle.tm_primitives.specs.Places.{step_to}
+use Rattle.tm_operations.specs.Ranges.{AreIn64Bits}
+use Rattle.tm_primitives.specs.Places.{step_to, IsBefore}
 use Rattle.tm_values.specs.Answer.{invalid}
-use Rattle.tm_values.specs.Val.{Val}
+use Rattle.tm_values.specs.Plain.{fits_json, in_all_forms, vals_plain}
+use Rattle.tm_values.specs.Val.{Val, number, vals_of}
 
 -- ---- the laws
 
@@ -44,6 +46,10 @@ whole s z h = past_at s.step s.start s.stop (length (numbers_of s)) z (count_is 
 fits_between : (y : ℤ) → negsuc (2 ^ 100) ≤ℤ y → y ≤ℤ pos (2 ^ 100) → FitsSigned w128 y
 fits_between (pos n) low high = record { sfits = omega (arith, ints, high) }
 fits_between (negsuc n) low high = record { sfits = omega (arith, ints, low) }
+
+fits_64 : (y : ℤ) → negsuc (2 ^ 63) <ℤ y → y <ℤ pos (2 ^ 63) → FitsSigned w64 y
+fits_64 (pos n) low high = record { sfits = omega (arith, ints, high) }
+fits_64 (negsuc n) low high = record { sfits = omega (arith, ints, low) }
 
 near : (x : ℤ) → FitsSigned w64 x → (negsuc (2 ^ 63) ≤ℤ x) × (x ≤ℤ pos (2 ^ 63))
 near (pos n) h = let l : n < 2 ^ 63 = h.sfits in (omega (arith, ints), omega (arith, ints))
@@ -73,6 +79,36 @@ step_fits x z k f g l =
     let steps = steps_near z k g l in
     fits_between (step_to x z k) (omega (arith, ints, start.0, start.1, steps.0, steps.1))
     (omega (arith, ints, start.0, start.1, steps.0, steps.1))
+
+-- JSON has each number of 64 bits
+in_json : (z : ℤ) → FitsSigned w64 z → fits_json z ≡ true
+in_json (pos n) h = let l : n < 2 ^ 63 = h.sfits in grind (arith, nat_tests)
+in_json (negsuc n) h = let l : n < 2 ^ 63 = h.sfits in grind (arith, nat_tests)
+
+pub plain_numbers : (zs : List ℤ) → AreIn64Bits zs → vals_plain (vals_of (each number zs)) ≡ in_all_forms
+plain_numbers [] h = refl
+plain_numbers (z ∷ zs) h =
+    let first : fits_json z ≡ true = in_json z (h 0 z (omega arith)) in
+    let rest = plain_numbers zs (λ k d l. h (suc k) d (omega (arith, l))) in
+    rw (first, rest)
+
+-- a number from the start on that stands before the stop is one of 64 bits
+between : (z x y : ℤ) (k : ℕ) → z ≢ pos 0 → FitsSigned w64 x → FitsSigned w64 y → IsBefore z (step_to x z k) y → FitsSigned w64 (step_to x z k)
+between (pos a) x y k n f g h =
+    let start = near x f in
+    let stop = near y g in
+    let e = pos-*ℤ-pos k a in
+    fits_64 (step_to x (pos a) k) (omega (arith, ints, start.0, e)) (omega (arith, ints, stop.1, h))
+between (negsuc a) x y k n f g h =
+    let start = near x f in
+    let stop = near y g in
+    let e = pos-*ℤ-negsuc k a in
+    fits_64 (step_to x (negsuc a) k) (omega (arith, ints, stop.0, h)) (omega (arith, ints, start.1, e))
+
+pub in_range : (s : Span) → s.step ≢ pos 0 → FitsSigned w64 s.start → FitsSigned w64 s.stop → AreIn64Bits (numbers_of s)
+in_range s z f g k d h =
+    let e = count_is s in
+    rw (stepped s k d h) (between s.step s.start s.stop k z f g (before_at s.step s.start s.stop k z (omega arith)))
 
 -- too many numbers
 too_long : (e : Bool) (s : Span) → 100000 < count_of s → e && not (nat_lt 100000 (count_of s)) ≡ false

@@ -3,11 +3,13 @@ ghost use Rattle.std.specs.Prelude.{◌≡◌, ◌≢◌, ◌≤◌, ◌∷◌, 
 ghost use Rattle.std.specs.Option.{option_copied};
 ghost use Rattle.tm_definitions.specs.Ranges.{bound_in, required_in, later_in, ranged, number_list, numbers_from, range_of, AreStepped};
 ghost use Rattle.tm_definitions.specs.Ranges.{StandBefore, LeaveNoneOut};
+ghost use Rattle.tm_operations.specs.Ranges.{AreIn64Bits};
 ghost use Rattle.tm_primitives.specs.Places.{distance, count_before, step_to};
 ghost use Rattle.tm_values.specs.Answer.{IsAnswer};
 
 use std::alloc::Global;
-use tm_values::{Error, ErrorKind, Node, Value};
+use std::rc::Rc;
+use tm_values::{Error, ErrorKind, Node, Plain, Value};
 
 // The most numbers that a range has.
 const MOST: u64 = 100_000;
@@ -108,16 +110,24 @@ fn distance(from: i64, to: i64) -> u64
     }
 }
 
-// The list of so many numbers from the start on.
+// The list of so many numbers from the start on, each of 64 bits.
 fn list_from(alloc: Global, start: i64, step: i64, count: u64) -> Result<Value, Error>
-    requires { count ≤ 100000 }
+    requires served { count ≤ 100000 }
+    requires in_range { AreIn64Bits (numbers_from start step count) }
     ensures { IsAnswer result (Ok (number_list (numbers_from start step count))) }
 {
     let mut items = Vec::with_capacity(alloc, count as usize)?;
     for place in 0..count {
         items.push(Value::number(number_at(start, step, place)))?;
     }
-    Value::list(alloc, items)
+    // JSON has every number of 64 bits, so no item has to be asked.
+    let plain = Plain {
+        in_print: true,
+        in_json: true,
+    };
+    Ok(Value {
+        node: Node::List(Rc::new(alloc, items)?, plain),
+    })
 }
 
 // The number after so many steps.
