@@ -558,13 +558,13 @@ abbrev pub with_escape : AutoEscape → World → World
 with_escape e w = record w { escape = e }
 
 -- ---------------------------------------------------------------- captured texts
-abbrev pub is_safe : AutoEscape → Bool
-is_safe escapes.None = false
-is_safe escape = true
+abbrev pub is_escaping : AutoEscape → Bool
+is_escaping escapes.None = false
+is_escaping escape = true
 
 -- a captured text as a value, at its end
 abbrev pub captured_text : List ℕ → World → Val
-captured_text t w = text t (is_safe w.escape)
+captured_text t w = text t (is_escaping w.escape)
 
 -- ---------------------------------------------------------------- modules
 -- A name is exported unless it begins with `_`.

@@ -3,6 +3,7 @@ use Rattle.std.proofs.Common.{◌≡◌, ◌≢◌, ◌<◌, ◌≤◌, ◌*◌,
 use Rattle.std.proofs.Common.{Option, Some, None, Ok, List, [], ◌∷◌, length, map as each, refl, sym, ap, ◌∙◌, arith, suc}
 use Rattle.std.proofs.lemmas.Bool.Decides.{nat_tests}
 use Rattle.std.proofs.lemmas.Int.{ints}
+use Rattle.std.proofs.lemmas.List.{length-map}
 use Rattle.std.proofs.lemmas.List.FromFn.{length-map-range_with_len, get_or-map-range_with_len}
 use Rattle.std.proofs.lemmas.Nat.{mul-le}
 use Rattle.std.proofs.lemmas.Option.{slice_get_past, slice_get_read}
@@ -13,7 +14,7 @@ use Rattle.std.specs.Option.{option_copied, unwrap_or}
 use Rattle.std.specs.Ordering.{int_eq}
 use Rattle.std.specs.Slice.{IsItemAt}
 use Rattle.std.specs.Borrow.{Bor}
-use Rattle.tm_definitions.specs.Ranges.{Span, count_of, numbers_of, is_served, served, ranged, required_in, later_in, span_of, range_of}
+use Rattle.tm_definitions.specs.Ranges.{Span, count_of, numbers_from, numbers_of, is_served, served, ranged, required_in, later_in, span_of, range_of}
 use Rattle.tm_definitions.specs.Ranges.{AreStepped, StandBefore, LeaveNoneOut}
 use Rattle.tm_primitives.proofs.Laws.{before_at, past_at}
 use Rattle.tm_operations.specs.Ranges.{AreIn64Bits}
@@ -84,6 +85,9 @@ step_fits x z k f g l =
 in_json : (z : ℤ) → FitsSigned w64 z → fits_json z ≡ true
 in_json (pos n) h = let l : n < 2 ^ 63 = h.sfits in grind (arith, nat_tests)
 in_json (negsuc n) h = let l : n < 2 ^ 63 = h.sfits in grind (arith, nat_tests)
+
+pub length_is : (x z : ℤ) (n : ℕ) → length (each number (numbers_from x z n)) ≡ n
+length_is x z n = length-map (numbers_from x z n) number ∙ length-map-range_with_len (step_to x z) 0 n
 
 pub plain_numbers : (zs : List ℤ) → AreIn64Bits zs → vals_plain (vals_of (each number zs)) ≡ in_all_forms
 plain_numbers [] h = refl

@@ -118,7 +118,7 @@ fn list_from(alloc: Global, start: i64, step: i64, count: u64) -> Result<Value, 
 {
     let mut items = Vec::with_capacity(alloc, count as usize)?;
     for place in 0..count {
-        items.push(Value::number(number_at(start, step, place)))?;
+        items.push_reserved(Value::number(number_at(start, step, place)));
     }
     // JSON has every number of 64 bits, so no item has to be asked.
     let plain = Plain {

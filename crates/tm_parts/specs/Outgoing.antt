@@ -2,7 +2,7 @@
 use Rattle.std.specs.Prelude.{◌≡◌, ℕ, List, [], ◌∷◌, take, false}
 use Rattle.tm_values.specs.Val.{Val, undefined, text}
 use Rattle.tm_values.specs.declared.escape.AutoEscape.{AutoEscape}
-use Rattle.tm_meaning.specs.World.{choose, is_safe}
+use Rattle.tm_meaning.specs.World.{choose, is_escaping}
 use Rattle.tm_meaning.specs.Machine.{Capture, put_in}
 
 -- A writer, and the captures open above it, innermost first.
@@ -14,7 +14,7 @@ pub record Outgoing (W : Type 0) : Type 0 where
 -- open.
 abbrev pub ended_value : AutoEscape → List Capture → Val
 ended_value escape [] = undefined false
-ended_value escape (k ∷ ks) = choose k.heard (λ _. text k.text (is_safe escape)) (λ _. undefined false)
+ended_value escape (k ∷ ks) = choose k.heard (λ _. text k.text (is_escaping escape)) (λ _. undefined false)
 
 -- The innermost capture took this text.
 abbrev pub IsPut : List Capture → List ℕ → List Capture → Type 0

@@ -12,7 +12,7 @@ ghost use Rattle.tm_parts.specs.Halts.{failures_after, EmitHalts, PutHalts};
 ghost use Rattle.tm_parts.specs.Outgoing.{ended_value, IsPut, IsPutInPart};
 ghost use Rattle.tm_printing.specs.Emits.{Emits};
 ghost use Rattle.tm_values.specs.Records.{RecordData};
-ghost use Rattle.tm_meaning.specs.World.{is_safe, without_first};
+ghost use Rattle.tm_meaning.specs.World.{is_escaping, without_first};
 ghost use Rattle.tm_values.specs.Answer.{OkOrOutOfMemory, OrStays};
 ghost use Rattle.tm_values.specs.Val.{text};
 
@@ -255,7 +255,7 @@ impl Captures {
 
 /// A captured text as a value, safe where there is an escape. Fails by OutOfMemory alone.
 pub fn captured_value(alloc: Global, content: &str, escape: AutoEscape) -> Result<Value, Error>
-    ensures { OkOrOutOfMemory result (λ v. v ≡ text content.now (is_safe escape)) }
+    ensures { OkOrOutOfMemory result (λ v. v ≡ text content.now (is_escaping escape)) }
 {
     match escape {
         AutoEscape::None => Value::text(alloc, content),

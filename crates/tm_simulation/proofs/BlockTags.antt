@@ -5,7 +5,7 @@ use Rattle.tm_values.specs.Val.{Val, text}
 use Rattle.tm_values.specs.declared.escape.AutoEscape.{AutoEscape}
 use Rattle.tm_syntax.specs.declared.instruction.CaptureMode.TheVariants.{Capture}
 use Rattle.tm_syntax.specs.declared.instruction.Instruction.TheVariants as i
-use Rattle.tm_meaning.specs.World.{choose, World, Res, Good, Bad, bind, tick, ticked, captured_text, is_safe}
+use Rattle.tm_meaning.specs.World.{choose, World, Res, Good, Bad, bind, tick, ticked, captured_text, is_escaping}
 use Rattle.tm_meaning.specs.Calls.{whole, NestedCall, enter_block, block_call}
 use Rattle.tm_meaning.specs.Meaning.{Run, Outcome, Ending, done, leave, next, fault, Under, so_far, use_it, behind, in_place_of, block_tag}
 use Rattle.tm_meaning.specs.Meaning.{audible as heard_here, none_waits, capturing, heard_behind, text_behind}
@@ -129,7 +129,7 @@ module _ (setting : Setting) where
 
   -- a capture's text is the same behind a charge
   same_text : (out : List ℕ) {w world1 : World} → Kept w world1 → captured_text out w ≡ captured_text out world1
-  same_text out k = ap (λ (e : AutoEscape). text out (is_safe e)) (sym k.same_escape)
+  same_text out k = ap (λ (e : AutoEscape). text out (is_escaping e)) (sym k.same_escape)
 
   -- A block's text is pushed.
   pub self_then : (run : Run) (s : Spot) (pc : ℕ) (b : List ℕ) (stack : List Val) (w : World) → Here setting run s w →

@@ -1,5 +1,5 @@
 use Rattle.std.proofs.lemmas.Grind.{common_steps}
-use Rattle.std.proofs.Common.{◌≡◌, ◌++◌, ◌∷◌, ◌+◌, [], ap, sym, ◌∙◌, arith, rules, map as each}
+use Rattle.std.proofs.Common.{◌≡◌, ◌++◌, ◌∷◌, ◌+◌, [], ap, sym, ◌∙◌, arith, length, rules, map as each}
 use Rattle.std.proofs.lemmas.Int.{to_z-of_z}
 use Rattle.std.proofs.lemmas.List.{map-append}
 use Rattle.std.proofs.lemmas.List.FromFn.{map-range_with_len_more}
@@ -7,7 +7,7 @@ use Rattle.std.specs.Int.{w64}
 use Rattle.std.specs.Int.RustNames.{FitsSigned}
 use Rattle.tm_definitions.specs.Ranges.{numbers_from}
 use Rattle.tm_primitives.specs.Places.{step_to}
-use Rattle.tm_operations.proofs.Counted.{plain_numbers}
+use Rattle.tm_operations.proofs.Counted.{length_is, plain_numbers}
 use Rattle.tm_values.specs.Plain.{vals_plain}
 use Rattle.tm_values.specs.Val.{number, vals_of}
 use Rattle.tm_operations.proofs.ranges.list_from.Goals as goal
@@ -26,9 +26,22 @@ loop-place-preserved c =
     ≡ each number (numbers_from x z k) ++ number (step_to x z k) ∷ [] = ap (each number) more
     ∙ map-append number (numbers_from x z k) (step_to x z k ∷ []) in
     let made : c.number.result ≡ number (step_to x z k) = search (arith, to_z-of_z, c.number.ensures, c.number_at.ensures) in
-    let done = simp to_z-of_z at c.loop-place.invariant in
-    let items = c.in_ok-push.ensures.items in
-    simp to_z-of_z (cc)
+    let done = simp to_z-of_z at c.loop-place.invariant.0 in
+    let items = c.push_reserved.ensures.items in
+    let room = c.push_reserved.ensures.capacity in
+    (simp to_z-of_z (cc), omega (arith, room, c.loop-place.invariant.1))
+
+-- there is room for it
+pub push_reserved-requires : goal.push_reserved-requires
+push_reserved-requires c =
+    let x = c.args.start in
+    let z = c.args.step in
+    let start : FitsSigned w64 x = c.ranges.start in
+    let step : FitsSigned w64 z = c.ranges.step in
+    let held = length_is x z c.loop-place.place in
+    let done = simp to_z-of_z at c.loop-place.invariant.0 in
+    let count : length c.loop-place.items.items ≡ c.loop-place.place = ap length done ∙ held in
+    omega (arith, count, c.loop-place.invariant.1)
 
 -- JSON has them all
 pub invariant_of-result : goal.invariant_of-result
@@ -39,9 +52,6 @@ invariant_of-result c =
 
 pub returns-in_err-items : goal.returns-in_err-items
 returns-in_err-items c = search rules fits 100
-
-pub returns-in_err-push : goal.returns-in_err-push
-returns-in_err-push c = grind (arith, common_steps)
 
 pub returns : goal.returns
 returns c = grind (arith, common_steps)
