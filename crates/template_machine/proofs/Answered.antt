@@ -24,7 +24,7 @@ use Rattle.tm_simulation.proofs.Renders.{render_runs}
 use Rattle.tm_vm.specs.Answers.{HaltsAs, ReachesEnd}
 use Rattle.tm_vm.specs.Nested.{WroteBeginning}
 use Rattle.template_machine.specs.Environment.{TemplateValue}
-use Rattle.template_machine.specs.Renders.{CapturedValue, StateValue, IsCaptured, RenderedCaptured, captured_as_meant, captured_by_memory}
+use Rattle.template_machine.specs.Renders.{CapturedValue, StateValue, IsCapturedRun, RenderedCaptured, captured_as_meant, captured_by_memory}
 use Rattle.template_machine.specs.Renders.{answer_by, answer_of, IsFresh, Ran, run_as_meant, run_by_writer, run_by_memory}
 use Rattle.template_machine.specs.Renders.{Rendered, as_meant, by_writer, by_memory, RenderedText, text_as_meant, text_by_memory}
 use Rattle.template_machine.specs.Renders.{BlockWritten, block_as_meant, block_by_writer, block_by_memory}
@@ -242,7 +242,7 @@ passed (Ok x) P e is p = absurd is
 passed (Err y) P e is p = subst (λ x. P (Err x)) (sym is) p
 
 -- the text of a run in a capture of its own is a render's
-pub text_of_captured : (m : Outcome) (w : World) (r : Result (String Global) (List ErrorKind)) → IsCaptured r m w → RenderedText m r
+pub text_of_captured : (m : Outcome) (w : World) (r : Result (String Global) (List ErrorKind)) → IsCapturedRun r m w → RenderedText m r
 text_of_captured m w (Ok text) is = text_as_meant (is.0, w, is.1)
 text_of_captured m w (Err chain) is = by_kind (is_want_of_memory chain) refl
   where
@@ -253,7 +253,7 @@ text_of_captured m w (Err chain) is = by_kind (is_want_of_memory chain) refl
 -- and so it is with its state
 pub captured_done : {O : Type 0} (t r : TemplateValue O) (m : Outcome) (w : World) (text : String Global) (s : StateValue O)
     (c : CapturedValue (StateValue O)) → r ≡ t → s ≡ record { template = r; world = w } → c ≡ record { output = string_bytes text; state = s } →
-    IsCaptured (Ok text) m w → RenderedCaptured t m (Ok c)
+    IsCapturedRun (Ok text) m w → RenderedCaptured t m (Ok c)
 captured_done {O} t r m w text s c r_is s_is c_is is =
     captured_as_meant (
       ap (λ (x : CapturedValue (StateValue O)). x.output) c_is ∙ is.0,
@@ -261,7 +261,7 @@ captured_done {O} t r m w text s c r_is s_is c_is is =
       is.1 ∙ sym (ap (λ (x : CapturedValue (StateValue O)). Ok x.state.world) c_is ∙ ap (λ (x : StateValue O). Ok x.world) s_is),
     )
 
-pub captured_failed : {O : Type 0} (t : TemplateValue O) (m : Outcome) (w : World) (chain : List ErrorKind) → IsCaptured (Err chain) m w →
+pub captured_failed : {O : Type 0} (t : TemplateValue O) (m : Outcome) (w : World) (chain : List ErrorKind) → IsCapturedRun (Err chain) m w →
     RenderedCaptured t m (Err chain)
 captured_failed t m w chain is = of_text (text_of_captured m w (Err chain) is)
   where

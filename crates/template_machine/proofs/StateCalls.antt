@@ -30,7 +30,7 @@ use Rattle.tm_tables.specs.Stated.{StatedObjects}
 use Rattle.tm_vm.specs.Answers.{ComesTo, HaltsAs, NoFewer, ReachesEnd, program}
 use Rattle.tm_vm.proofs.Loop.{left_below, undone_is}
 use Rattle.template_machine.specs.Environment.{TemplateValue, code, host_of, trees}
-use Rattle.template_machine.specs.Renders.{answer_by, answer_of, called_value, callee_run, IsCalled, IsCaptured, RanApart}
+use Rattle.template_machine.specs.Renders.{answer_by, answer_of, called_value, callee_run, IsMacroCall, IsCapturedRun, RanApart}
 
 -- the captures of a run whose text is a value, and those behind it
 abbrev one : List Capture
@@ -199,16 +199,16 @@ module _ {O : Type 0} (stated : O → StatedObjects) (t : TemplateValue O) (e : 
       let world : x.world ≡ left = cc is in rw (sym world, same) refl
   value_by (fault chain) c x text same is = absurd (cc is)
 
-  pub value_answered : (text : String Global) (v : Val) → IsCaptured (Ok text) ran left →
-      v ≡ run_value e.text (string_bytes text) (put_back e.saved left) → IsCalled (Ok v) (called_value stated t asked) (put_back e.saved left)
+  pub value_answered : (text : String Global) (v : Val) → IsCapturedRun (Ok text) ran left →
+      v ≡ run_value e.text (string_bytes text) (put_back e.saved left) → IsMacroCall (Ok v) (called_value stated t asked) (put_back e.saved left)
   value_answered text v captured is =
       let c : NestedCall = call_of e needs.3.0 in
       meant_by ∙ value_by ran.ending c ran (string_bytes text) captured.0 captured.1
       ∙ ap (λ x. Good (run_value e.text (string_bytes text) x) x) back
       ∙ ap (λ u. Good u (put_back e.saved left)) (sym is)
 
-  pub fault_answered : (chain : List ErrorKind) → IsCaptured (Err chain) ran left →
-      IsCalled (Err chain) (called_value stated t asked) (put_back e.saved left)
+  pub fault_answered : (chain : List ErrorKind) → IsCapturedRun (Err chain) ran left →
+      IsMacroCall (Err chain) (called_value stated t asked) (put_back e.saved left)
   fault_answered chain captured = λ m.
       let c : NestedCall = call_of e needs.3.0 in
       let is = captured m in

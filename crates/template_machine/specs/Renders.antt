@@ -160,9 +160,9 @@ IsUnnumbered stated e name source (Err chain) =
     IsRefused e.syntax source chain ⊎ ((t : Compiled) × IsTemplateOf stated e name source t × (chain ≡ InvalidOperation ∷ []))
 
 -- What a call of a state answered, but for want of memory: the value that was meant, or the fault, and the world behind it.
-abbrev pub IsCalled : Result Val (List ErrorKind) → Res Val → World → Type 0
-IsCalled (Ok v) meant w = meant ≡ Good v w
-IsCalled (Err chain) meant w = is_want_of_memory chain ≡ false → meant ≡ Bad chain w
+abbrev pub IsMacroCall : Result Val (List ErrorKind) → Res Val → World → Type 0
+IsMacroCall (Ok v) meant w = meant ≡ Good v w
+IsMacroCall (Err chain) meant w = is_want_of_memory chain ≡ false → meant ≡ Bad chain w
 
 -- The same of a test, whose value is a truth value.
 abbrev pub IsTested : Result Bool (List ErrorKind) → Res Val → World → Type 0
@@ -170,9 +170,9 @@ IsTested (Ok b) meant w = meant ≡ Good (boolean b) w
 IsTested (Err chain) meant w = is_want_of_memory chain ≡ false → meant ≡ Bad chain w
 
 -- What a run in a capture of its own answered, but for want of memory: the text that was meant, or the fault, and the world behind it.
-abbrev pub IsCaptured : Result (String Global) (List ErrorKind) → Outcome → World → Type 0
-IsCaptured (Ok text) m w = (string_bytes text ≡ m.text) × (answer_of m ≡ Ok w)
-IsCaptured (Err chain) m w = is_want_of_memory chain ≡ false → (m.ending ≡ fault chain) × (m.world ≡ w)
+abbrev pub IsCapturedRun : Result (String Global) (List ErrorKind) → Outcome → World → Type 0
+IsCapturedRun (Ok text) m w = (string_bytes text ≡ m.text) × (answer_of m ≡ Ok w)
+IsCapturedRun (Err chain) m w = is_want_of_memory chain ≡ false → (m.ending ≡ fault chain) × (m.world ≡ w)
 
 -- The same of a run over one capture.
 abbrev pub RanApart : Result (List Capture) Halt → Outcome → World → Type 0

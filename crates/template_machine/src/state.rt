@@ -12,7 +12,7 @@ ghost use Rattle.tm_state.specs.Answers.{Becomes, CallDeeper, CallLies, IsEmitte
 ghost use Rattle.tm_state.specs.State.{callee_of, exported};
 ghost use Rattle.template_machine.specs.Environment.{host_of, named_template};
 ghost use Rattle.template_machine.specs.Renders.{as_text, block_meaning, call_by_name, called_value, callee_run, with_temp, with_world};
-ghost use Rattle.template_machine.specs.Renders.{BlockWritten, IsCalled, IsCaptured, IsEntered, IsFresh, IsTested, Ran, RanApart};
+ghost use Rattle.template_machine.specs.Renders.{BlockWritten, IsMacroCall, IsCapturedRun, IsEntered, IsFresh, IsTested, Ran, RanApart};
 ghost use Rattle.tm_meaning.specs.Machine.{new_capture};
 ghost use Rattle.tm_vm.specs.Answers.{NoFewer};
 
@@ -161,7 +161,7 @@ impl<'env, O: Parties> StateOf<'env, O> {
     /// none, InvalidOperation for a further call beyond the limit, and the fault of what is called; OutOfMemory.
     /// However it ends, the state stands where it stood.
     pub fn apply_filter(&mut self, name: &str, args: &[Value]) -> Result<Value, Error>
-        ensures called { IsCalled result (called_value O.stated self.old.template (apply_filter
+        ensures called { IsMacroCall result (called_value O.stated self.old.template (apply_filter
             (host_of O.stated self.old.template) name.now args.now self.old.world)) self.new.world }
         ensures template { self.new.template ≡ self.old.template }
         ensures stays { StaysInPlace self.old.world self.new.world }
@@ -218,7 +218,7 @@ impl<'env, O: Parties> StateOf<'env, O> {
     /// limit, and the fault of its run; OutOfMemory. However it ends, the state stands where it stood, and what the run
     /// kept is kept.
     pub fn render_block(&mut self, name: &str) -> Result<String, Error>
-        ensures called { IsCaptured result
+        ensures called { IsCapturedRun result
             (block_meaning O.stated self.old.template name.now self.old.world) self.new.world }
         ensures template { self.new.template ≡ self.old.template }
         ensures stays { StaysInPlace self.old.world self.new.world }
@@ -304,7 +304,7 @@ impl<'env, O: Parties> StateOf<'env, O> {
     /// The run's fault; InvalidOperation for a loop, since none is open; OutOfMemory.
     fn value_of(&mut self, called: CallResult) -> Result<Value, Error>
         ensures called { (asked : _) → Becomes (Ok called) asked self.old.world →
-            IsCalled result (called_value O.stated self.old.template asked) self.new.world }
+            IsMacroCall result (called_value O.stated self.old.template asked) self.new.world }
         ensures template { self.new.template ≡ self.old.template }
         ensures stays { (limit : _) (before : _) → CallLies limit (Ok called) before self.old.world →
             StaysInPlace before self.new.world }
@@ -320,7 +320,7 @@ impl<'env, O: Parties> StateOf<'env, O> {
     /// The text of a run as a value; what it replaced is put back. The run's fault; OutOfMemory.
     fn value_of_run(&mut self, run: NestedRun) -> Result<Value, Error>
         ensures called { (asked : _) → NeedsRun run asked self.old.world →
-            IsCalled result (called_value O.stated self.old.template asked) self.new.world }
+            IsMacroCall result (called_value O.stated self.old.template asked) self.new.world }
         ensures template { self.new.template ≡ self.old.template }
         ensures stays { (limit : _) (before : _) → CallDeeper limit run.saved before self.old.world →
             StaysInPlace before self.new.world }
@@ -342,7 +342,7 @@ impl<'env, O: Parties> StateOf<'env, O> {
     /// Runs what is called from where the state stands, and gives its text. The run's fault, InvalidOperation where
     /// there is no such run; OutOfMemory.
     fn run_in_capture(&mut self, run: RunOf) -> Result<String, Error>
-        ensures captured { IsCaptured result (callee_run O.stated self.old.template
+        ensures captured { IsCapturedRun result (callee_run O.stated self.old.template
             (callee_of run) self.old.world) self.new.world }
         ensures template { self.new.template ≡ self.old.template }
         ensures no_fewer { NoFewer self.old.world self.new.world }

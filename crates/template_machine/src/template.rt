@@ -6,7 +6,7 @@ ghost use Rattle.tm_meaning.specs.World.{root_of};
 ghost use Rattle.template_machine.specs.TemplateRef.{entry_id, held_id, held_template, IsHeldOf};
 ghost use Rattle.template_machine.specs.Environment.{meant};
 ghost use Rattle.template_machine.specs.Renders.{first, greatest, idle, meaning, meaning_from};
-ghost use Rattle.template_machine.specs.Renders.{IsCaptured, IsFresh, Ran, Rendered, RenderedCaptured, RenderedText};
+ghost use Rattle.template_machine.specs.Renders.{IsCapturedRun, IsFresh, Ran, Rendered, RenderedCaptured, RenderedText};
 
 use crate::environment::{BoxedObjects, EnvironmentOf};
 use crate::ids::StateIds;
@@ -228,7 +228,7 @@ impl<'env, 'source, O: Parties> TemplateOf<'env, 'source, O> {
 
     /// Runs the stream that a state names in a capture, and gives its text.
     fn run_in_capture(&self, state: &mut StateData) -> Result<String, Error>
-        ensures { IsCaptured result (meaning_from O.stated self.now state.old) state.new }
+        ensures { IsCapturedRun result (meaning_from O.stated self.now state.old) state.new }
     {
         let alloc = self.environment.allocator();
         let mut captures = Captures::new(alloc);

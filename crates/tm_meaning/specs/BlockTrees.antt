@@ -95,8 +95,8 @@ abbrev pub FailsAfter : Page → List ℕ → List ErrorKind → ℕ → Type 0
 FailsAfter p t chain charges = Says p 1000 t (1000 - charges) chain
 
 -- the name of the template behind the page, and the places of its lists of blocks
-abbrev pub EndsIn : Page → List ℕ → Type 0
-EndsIn p name = Behind (λ w. name_of (host_of p) w ≡ name) p
+abbrev pub PageEndsIn : Page → List ℕ → Type 0
+PageEndsIn p name = Behind (λ w. name_of (host_of p) w ≡ name) p
 
 abbrev pub places : World → List ℕ
 places w = each (λ b. place_in b.0 w.places) w.blocks

@@ -50,12 +50,12 @@ Ends p fuel vs n chain =
     × (left_behind (ended p (Some fuel)) ≡ left vs [] n chain)
 
 -- Its value, at so many charges.
-abbrev pub Gives : Page → Val → ℕ → Type 0
-Gives p v charges = Ends p 1000 (v ∷ []) (1000 - charges) []
+abbrev pub EvaluatesTo : Page → Val → ℕ → Type 0
+EvaluatesTo p v charges = Ends p 1000 (v ∷ []) (1000 - charges) []
 
 -- Its fault, behind so many charges.
-abbrev pub Refuses : Page → List ErrorKind → ℕ → Type 0
-Refuses p chain charges = Ends p 1000 [] (1000 - charges) chain
+abbrev pub EvaluationFails : Page → List ErrorKind → ℕ → Type 0
+EvaluationFails p chain charges = Ends p 1000 [] (1000 - charges) chain
 
 -- ---------------------------------------------------------------- expressions alone
 abbrev pub evaluating : Expr → Val → Page

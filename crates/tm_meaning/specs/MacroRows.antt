@@ -33,8 +33,8 @@ abbrev pub run_under : ℕ → AutoEscape → List Instruction → Said
 run_under limit escape code = said_by (end_of (under_limit limit) escape 1000 code)
 
 -- It writes this text at so many charges.
-abbrev pub Writes : List Instruction → List ℕ → ℕ → Type 0
-Writes code t charges = run_under 500 escapes.None code ≡ said t (1000 - charges) []
+abbrev pub CodeWrites : List Instruction → List ℕ → ℕ → Type 0
+CodeWrites code t charges = run_under 500 escapes.None code ≡ said t (1000 - charges) []
 
 abbrev pub FailsWith : List Instruction → ErrorKind → ℕ → Type 0
 FailsWith code kind charges = run_under 500 escapes.None code ≡ said [] (1000 - charges) (kind ∷ [])

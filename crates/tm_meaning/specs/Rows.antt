@@ -160,8 +160,8 @@ abbrev pub Behind : (World → Type 0) → Page → Type 0
 Behind Holds p = Holds (rendered (host_of p) (trees p) (world_of p None)).world × Holds (left_by (ended p None) (world_of p None))
 
 -- what is kept by names behind it
-abbrev pub Leaves : Page → Bindings → Type 0
-Leaves p temps = Behind (λ w. w.temps ≡ temps) p
+abbrev pub LeavesNames : Page → Bindings → Type 0
+LeavesNames p temps = Behind (λ w. w.temps ≡ temps) p
 
 -- a name that a look-up doesn't find behind it
 abbrev pub Lacks : Page → List ℕ → Type 0

@@ -12,7 +12,7 @@ ghost use Rattle.tm_meaning.specs.BlockRows.{run_before, extending, capital, one
 ghost use Rattle.tm_meaning.specs.Rows.{Charges, Fails, Says, Shows, said, literal, literal_number, raw, one, x};
 ghost use Rattle.tm_meaning.specs.FilterRows.{with_limit};
 ghost use Rattle.tm_meaning.specs.MacroTrees.{called, m, paged};
-ghost use Rattle.tm_meaning.specs.BlockTrees.{FailsAfter, EndsIn, AtChildren, of_base, of_mid, over_mid, over_mid_joined, mid_alone};
+ghost use Rattle.tm_meaning.specs.BlockTrees.{FailsAfter, PageEndsIn, AtChildren, of_base, of_mid, over_mid, over_mid_joined, mid_alone};
 ghost use Rattle.tm_meaning.specs.BlockTrees.{of_either, in_round, in_block_before, in_macro, behind_macro, extends_only, two_parents};
 ghost use Rattle.tm_meaning.specs.BlockTrees.{in_capture, extends_itself, of_chain, of_supers, self_behind, only_block, super_of_one};
 ghost use Rattle.tm_meaning.specs.BlockTrees.{super_member, self_of_one, self_as_value, self_while_waiting, super_as_value};
@@ -26,7 +26,7 @@ pub fn layout_rows()
     ensures base { Charges of_base (codes "B:[x" ++ decimal 1 ++ codes "]") 13 }
     ensures twelve { Says of_base 12 (codes "B:[x") 0 (OutOfFuel ∷ []) }
     ensures ten { Says of_base 10 (codes "B:[") 0 (EvalBlock ∷ OutOfFuel ∷ []) }
-    ensures name { EndsIn of_base (codes "base") }
+    ensures name { PageEndsIn of_base (codes "base") }
     ensures mid { Charges mid_alone (codes "B:mx") 8 }
     ensures over_mid { Charges over_mid (codes "B:cmx") 11 }
     ensures joined { Charges over_mid_joined (codes "B:cmx!") 14 }

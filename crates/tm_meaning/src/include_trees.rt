@@ -13,7 +13,7 @@ ghost use Rattle.tm_meaning.specs.Rows.{literal_number, said, x};
 ghost use Rattle.tm_meaning.specs.FilterRows.{with_limit};
 ghost use Rattle.tm_syntax.specs.declared.instruction.Instruction.TheVariants as i;
 ghost use Rattle.tm_meaning.specs.BlockRows.{one_left, run_before};
-ghost use Rattle.tm_meaning.specs.BlockTrees.{EndsIn, FailsAfter, GivesTwice};
+ghost use Rattle.tm_meaning.specs.BlockTrees.{PageEndsIn, FailsAfter, GivesTwice};
 ghost use Rattle.tm_meaning.specs.IncludeTrees.{ChargesOf, bad_includes, beside_itself};
 ghost use Rattle.tm_meaning.specs.IncludeTrees.{block_heard, block_unheard, blocks_apart};
 ghost use Rattle.tm_meaning.specs.IncludeTrees.{child_twice, closure_again, closure_apart};
@@ -43,7 +43,7 @@ pub fn include_rows()
         (BadInclude ∷ UndefinedError ∷ []) 5 }
     ensures restores { Restores (including (codes "bad")) }
     ensures scopes { Restores fault_in_scope }
-    ensures name { EndsIn (including (codes "bad")) (codes "page") }
+    ensures name { PageEndsIn (including (codes "bad")) (codes "page") }
     ensures itself { FailsAfter includes_itself [] (bad_includes 49 (InvalidOperation ∷ [])) 100 }
 {}
 

@@ -5,7 +5,7 @@ ghost use Rattle.tm_values.specs.Val.{boolean, function, map, no_pairs, number};
 ghost use Rattle.tm_values.specs.declared.error.ErrorKind.TheVariants.{CannotUnpack, InvalidOperation, MissingArgument, UndefinedError};
 ghost use Rattle.tm_values.specs.declared.error.ErrorKind.TheVariants.{UnknownFunction, UnknownMethod, OutOfFuel, WriteFailure, BadStream};
 ghost use Rattle.tm_values.specs.declared.error.ErrorKind.TheVariants.{OutOfMemory};
-ghost use Rattle.tm_meaning.specs.Rows.{Says, Charges, Shows, Fails, Leaves, Lacks, Restores, empty, text_alone, two_names};
+ghost use Rattle.tm_meaning.specs.Rows.{Says, Charges, Shows, Fails, LeavesNames, Lacks, Restores, empty, text_alone, two_names};
 ghost use Rattle.tm_meaning.specs.Rows.{one_name, nothing, with_value, hello, either_text, of_three, empty_condition};
 ghost use Rattle.tm_meaning.specs.Rows.{shown, a, a_and_b_c, a_or_x, not_equal, a_b, literal_number, three_in_a_row};
 ghost use Rattle.tm_meaning.specs.Rows.{false_before_fault, no_value, one_condition, two_conditions, in_block};
@@ -222,7 +222,7 @@ pub fn call_rows()
     ensures stream { Fails (calling (faulty (BadStream ∷ []))) [] (BadStream ∷ []) }
     ensures memory { Fails (calling (faulty (OutOfMemory ∷ []))) [] (OutOfMemory ∷ []) }
     ensures kept { Charges keep_and_read (decimal 2 ++ decimal 1) 4 }
-    ensures left { Leaves keep_and_read ((codes "k", number (pos 1)) ∷ []) }
+    ensures left { LeavesNames keep_and_read ((codes "k", number (pos 1)) ∷ []) }
     ensures no_name { Lacks keep_and_read (codes "k") }
     ensures arguments_first { Fails (unknown_behind (faulty (MissingArgument ∷ []))) (codes "a")
         (MissingArgument ∷ []) }
@@ -323,10 +323,10 @@ pub fn further_rows()
     ensures test { Shows (with_limit 2 further_of_test) (codes "true") }
     ensures endless { Fails (with_limit 5 (further_of (codes "again"))) [] (InvalidOperation ∷ []) }
     ensures fault { Fails (further_of (codes "kept")) [] (MissingArgument ∷ []) }
-    ensures fault_kept { Leaves (further_of (codes "kept")) ((codes "k", number (pos 1)) ∷ []) }
+    ensures fault_kept { LeavesNames (further_of (codes "kept")) ((codes "k", number (pos 1)) ∷ []) }
     ensures sees { Shows (further_of (codes "with_k")) (decimal 1) }
     ensures unknown { Fails (further_of (codes "unknown")) [] (UnknownFilter ∷ []) }
-    ensures kept { Leaves (further_of (codes "unknown")) ((codes "k", number (pos 1)) ∷ []) }
+    ensures kept { LeavesNames (further_of (codes "unknown")) ((codes "k", number (pos 1)) ∷ []) }
 {}
 
 /// Further calls of what a name stands for: its text is not safe; a function of the language; a name of a scope, and `loop`, which can't be
@@ -377,7 +377,7 @@ pub fn method_object_rows()
     ensures own_of_loop { Charges (with_methods by_name by_turns) (codes "xyx") 29 }
     ensures own { Shows (with_methods by_name (method_of_map (function 0))) (codes "a") }
     ensures fault { Fails (with_methods keeps_and_faults method_of_function) [] (MissingArgument ∷ []) }
-    ensures kept { Leaves (with_methods keeps_and_faults method_of_function)
+    ensures kept { LeavesNames (with_methods keeps_and_faults method_of_function)
         ((codes "k", number (pos 1)) ∷ []) }
 {}
 

@@ -4,7 +4,7 @@ use Rattle.std.proofs.lemmas.List.{append-nil}
 use Rattle.std.specs.Prelude.{Ok, Err}
 use Rattle.tm_definitions.specs.Ranges.{given}
 use Rattle.tm_definitions.specs.Spread.{joined}
-use Rattle.tm_operations.specs.Added.{Adds}
+use Rattle.tm_operations.specs.Added.{AddsValues}
 use Rattle.tm_values.specs.Answer.{Answer, is_memory_alone}
 use Rattle.tm_values.specs.Val.{Val}
 use Rattle.tm_values.specs.declared.error.ErrorKind.{ErrorKind}

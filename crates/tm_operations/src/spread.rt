@@ -3,7 +3,7 @@ ghost use Rattle.std.specs.Prelude.{◌≡◌, ◌++◌, Ok, IfErr, OnOk};
 ghost use Rattle.tm_definitions.specs.Iteration.{IsAnswerRead, items_of};
 ghost use Rattle.tm_definitions.specs.Spread.{items_of_all, merged, pairs_in, spread_items, spread_pairs};
 ghost use Rattle.tm_values.specs.Answer.{IsAnswer};
-ghost use Rattle.tm_operations.specs.Added.{Adds};
+ghost use Rattle.tm_operations.specs.Added.{AddsValues};
 
 use crate::iteration::items;
 use crate::maps::{not_a_map, share_pairs};
@@ -40,7 +40,7 @@ fn add_items<R: Records>(
     behavior: UndefinedBehavior,
     all: &mut Vec<Value>,
 ) -> Result<(), Error>
-    ensures { Adds result (spread_items behavior (R.records records.now) value.now)
+    ensures { AddsValues result (spread_items behavior (R.records records.now) value.now)
         all.old.items all.new.items }
 {
     check_defined(value, behavior, UndefinedUse::ItemSpread)?;
@@ -50,7 +50,7 @@ fn add_items<R: Records>(
 
 // Puts a second owner of each value behind those that are there.
 fn share_values(values: &[Value], all: &mut Vec<Value>) -> Result<(), Error>
-    ensures { Adds result (Ok values.now) all.old.items all.new.items }
+    ensures { AddsValues result (Ok values.now) all.old.items all.new.items }
 {
     all.reserve(values.len())?;
     for value in values {
@@ -86,7 +86,7 @@ fn add_pairs<R: Records>(
     behavior: UndefinedBehavior,
     all: &mut Vec<(Value, Value)>,
 ) -> Result<(), Error>
-    ensures { Adds result (spread_pairs behavior (R.records records.now) value.now)
+    ensures { AddsValues result (spread_pairs behavior (R.records records.now) value.now)
         all.old.items all.new.items }
 {
     check_defined(value, behavior, UndefinedUse::KeywordSpread)?;

@@ -9,12 +9,12 @@ use Rattle.tm_meaning.specs.Operators.{result_of}
 use Rattle.tm_values.specs.Truth.{is_undefined}
 
 -- The operator gives this value, however undefined values behave and whatever the records are.
-abbrev pub Gives : BinaryOperator → Val → Val → Val → Type 0
-Gives op x y v = (b : UndefinedBehavior) (r : RecordData) → result_of op b r x y ≡ Ok v
+abbrev pub Calculates : BinaryOperator → Val → Val → Val → Type 0
+Calculates op x y v = (b : UndefinedBehavior) (r : RecordData) → result_of op b r x y ≡ Ok v
 
 -- What the operator gives of the two topmost stands in their place.
 abbrev pub Operates : BinaryOperator → List Val → List Val → Type 0
-Operates op old new = (x : Val) × (y : Val) × (v : Val) × (rest : List Val) × (old ≡ y ∷ x ∷ rest) × (new ≡ v ∷ rest) × Gives op x y v
+Operates op old new = (x : Val) × (y : Val) × (v : Val) × (rest : List Val) × (old ≡ y ∷ x ∷ rest) × (new ≡ v ∷ rest) × Calculates op x y v
 
 -- The value has this attribute, however undefined values behave and whatever the records are.
 abbrev pub Has : Val → List ℕ → Val → Type 0

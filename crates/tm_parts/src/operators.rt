@@ -1,6 +1,6 @@
 //! What operators give.
 ghost use Rattle.std.specs.Prelude.{◌≡◌, IfErr, IfOk, IfSome, [], ◌∷◌};
-ghost use Rattle.tm_parts.specs.Operate.{Gives};
+ghost use Rattle.tm_parts.specs.Operate.{Calculates};
 ghost use Rattle.tm_values.specs.Val.{number};
 ghost use Rattle.tm_meaning.specs.Instructions as instructions;
 ghost use Rattle.tm_meaning.specs.Operators.{result_of, result_of_unary};
@@ -74,7 +74,7 @@ pub fn binary<R: Records>(
 /// What an operator gives of two numbers, where it needs no more than them.
 #[inline(always)]
 pub(crate) fn binary_at_once(operator: BinaryOperator, left: &Value, right: &Value) -> Option<Value>
-    ensures { IfSome result (λ v. Gives operator left.now right.now v) }
+    ensures { IfSome result (λ v. Calculates operator left.now right.now v) }
 {
     match (&left.node, &right.node) {
         (Node::Number(left), Node::Number(right)) => of_numbers(operator, *left, *right),
@@ -84,7 +84,7 @@ pub(crate) fn binary_at_once(operator: BinaryOperator, left: &Value, right: &Val
 
 #[inline(always)]
 fn of_numbers(operator: BinaryOperator, left: i128, right: i128) -> Option<Value>
-    ensures { IfSome result (λ v. Gives operator (number left) (number right) v) }
+    ensures { IfSome result (λ v. Calculates operator (number left) (number right) v) }
 {
     let comparison = match operator {
         BinaryOperator::Equal => ComparisonOperator::Equal,

@@ -23,21 +23,21 @@ json_rest r (rest.Member value left levels) =
     ++ members_text true (members_of (namespace_data r levels) (pairs_of left.now)))
 
 -- the text before the next value, the value, and what is left behind it
-abbrev pub IsNext : Rest → Next → Type 0
-IsNext x (next.Value before step) = (r : RecordData)
+abbrev pub IsNextJson : Rest → Next → Type 0
+IsNextJson x (next.Value before step) = (r : RecordData)
     → json_rest r x
     ≡ before.now ++ (json_within r step.levels step.value.now ++ json_rest r step.behind)
-IsNext x (next.Keyed before key step) = (r : RecordData)
+IsNextJson x (next.Keyed before key step) = (r : RecordData)
     → json_rest r x
     ≡ (before.now ++ (key_text key.now ++ 58 ∷ []))
     ++ (json_within r step.levels step.value.now ++ json_rest r step.behind)
-IsNext x (next.End closing) = (r : RecordData) → json_rest r x ≡ closing.now
+IsNextJson x (next.End closing) = (r : RecordData) → json_rest r x ≡ closing.now
 
 -- the next value and what is left behind it weigh less than what was left before
-abbrev pub IsNextLighter : Rest → Next → Type 0
-IsNextLighter x (next.Value before step) = IsLighter (Ok (Some step)) x
-IsNextLighter x (next.Keyed before key step) = IsLighter (Ok (Some step)) x
-IsNextLighter x (next.End closing) = IsLighter (Ok None) x
+abbrev pub IsNextJsonLighter : Rest → Next → Type 0
+IsNextJsonLighter x (next.Value before step) = IsLighter (Ok (Some step)) x
+IsNextJsonLighter x (next.Keyed before key step) = IsLighter (Ok (Some step)) x
+IsNextJsonLighter x (next.End closing) = IsLighter (Ok None) x
 
 -- of a value without parts; what has parts is opened, where it is there
 abbrev pub leaf_json : Val → List ℕ
@@ -48,10 +48,10 @@ leaf_json (exports ps s) = []
 leaf_json v = compact_text (data_of (λ s n. json.null) v)
 
 -- an opening bracket, and what is left behind it
-abbrev pub IsOpened : RecordData → ℕ → Val → List ℕ → Rest → Type 0
-IsOpened r levels v opening x =
+abbrev pub IsJsonOpened : RecordData → ℕ → Val → List ℕ → Rest → Type 0
+IsJsonOpened r levels v opening x =
     (json_within r levels v ≡ opening ++ json_rest r x)
     × (rest_weight (weight r) x ≤ val_size v * power (weight r) levels)
 
-abbrev pub IsLeaf : RecordData → ℕ → Val → Type 0
-IsLeaf r levels v = json_within r levels v ≡ leaf_json v
+abbrev pub IsJsonLeaf : RecordData → ℕ → Val → Type 0
+IsJsonLeaf r levels v = json_within r levels v ≡ leaf_json v

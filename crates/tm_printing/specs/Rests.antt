@@ -44,6 +44,6 @@ abbrev pub IsLeaf : RecordData → ℕ → Val → Type 0
 IsLeaf r levels v = inner r (namespace_text r levels) v ≡ leaf_text r v
 
 -- the next value and what is left behind it weigh less than what was left before
-abbrev pub IsNextLighter : Rest → Next → Type 0
-IsNextLighter x (next.Value before step) = IsLighter (Ok (Some step)) x
-IsNextLighter x (next.End closing) = IsLighter (Ok None) x
+abbrev pub IsNextRestLighter : Rest → Next → Type 0
+IsNextRestLighter x (next.Value before step) = IsLighter (Ok (Some step)) x
+IsNextRestLighter x (next.End closing) = IsLighter (Ok None) x

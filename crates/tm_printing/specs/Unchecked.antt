@@ -172,6 +172,6 @@ abbrev pub is_namespace : Val → Bool
 is_namespace (namespace s n) = true
 is_namespace v = false
 
-abbrev pub IsLeaf : Form → Val → Type 0
-IsLeaf form v = (r : RecordData) (inside : NamespaceVerdicts)
+abbrev pub IsUncheckedLeaf : Form → Val → Type 0
+IsUncheckedLeaf form v = (r : RecordData) (inside : NamespaceVerdicts)
     → is_namespace v ≡ false → verdict form r inside v ≡ leaf_verdict form r v

@@ -5,7 +5,7 @@ ghost use Rattle.tm_values.specs.Plain.{fits_json};
 ghost use Rattle.tm_values.specs.Records.{RecordData};
 ghost use Rattle.tm_values.specs.Val.{val_size, vals_size, pairs_size, vals_of, pairs_of};
 ghost use Rattle.tm_printing.specs.Plain.{is_plain};
-ghost use Rattle.tm_printing.specs.Unchecked.{Goes, IsLeaf, IsParts, IsMarked, IsUnmet, leaf_verdict, mark_at};
+ghost use Rattle.tm_printing.specs.Unchecked.{Goes, IsUncheckedLeaf, IsParts, IsMarked, IsUnmet, leaf_verdict, mark_at};
 ghost use Rattle.tm_printing.specs.Unchecked.{nothing, one_weight, to_check};
 ghost use Rattle.tm_definitions.specs.Verdicts.{in_json, key_verdict, if_holds, no_json, nowhere, items_verdict};
 ghost use Rattle.tm_definitions.specs.Verdicts.{pairs_verdict, loop_verdict, verdict, verdict_within, print_verdict, json_verdict};
@@ -252,7 +252,7 @@ fn put<'a>(unchecked: Unchecked<'a>, left: &mut Vec<Unchecked<'a>>) -> Result<()
 
 // The parts of a list, a map or, in JSON, a module.
 fn parts<'a>(form: Form, value: &'a Value) -> Option<Unchecked<'a>>
-    ensures { MatchOption result (IsLeaf form value.now) (IsParts form value.now) }
+    ensures { MatchOption result (IsUncheckedLeaf form value.now) (IsParts form value.now) }
 {
     match &value.node {
         Node::List(items, _) => Some(Unchecked::Items(items.as_slice())),

@@ -4,7 +4,7 @@ ghost use Rattle.serde_json.specs.Written.{number_text, comma_if};
 ghost use Rattle.tm_output.specs.Targets.{Takes};
 ghost use Rattle.tm_values.specs.Val.{namespace};
 ghost use Rattle.tm_definitions.specs.Json.{json_text, key_text, number_data};
-ghost use Rattle.tm_printing.specs.Data.{IsNext, IsNextLighter, IsOpened, IsLeaf, leaf_json};
+ghost use Rattle.tm_printing.specs.Data.{IsNextJson, IsNextJsonLighter, IsJsonOpened, IsJsonLeaf, leaf_json};
 ghost use Rattle.tm_printing.specs.Left.{Writes};
 
 use crate::rest::{Rest, Step, Unwritten};
@@ -90,8 +90,8 @@ pub enum Next<'a> {
 
 // What comes next.
 fn take_next<'a>(rest: Rest<'a>) -> Next<'a>
-    ensures text { IsNext rest.entry result }
-    ensures weight { IsNextLighter rest.entry result }
+    ensures text { IsNextJson rest.entry result }
+    ensures weight { IsNextJsonLighter rest.entry result }
 {
     match rest {
         Rest::Items(left, later, levels) => match left.split_first() {
@@ -140,8 +140,8 @@ fn open<'a, R: Records>(
     levels: usize,
     records: &'a R,
 ) -> Option<(&'static str, Rest<'a>)>
-    ensures { MatchOption result (IsLeaf (R.records records.now) levels value.now)
-        (λ opened. IsOpened (R.records records.now) levels value.now opened.0.now opened.1) }
+    ensures { MatchOption result (IsJsonLeaf (R.records records.now) levels value.now)
+        (λ opened. IsJsonOpened (R.records records.now) levels value.now opened.0.now opened.1) }
 {
     match &value.node {
         Node::List(items, _) => Some(("[", Rest::Items(items.as_slice(), false, levels))),
@@ -159,8 +159,8 @@ fn open_namespace<'a, R: Records>(
     levels: usize,
     records: &'a R,
 ) -> Option<(&'static str, Rest<'a>)>
-    ensures { MatchOption result (IsLeaf (R.records records.now) levels (namespace state index))
-        (λ opened. IsOpened (R.records records.now) levels (namespace state index)
+    ensures { MatchOption result (IsJsonLeaf (R.records records.now) levels (namespace state index))
+        (λ opened. IsJsonOpened (R.records records.now) levels (namespace state index)
         opened.0.now opened.1) }
 {
     let Some(inside) = levels.checked_sub(1) else {

@@ -6,7 +6,7 @@ ghost use Rattle.tm_definitions.specs.Emitted.{html_text};
 ghost use Rattle.tm_definitions.specs.Loops.{loop_text, position_text, progress_text};
 ghost use Rattle.tm_definitions.specs.Printed.{printed, bare_text, inner, comma_after, namespace_text, macro_text};
 ghost use Rattle.tm_printing.specs.Left.{Writes};
-ghost use Rattle.tm_printing.specs.Rests.{IsNext, IsNextLighter, IsOpened, IsLeaf, leaf_text};
+ghost use Rattle.tm_printing.specs.Rests.{IsNext, IsNextRestLighter, IsOpened, IsLeaf, leaf_text};
 
 use crate::rest::{Rest, Step, Unwritten};
 use crate::spelling::{Escape, Html, Verbatim};
@@ -129,7 +129,7 @@ pub enum Next<'a> {
 // What comes next.
 fn take_next<'a>(rest: Rest<'a>) -> Next<'a>
     ensures text { IsNext rest.entry result }
-    ensures weight { IsNextLighter rest.entry result }
+    ensures weight { IsNextRestLighter rest.entry result }
 {
     match rest {
         Rest::Items(left, later, levels) => match left.split_first() {

@@ -17,7 +17,7 @@ use Rattle.tm_meaning.specs.Runs.{at_end, new_run, nests_of, rendered, chain_in}
 use Rattle.tm_meaning.specs.Meaning.{eval}
 use Rattle.tm_meaning.specs.Runs.{chain_of, macro_body, macro_run, stream_run, restarting, run_of, failed}
 use Rattle.tm_meaning.specs.Inheritance.{names_left, place_in}
-use Rattle.tm_simulation.specs.Kept.{UnlessFault, Stays, Grows, EndsThere, PutsBack, GivesBack, bare}
+use Rattle.tm_simulation.specs.Kept.{UnlessFault, Stays, OnlyAdds, EndsThere, PutsBack, GivesBack, bare}
 use Rattle.tm_meaning.specs.declared.stream.TemplateId.{TemplateId}
 use Rattle.tm_meaning.specs.declared.stream.StreamId.{StreamId}
 use Rattle.tm_simulation.specs.Chains.{Arises, IfAny}
@@ -187,7 +187,7 @@ run_stays host trees n k heard out w =
     }
 
 pub run_grows : (host : HostValue) (trees : Trees) (n : ℕ) (k : Callee) (heard : Bool) (out : List ℕ) (w : World) →
-    Grows w (nests_of host trees n k heard out w)
+    OnlyAdds w (nests_of host trees n k heard out w)
 run_grows host trees n k heard out w =
     let o = nests_of host trees n k heard out w in
     let h = run_ends_as host w o (nests_end host trees n k heard out w) in
@@ -207,7 +207,7 @@ run_grows host trees n k heard out w =
 pub render_stays : (host : HostValue) (trees : Trees) (w : World) → Stays w (rendered host trees w)
 render_stays host trees w = run_stays host trees (host.limit + 1) (whole w.stream) true [] w
 
-pub render_grows : (host : HostValue) (trees : Trees) (w : World) → Grows w (rendered host trees w)
+pub render_grows : (host : HostValue) (trees : Trees) (w : World) → OnlyAdds w (rendered host trees w)
 render_grows host trees w = run_grows host trees (host.limit + 1) (whole w.stream) true [] w
 
 pub render_ends_there : (host : HostValue) (trees : Trees) (w : World) → EndsThere w.stream (rendered host trees w)

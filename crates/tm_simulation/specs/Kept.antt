@@ -55,7 +55,7 @@ pub record Stays (old : World) (o : Outcome) : Type 0 where
 -- A state's records, the values that objects keep, the names loaded and the lists of blocks are never fewer, and the places in these lists
 -- and the block are as they were, however the run ends.
 -- Where that is no fault so is the escape.
-pub record Grows (old : World) (o : Outcome) : Type 0 where
+pub record OnlyAdds (old : World) (o : Outcome) : Type 0 where
   pub loops : GoesOn old.loops o.world.loops
   pub namespaces : length old.namespaces ≤ length o.world.namespaces
   pub closures : length old.closures ≤ length o.world.closures

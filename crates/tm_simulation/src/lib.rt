@@ -22,7 +22,7 @@ ghost use Rattle.tm_meaning.specs.Runs.{chain_of, nests_of, new_run, rendered, r
 ghost use Rattle.tm_meaning.specs.Machine.{Program, Capture, Stuck};
 ghost use Rattle.tm_meaning.specs.Steps.{Final, final};
 ghost use Rattle.tm_meaning.specs.Compiled.{IsCompiled};
-ghost use Rattle.tm_simulation.specs.Kept.{Stays, Grows, EndsThere, GivesBack, PutsBack};
+ghost use Rattle.tm_simulation.specs.Kept.{Stays, OnlyAdds, EndsThere, GivesBack, PutsBack};
 ghost use Rattle.tm_simulation.specs.Chains.{Arises, IfAny, HasRaised, StatesOnly};
 ghost use Rattle.tm_simulation.specs.Chains.{StatesNoMemory, ends_in_memory, MayWrap, is_foreign, HasNoForeign};
 ghost use Rattle.tm_simulation.specs.Reached.{RunsTo, Renders, HasLevels};
@@ -114,7 +114,7 @@ pub fn a_run_keeps_its_state()
 /// A render loses nothing, also where it ends in a fault: no record, no kept value, no name loaded, and no template of a block's list;
 /// the places in these lists and the block are as they were, and where it ends in no fault so is the escape.
 pub fn a_render_loses_nothing()
-    ensures { (host : HostValue) (trees : Trees) (w : World) → Grows w (rendered host trees w) }
+    ensures { (host : HostValue) (trees : Trees) (w : World) → OnlyAdds w (rendered host trees w) }
 {}
 
 /// A render ends in the stream in which it began, or in the root of a parent, also where it ends in

@@ -27,7 +27,7 @@ use Rattle.tm_tables.specs.Lists.{AreBlocksOf, IsEntry, ListsValue, alone_in}
 use Rattle.tm_tables.specs.declared.template_entry.TemplateEntry.{TemplateEntry}
 use Rattle.tm_meaning.specs.Inheritance.{joined}
 use Rattle.tm_values.specs.Records.{RecordData}
-use Rattle.tm_state.specs.Answers.{IsChosen, IsFirst, IsNamed, IsThere, NeedsSuper, OneDeeper}
+use Rattle.tm_state.specs.Answers.{IsChosen, IsFirstEntry, IsNamed, IsEntryThere, NeedsSuper, OneDeeper}
 use Rattle.tm_state.specs.State.{put_back, saved_include}
 use Rattle.tm_state.specs.declared.nested.RunOf.TheVariants as run_of
 use Rattle.tm_state.specs.declared.saved.Saved.TheVariants as saved
@@ -126,7 +126,7 @@ module _ (host : HostValue) (x : List ℕ) (w : World) (lent : Bor (Rc (List (Li
         ∙ ap (λ ss. record w { scopes = record w.scopes { frames = ss } }) (owned_again None w.scopes.frames)
 
 -- its escape is that of the template that is there
-pub escape_there : (host : HostValue) (e : TemplateEntry) → IsThere e host → e.escape ≡ (template_at host (Entry e.name.now)).escape
+pub escape_there : (host : HostValue) (e : TemplateEntry) → IsEntryThere e host → e.escape ≡ (template_at host (Entry e.name.now)).escape
 escape_there host e there =
     let found = there.2.1 in
     let same : Some there.2.0.escape ≡ Some e.escape = ap (option_map (λ (t : Template). t.escape)) (sym found) ∙ there.1 in
@@ -156,7 +156,7 @@ text_alone r (namespace s n) x is = absurd (cc is)
 
 -- the first choice is there, or those behind it are tried
 module _ (host : HostValue) (v : Val) (vs : List Val) (w : World) (name : List ℕ) (is : text_in v ≡ Some name) where
-  first_there : (e : TemplateEntry) → IsNamed (Some e) host name w → IsFirst (Some e) host (v ∷ vs) w
+  first_there : (e : TemplateEntry) → IsNamed (Some e) host name w → IsFirstEntry (Some e) host (v ∷ vs) w
   first_there e named =
       let at = named.2 in (
         rw (is, named.1, at.2.1) (ap (λ y. Good (Some (Entry y)) w) (sym at.0)),

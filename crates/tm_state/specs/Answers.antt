@@ -160,7 +160,7 @@ CallLies limit (Ok (outcome.Run e)) old new = CallDeeper limit e.value.saved old
 CallLies limit _ old new = StaysInPlace old new
 
 -- What a call leaves, whatever it came to.
-pub record Leaves (limit : ℕ) (result : Result CallResult (List ErrorKind)) (old new : World) : Type 0 where
+pub record LeavesState (limit : ℕ) (result : Result CallResult (List ErrorKind)) (old new : World) : Type 0 where
   pub kept : KeepsFixedAndNames old new
   pub lies : CallLies limit result old new
 
@@ -230,15 +230,15 @@ abbrev pub IsNamed : Option TemplateEntry → HostValue → List ℕ → World �
 IsNamed found host name w = (x : List ℕ) × (joined host name w ≡ Good x w) × IsEntry found x (find x host.templates)
 
 -- This template is there.
-abbrev pub IsThere : TemplateEntry → HostValue → Type 0
-IsThere e host = IsEntry (Some e) e.name.now (find e.name.now host.templates)
+abbrev pub IsEntryThere : TemplateEntry → HostValue → Type 0
+IsEntryThere e host = IsEntry (Some e) e.name.now (find e.name.now host.templates)
 
 -- The first template of these choices that is there; or none is there.
-abbrev pub IsFirst : Option TemplateEntry → HostValue → List Val → World → Type 0
-IsFirst None host vs w = first_found host vs w ≡ Good None w
-IsFirst (Some e) host vs w = (first_found host vs w ≡ Good (Some (Entry e.name.now)) w) × IsThere e host
+abbrev pub IsFirstEntry : Option TemplateEntry → HostValue → List Val → World → Type 0
+IsFirstEntry None host vs w = first_found host vs w ≡ Good None w
+IsFirstEntry (Some e) host vs w = (first_found host vs w ≡ Good (Some (Entry e.name.now)) w) × IsEntryThere e host
 
 -- The first of those that a value names, and whether it names none.
 abbrev pub IsChosen : Option TemplateEntry → Bool → HostValue → Val → World → Type 0
 IsChosen found none host v w =
-    (vs : List Val) × (choices_in (records_of w) v ≡ Ok vs) × (none ≡ no_values vs) × IsFirst found host vs w
+    (vs : List Val) × (choices_in (records_of w) v ≡ Ok vs) × (none ≡ no_values vs) × IsFirstEntry found host vs w

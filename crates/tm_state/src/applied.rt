@@ -1,7 +1,7 @@
 //! What values give that are passed to what a name stands for: a method, a filter or a test.
 ghost use Rattle.std.specs.Prelude.{◌≡◌};
 ghost use Rattle.tm_meaning.specs.Calls.{applied, apply_filter, call_first, perform_test};
-ghost use Rattle.tm_state.specs.Answers.{Becomes, FoundAnswers, Leaves};
+ghost use Rattle.tm_state.specs.Answers.{Becomes, FoundAnswers, LeavesState};
 ghost use Rattle.tm_syntax.specs.Named.{find};
 ghost use Rattle.tm_values.specs.declared.error.ErrorKind.TheVariants.{UnknownFilter, UnknownTest};
 
@@ -28,7 +28,7 @@ impl StateData {
     ) -> Result<CallResult, Error>
         ensures called { Becomes result
             (applied (H.meaning host.now) application name.now args.now self.old) self.new }
-        ensures leaves { Leaves (H.meaning host.now).limit result self.old self.new }
+        ensures leaves { LeavesState (H.meaning host.now).limit result self.old self.new }
     {
         match application {
             Application::Method => self.call_first(alloc, host, name, args),
@@ -49,7 +49,7 @@ impl StateData {
     ) -> Result<CallResult, Error>
         ensures called { Becomes result
             (call_first (H.meaning host.now) name.now args.now self.old) self.new }
-        ensures leaves { Leaves (H.meaning host.now).limit result self.old self.new }
+        ensures leaves { LeavesState (H.meaning host.now).limit result self.old self.new }
     {
         match args.split_first() {
             Some((receiver, others)) => self.call_method(alloc, host, receiver, name, others),
@@ -72,7 +72,7 @@ impl StateData {
     ) -> Result<CallResult, Error>
         ensures called { Becomes result
             (apply_filter (H.meaning host.now) name.now args.now self.old) self.new }
-        ensures leaves { Leaves (H.meaning host.now).limit result self.old self.new }
+        ensures leaves { LeavesState (H.meaning host.now).limit result self.old self.new }
     {
         let answer = self.filter_answer(alloc, host, name, place, args)?;
         self.follow(alloc, host, answer, false)
@@ -92,7 +92,7 @@ impl StateData {
     ) -> Result<CallResult, Error>
         ensures called { Becomes result
             (perform_test (H.meaning host.now) name.now args.now self.old) self.new }
-        ensures leaves { Leaves (H.meaning host.now).limit result self.old self.new }
+        ensures leaves { LeavesState (H.meaning host.now).limit result self.old self.new }
     {
         let answer = self.test_answer(alloc, host, name, place, args)?;
         self.follow(alloc, host, answer, true)

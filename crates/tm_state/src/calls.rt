@@ -7,7 +7,7 @@ ghost use Rattle.tm_values.specs.Val.{function, loop, macro};
 ghost use Rattle.tm_meaning.specs.Calls.{by_depths, call_callee, call_found, call_innermost, call_looked_up, call_loop, call_named, call_value};
 ghost use Rattle.tm_meaning.specs.Calls.{call_method, named_call};
 ghost use Rattle.tm_meaning.specs.Calls.{loop_method, method_in, method_object, unknown_method, is_macro_attribute};
-ghost use Rattle.tm_state.specs.Answers.{Becomes, FoundAnswers, IsBecause, Leaves, NamedBecomes, Recurs};
+ghost use Rattle.tm_state.specs.Answers.{Becomes, FoundAnswers, IsBecause, LeavesState, NamedBecomes, Recurs};
 ghost use Rattle.tm_values.specs.declared.error.ErrorKind.TheVariants.{UnknownMethod};
 
 use crate::nested::NestedRun;
@@ -55,7 +55,7 @@ impl StateData {
     ) -> Result<CallResult, Error>
         ensures called { NamedBecomes result
             (call_named (H.meaning host.now) name.now args.now self.old) self.new }
-        ensures leaves { Leaves (H.meaning host.now).limit result self.old self.new }
+        ensures leaves { LeavesState (H.meaning host.now).limit result self.old self.new }
     {
         if name.as_str() == "super" {
             return self.call_super(alloc, host, args);
@@ -74,7 +74,7 @@ impl StateData {
     ) -> Result<CallResult, Error>
         ensures called { Becomes result
             (call_looked_up (H.meaning host.now) name.now args.now self.old) self.new }
-        ensures leaves { Leaves (H.meaning host.now).limit result self.old self.new }
+        ensures leaves { LeavesState (H.meaning host.now).limit result self.old self.new }
     {
         let Some(found) = self.lookup(host, name)? else {
             return Err(Error::from(ErrorKind::UnknownFunction));
@@ -101,7 +101,7 @@ impl StateData {
     ) -> Result<CallResult, Error>
         ensures called { Becomes result (named_call (by_depths (H.meaning host.now) self.old) 0
             (H.meaning host.now) name.now args.now self.old) self.new }
-        ensures leaves { Leaves (H.meaning host.now).limit result self.old self.new }
+        ensures leaves { LeavesState (H.meaning host.now).limit result self.old self.new }
     {
         match self.lookup(host, name)? {
             Some(found) => self.call_value(alloc, host, &found, args),
@@ -119,7 +119,7 @@ impl StateData {
         values: &[Value],
     ) -> Result<CallResult, Error>
         ensures called { Becomes result (call_callee (H.meaning host.now) values.now self.old) self.new }
-        ensures leaves { Leaves (H.meaning host.now).limit result self.old self.new }
+        ensures leaves { LeavesState (H.meaning host.now).limit result self.old self.new }
     {
         match values.split_first() {
             Some((callee, args)) => self.call_value(alloc, host, callee, args),
@@ -207,7 +207,7 @@ impl StateData {
     ) -> Result<CallResult, Error>
         ensures called { Becomes result
             (call_method (H.meaning host.now) name.now receiver.now args.now self.old) self.new }
-        ensures leaves { Leaves (H.meaning host.now).limit result self.old self.new }
+        ensures leaves { LeavesState (H.meaning host.now).limit result self.old self.new }
     {
         if let Node::Loop(state, number) = &receiver.node {
             return self.call_loop_method(alloc, host, receiver, *state, *number, name, args);
@@ -231,7 +231,7 @@ impl StateData {
     ) -> Result<CallResult, Error>
         ensures called { Becomes result (unknown_method (H.meaning host.now)
             name.now receiver.now args.now self.old) self.new }
-        ensures leaves { Leaves (H.meaning host.now).limit result self.old self.new }
+        ensures leaves { LeavesState (H.meaning host.now).limit result self.old self.new }
     {
         let answer = self.method_answer(alloc, host, receiver, name, args)?;
         self.follow(alloc, host, answer, false)
@@ -272,7 +272,7 @@ impl StateData {
         requires { receiver.now ≡ loop state number }
         ensures called { Becomes result (loop_method (H.meaning host.now)
             name.now state number args.now self.old) self.new }
-        ensures leaves { Leaves (H.meaning host.now).limit result self.old self.new }
+        ensures leaves { LeavesState (H.meaning host.now).limit result self.old self.new }
     {
         let changed = name == "changed";
         if !changed && name != "cycle" {
@@ -321,7 +321,7 @@ impl StateData {
     ) -> Result<CallResult, Error>
         ensures called { Becomes result
             (call_value (H.meaning host.now) value.now args.now self.old) self.new }
-        ensures leaves { Leaves (H.meaning host.now).limit result self.old self.new }
+        ensures leaves { LeavesState (H.meaning host.now).limit result self.old self.new }
     {
         match &value.node {
             Node::Function(number) => self.call_number(alloc, host, *number, args),
@@ -341,7 +341,7 @@ impl StateData {
     ) -> Result<CallResult, Error>
         ensures called { Becomes result
             (call_value (H.meaning host.now) (function number) args.now self.old) self.new }
-        ensures leaves { Leaves (H.meaning host.now).limit result self.old self.new }
+        ensures leaves { LeavesState (H.meaning host.now).limit result self.old self.new }
     {
         let answer = self.function_answer(alloc, host, number, args)?;
         self.follow(alloc, host, answer, false)
@@ -359,7 +359,7 @@ impl StateData {
     ) -> Result<CallResult, Error>
         ensures called { Becomes result
             (call_value (H.meaning host.now) (macro declared.now) args.now self.old) self.new }
-        ensures leaves { Leaves (H.meaning host.now).limit result self.old self.new }
+        ensures leaves { LeavesState (H.meaning host.now).limit result self.old self.new }
     {
         let run = self.macro_run(alloc, host, declared, args, 0, RunText::Captured)?;
         Ok(CallResult::Run(run))

@@ -7,7 +7,7 @@ ghost use Rattle.tm_meaning.specs.World.{depth};
 ghost use Rattle.tm_meaning.specs.Calls.{block_call, by_depths, deeper, enter_block, from_deeper, further_call, has, refused};
 ghost use Rattle.tm_meaning.specs.Calls.{as_printed, named_call, replied, runs, value_call};
 ghost use Rattle.tm_meaning.specs.declared.run_text.RunText.TheVariants as texts;
-ghost use Rattle.tm_state.specs.Answers.{Answers, Becomes, Comes, FurtherComes, FurtherLies, KeepsFixedAndNames, Leaves, NeedsPlain, PrintedComes};
+ghost use Rattle.tm_state.specs.Answers.{Answers, Becomes, Comes, FurtherComes, FurtherLies, KeepsFixedAndNames, LeavesState, NeedsPlain, PrintedComes};
 ghost use Rattle.tm_state.specs.Answers.{CallDeeper, HasOneMore, is_macro, shown, tested, text_for};
 ghost use Rattle.tm_state.specs.State.{saved_of};
 
@@ -44,7 +44,7 @@ impl StateData {
         ensures called { Becomes result (tested test
             (replied (by_depths (H.meaning host.now) self.old) answer.reply
             (record self.old { temps = put_each answer.temps self.old.temps }))) self.new }
-        ensures leaves { Leaves (H.meaning host.now).limit result self.old self.new }
+        ensures leaves { LeavesState (H.meaning host.now).limit result self.old self.new }
     {
         let left = self.depths_left(host);
         let mut made = 0;

@@ -4,7 +4,7 @@ ghost use Rattle.tm_meaning.specs.Calls.{enter_include, first_found, include_dep
 ghost use Rattle.tm_meaning.specs.Inheritance.{joined};
 ghost use Rattle.tm_meaning.specs.Memory.{is_want_of_memory};
 ghost use Rattle.tm_meaning.specs.World.{Bad, depth, module_of, owning};
-ghost use Rattle.tm_state.specs.Answers.{IncludeLies, IsChosen, IsFirst, IsNamed, IsThere, KeepsFixedAndNames, NeedsInclude};
+ghost use Rattle.tm_state.specs.Answers.{IncludeLies, IsChosen, IsFirstEntry, IsNamed, IsEntryThere, KeepsFixedAndNames, NeedsInclude};
 ghost use Rattle.tm_state.specs.Answers.{NeedsSuper, OneDeeper};
 ghost use Rattle.tm_state.specs.State.{saved_include};
 ghost use Rattle.tm_values.specs.Answer.{OkOrOutOfMemory};
@@ -88,7 +88,7 @@ impl StateData {
         choices: &[Value],
     ) -> Result<Option<TemplateEntry<'a>>, Error>
         ensures ok { IfOk result (λ found.
-            IsFirst found (H.meaning host.now) choices.now self.now) }
+            IsFirstEntry found (H.meaning host.now) choices.now self.now) }
         ensures err { IfErr result (λ e. is_want_of_memory e ≡ false →
             first_found (H.meaning host.now) choices.now self.now ≡ Bad e self.now) }
     {
@@ -137,7 +137,7 @@ impl StateData {
         entry: TemplateEntry<'_>,
         heard: bool,
     ) -> Result<Box<NestedRun>, Error>
-        requires { IsThere entry (H.meaning host.now) }
+        requires { IsEntryThere entry (H.meaning host.now) }
         ensures ok { IfOk result (λ run. (missing : _) → NeedsSuper heard false run.value
             (include_found (H.meaning host.now) missing
             (Some (TemplateId.Entry entry.entry.name.now)) self.old)

@@ -4,7 +4,7 @@ ghost use Rattle.tm_meaning.specs.Calls.{call_super, enter_super, refused};
 ghost use Rattle.tm_meaning.specs.Inheritance.{load, load_named, names_left};
 ghost use Rattle.tm_meaning.specs.Memory.{is_want_of_memory};
 ghost use Rattle.tm_meaning.specs.World.{Bad, Good};
-ghost use Rattle.tm_state.specs.Answers.{IsCall, KeepsFixedAndNames, Leaves, NamedBecomes, NeedsSuper, OneDeeper};
+ghost use Rattle.tm_state.specs.Answers.{IsCall, KeepsFixedAndNames, LeavesState, NamedBecomes, NeedsSuper, OneDeeper};
 ghost use Rattle.tm_state.specs.State.{IsNextOf, saved_of, template_behind};
 
 use crate::calls::CallResult;
@@ -27,7 +27,7 @@ impl StateData {
     ) -> Result<CallResult, Error>
         ensures called { NamedBecomes result
             (call_super (H.meaning host.now) args.now self.old) self.new }
-        ensures leaves { Leaves (H.meaning host.now).limit result self.old self.new }
+        ensures leaves { LeavesState (H.meaning host.now).limit result self.old self.new }
     {
         if !args.is_empty() {
             return Err(Error::from(ErrorKind::InvalidOperation));

@@ -3,7 +3,7 @@ ghost use Rattle.std.specs.Prelude.{◌≡◌, ◌+◌, ◌≤◌, ◌∷◌, []
 ghost use Rattle.tm_meaning.specs.Calls.{deeper, enter_block, refused};
 ghost use Rattle.tm_meaning.specs.Memory.{is_want_of_memory};
 ghost use Rattle.tm_meaning.specs.World.{depth};
-ghost use Rattle.tm_state.specs.Answers.{Becomes, HasOneMore, KeepsFixedAndNames, Leaves};
+ghost use Rattle.tm_state.specs.Answers.{Becomes, HasOneMore, KeepsFixedAndNames, LeavesState};
 ghost use Rattle.tm_state.specs.State.{IsBlockOf, behind_block, behind_include, behind_macro, behind_super, lists_of, put_back, runs_block};
 ghost use Rattle.tm_state.specs.State.{saved_of, saved_scopes, template_of_block};
 ghost use Rattle.tm_values.specs.Answer.{IsLent};
@@ -83,7 +83,7 @@ impl StateData {
     ) -> Result<CallResult, Error>
         ensures called { Becomes result
             (enter_block (H.meaning host.now) name.now self.old) self.new }
-        ensures leaves { Leaves (H.meaning host.now).limit result self.old self.new }
+        ensures leaves { LeavesState (H.meaning host.now).limit result self.old self.new }
     {
         let (stream, saved) = self.enter_block(alloc, host, name)?;
         let run = NestedRun {

@@ -12,7 +12,7 @@ use Rattle.std.specs.Map.{keys_of}
 use Rattle.std.specs.Ordering.{match_ordering, is_eq, ordering_index, ordering_reverse}
 use Rattle.tm_syntax.specs.Named.{Named, name_cmp, same_name, find, put, without}
 use Rattle.tm_syntax.proofs.Named.{without_absent}
-use Rattle.tm_tables.specs.Places.{AreOrdered, IsThere, IsGapFor}
+use Rattle.tm_tables.specs.Places.{AreOrdered, IsNameAt, IsNameGap}
 
 -- the other way round
 turned : (x y : List ℕ) (o : Ordering) → name_cmp x y ≡ o → name_cmp y x ≡ ordering_reverse o
@@ -64,7 +64,7 @@ module _ {A : Type 0} where
       turned p.0 x Less (sym (alike_right nat_list_cmp_total (get_or ps i d).0 x p.0 same) ∙ above-at p.0 ps i d a h)
 
   -- a name that is there is found
-  find-there : (x : List ℕ) (ps : Named A) (i : ℕ) (d : List ℕ × A) → AreOrdered ps → IsThere x ps i → find x ps ≡ Some (get_or ps i d).1
+  find-there : (x : List ℕ) (ps : Named A) (i : ℕ) (d : List ℕ × A) → AreOrdered ps → IsNameAt x ps i → find x ps ≡ Some (get_or ps i d).1
   unfolding IsStrictlySortedBy
   find-there x [] i d o t = absurd (omega (arith, t.in_range))
   find-there x (p ∷ ps) zero d o t = rw (turned p.0 x Equal (t.same_name d))
@@ -73,12 +73,12 @@ module _ {A : Type 0} where
       rw (behind_first x p ps i d o.0 within (t.same_name d))
       (find-there x ps i d o.1 (record { in_range = within; same_name = λ e. t.same_name e }))
 
-  pub find-read : (x : List ℕ) (ps : Named A) (i : ℕ) (p : List ℕ × A) → AreOrdered ps → IsThere x ps i → p ≡ get_or ps i p →
+  pub find-read : (x : List ℕ) (ps : Named A) (i : ℕ) (p : List ℕ × A) → AreOrdered ps → IsNameAt x ps i → p ≡ get_or ps i p →
       find x ps ≡ Some p.1
   find-read x ps i p o t e = find-there x ps i p o t ∙ ap (λ (q : List ℕ × A). Some q.1) (sym e)
 
   -- and one that is not there isn't
-  pub find-gap : (x : List ℕ) (ps : Named A) (i : ℕ) → IsGapFor x ps i → find x ps ≡ None
+  pub find-gap : (x : List ℕ) (ps : Named A) (i : ℕ) → IsNameGap x ps i → find x ps ≡ None
   find-gap x [] i g = refl
   find-gap x (p ∷ ps) zero g =
       rw (turned p.0 x Greater (g.higher_after 0 p (omega arith) (omega arith)))
@@ -96,7 +96,7 @@ module _ {A : Type 0} where
       }))
 
   -- `put` writes over what stands at a name that is there
-  put-there : (x : List ℕ) (a : A) (ps : Named A) (i : ℕ) (d : List ℕ × A) → AreOrdered ps → IsThere x ps i →
+  put-there : (x : List ℕ) (a : A) (ps : Named A) (i : ℕ) (d : List ℕ × A) → AreOrdered ps → IsNameAt x ps i →
       put x a ps ≡ set ps i ((get_or ps i d).0, a)
   unfolding IsStrictlySortedBy
   put-there x a [] i d o t = absurd (omega (arith, t.in_range))
@@ -106,12 +106,12 @@ module _ {A : Type 0} where
       rw (behind_first x p ps i d o.0 within (t.same_name d))
       (ap (λ l. p ∷ l) (put-there x a ps i d o.1 (record { in_range = within; same_name = λ e. t.same_name e })))
 
-  put-read : (x : List ℕ) (a : A) (ps : Named A) (i : ℕ) (p : List ℕ × A) → AreOrdered ps → IsThere x ps i → p ≡ get_or ps i p →
+  put-read : (x : List ℕ) (a : A) (ps : Named A) (i : ℕ) (p : List ℕ × A) → AreOrdered ps → IsNameAt x ps i → p ≡ get_or ps i p →
       put x a ps ≡ set ps i (p.0, a)
   put-read x a ps i p o t e = put-there x a ps i p o t ∙ ap (λ (q : List ℕ × A). set ps i (q.0, a)) (sym e)
 
   -- and puts a new name into the gap
-  put-gap : (x : List ℕ) (a : A) (ps : Named A) (i : ℕ) → IsGapFor x ps i → put x a ps ≡ insert ps i (x, a)
+  put-gap : (x : List ℕ) (a : A) (ps : Named A) (i : ℕ) → IsNameGap x ps i → put x a ps ≡ insert ps i (x, a)
   put-gap x a [] zero g = refl
   put-gap x a [] (suc i) g = absurd (omega (arith, g.in_range))
   put-gap x a (p ∷ ps) zero g = rw (turned p.0 x Greater (g.higher_after 0 p (omega arith) (omega arith)))
@@ -160,7 +160,7 @@ module _ {A : Type 0} where
   -- what a binary search for the name answers
   searched : (x : List ℕ) (ps : Named A) → AreOrdered ps → (r : Result ℕ ℕ) → IsSearchInRange r (length ps) →
       IsBinarySearchResult (λ (p : List ℕ × A). name_cmp p.0 x) ps r
-      → MatchResult r (IsThere x ps) (IsGapFor x ps)
+      → MatchResult r (IsNameAt x ps) (IsNameGap x ps)
   searched x ps o (Ok i) h found = record { in_range = h; same_name = λ d. found d }
   searched x ps o (Err i) h parted = record {
     in_range = h;
@@ -171,28 +171,28 @@ module _ {A : Type 0} where
   -- the same of what is lent of the names
   pub searched_in : (x : List ℕ) (ps lent seen : Named A) → lent ≡ ps → ps ≡ seen → AreOrdered ps → (r : Result ℕ ℕ) →
       IsSearchInRange r (length lent)
-      → IsBinarySearchResult (λ (p : List ℕ × A). name_cmp p.0 x) lent r → MatchResult r (IsThere x seen) (IsGapFor x seen)
+      → IsBinarySearchResult (λ (p : List ℕ × A). name_cmp p.0 x) lent r → MatchResult r (IsNameAt x seen) (IsNameGap x seen)
   searched_in x ps lent seen e f o r h found =
-      subst (λ l. MatchResult r (IsThere x l) (IsGapFor x l)) (e ∙ f) (searched x lent (subst AreOrdered (sym e) o) r h found)
+      subst (λ l. MatchResult r (IsNameAt x l) (IsNameGap x l)) (e ∙ f) (searched x lent (subst AreOrdered (sym e) o) r h found)
 
   -- what stands at a name of what is seen of the names is written over: it is what `put` gives, and the names stay in order
-  pub written : (x y : List ℕ) (a : A) (ps seen : Named A) (i : ℕ) (p : List ℕ × A) → ps ≡ seen → y ≡ x → AreOrdered ps → IsThere y seen i →
+  pub written : (x y : List ℕ) (a : A) (ps seen : Named A) (i : ℕ) (p : List ℕ × A) → ps ≡ seen → y ≡ x → AreOrdered ps → IsNameAt y seen i →
       p ≡ get_or ps i p → set ps i (p.0, a) ≡ put x a seen
   written x y a ps seen i p e f o t at =
-      sym (put-read y a ps i p o (subst (λ l. IsThere y l i) (sym e) t) at) ∙ ap (λ z. put z a ps) f ∙ ap (put x a) e
+      sym (put-read y a ps i p o (subst (λ l. IsNameAt y l i) (sym e) t) at) ∙ ap (λ z. put z a ps) f ∙ ap (put x a) e
 
   pub written-ordered : (x y : List ℕ) (a : A) (ps seen : Named A) (i : ℕ) (p : List ℕ × A) → ps ≡ seen → y ≡ x → AreOrdered ps →
-      IsThere y seen i → p ≡ get_or ps i p → AreOrdered (set ps i (p.0, a))
+      IsNameAt y seen i → p ≡ get_or ps i p → AreOrdered (set ps i (p.0, a))
   written-ordered x y a ps seen i p e f o t at =
       subst AreOrdered (ap (put x a) e ∙ sym (written x y a ps seen i p e f o t at)) (ordered-put x a ps o)
 
   -- so it is with what is put into a gap
-  pub added : (x y : List ℕ) (a : A) (ps seen : Named A) (i : ℕ) → ps ≡ seen → y ≡ x → IsGapFor y seen i → insert ps i (x, a) ≡ put x a seen
+  pub added : (x y : List ℕ) (a : A) (ps seen : Named A) (i : ℕ) → ps ≡ seen → y ≡ x → IsNameGap y seen i → insert ps i (x, a) ≡ put x a seen
   added x y a ps seen i e f g =
-      ap (λ l. insert l i (x, a)) e ∙ sym (put-gap x a seen i (subst (λ z. IsGapFor z seen i) f g))
+      ap (λ l. insert l i (x, a)) e ∙ sym (put-gap x a seen i (subst (λ z. IsNameGap z seen i) f g))
 
   pub added-ordered : (x y : List ℕ) (a : A) (ps seen : Named A) (i : ℕ) (b : Bool) → ps ≡ seen → y ≡ x → AreOrdered ps →
-      IsGapFor y seen i → AreOrdered (if b then insert ps i (x, a) else ps)
+      IsNameGap y seen i → AreOrdered (if b then insert ps i (x, a) else ps)
   added-ordered x y a ps seen i true e f o g =
       subst AreOrdered (ap (put x a) e ∙ sym (added x y a ps seen i e f g)) (ordered-put x a ps o)
   added-ordered x y a ps seen i false e f o g = o
@@ -201,20 +201,20 @@ module _ {A : Type 0} where
   ordered_without_names ps e = subst AreOrdered (sym e) (ordered-none A)
 
   -- what stands at a name of what is seen of the names
-  pub read : (x : List ℕ) (ps seen : Named A) (i : ℕ) (p : List ℕ × A) → ps ≡ seen → AreOrdered ps → IsThere x seen i → p ≡ get_or ps i p →
+  pub read : (x : List ℕ) (ps seen : Named A) (i : ℕ) (p : List ℕ × A) → ps ≡ seen → AreOrdered ps → IsNameAt x seen i → p ≡ get_or ps i p →
       find x seen ≡ Some p.1
-  read x ps seen i p e o t at = ap (find x) (sym e) ∙ find-read x ps i p o (subst (λ l. IsThere x l i) (sym e) t) at
+  read x ps seen i p e o t at = ap (find x) (sym e) ∙ find-read x ps i p o (subst (λ l. IsNameAt x l i) (sym e) t) at
 
   -- a name stands where a pair of it does,
-  stands : (x : List ℕ) (ps : Named A) (i : ℕ) (p : List ℕ × A) → slice_get ps i ≡ Some p → same_name p.0 x ≡ true → IsThere x ps i
+  stands : (x : List ℕ) (ps : Named A) (i : ℕ) (p : List ℕ × A) → slice_get ps i ≡ Some p → same_name p.0 x ≡ true → IsNameAt x ps i
   stands x ps i p at same = record {
     in_range = slice_get_within ps i p at;
     same_name = λ d. ap (λ (q : List ℕ × A). name_cmp q.0 x) (get_or_from_slice_get ps i p d at) ∙ compare_equal p.0 x same;
   }
 
   pub stands_lent : (x : List ℕ) (ps lent seen : Named A) (i : ℕ) (p : List ℕ × A) → lent ≡ ps → ps ≡ seen →
-      slice_get lent i ≡ Some p → same_name p.0 x ≡ true → IsThere x seen i
-  stands_lent x ps lent seen i p e f at same = subst (λ l. IsThere x l i) (e ∙ f) (stands x lent i p at same)
+      slice_get lent i ≡ Some p → same_name p.0 x ≡ true → IsNameAt x seen i
+  stands_lent x ps lent seen i p e f at same = subst (λ l. IsNameAt x l i) (e ∙ f) (stands x lent i p at same)
 
   -- and for the rest of that pair, wherever it stands
   find-held : (x : List ℕ) (ps : Named A) (i : ℕ) (p : List ℕ × A) → AreOrdered ps → slice_get ps i ≡ Some p →
@@ -228,7 +228,7 @@ module _ {A : Type 0} where
       ap (find x) (sym (e ∙ f)) ∙ find-held x lent i p (subst AreOrdered (sym e) o) at same
 
   -- `without` takes out the pair at a name that is there
-  without-there : (x : List ℕ) (ps : Named A) (i : ℕ) → AreOrdered ps → IsThere x ps i → without x ps ≡ remove ps i
+  without-there : (x : List ℕ) (ps : Named A) (i : ℕ) → AreOrdered ps → IsNameAt x ps i → without x ps ≡ remove ps i
   unfolding IsStrictlySortedBy
   without-there x [] i o t = absurd (omega (arith, t.in_range))
   without-there x (p ∷ ps) zero o t = rw (turned p.0 x Equal (t.same_name p)) refl
@@ -259,13 +259,13 @@ module _ {A : Type 0} where
   ordered-without x (p ∷ ps) o = ordered_case-without (is_at (name_cmp x) p.0) x p ps o (ordered-without x ps o.1)
 
   -- so it is with what is taken out of what is seen of the names
-  pub taken : (x : List ℕ) (ps seen : Named A) (i : ℕ) → ps ≡ seen → AreOrdered ps → IsThere x seen i → remove ps i ≡ without x seen
-  taken x ps seen i e o t = sym (without-there x ps i o (subst (λ l. IsThere x l i) (sym e) t)) ∙ ap (without x) e
+  pub taken : (x : List ℕ) (ps seen : Named A) (i : ℕ) → ps ≡ seen → AreOrdered ps → IsNameAt x seen i → remove ps i ≡ without x seen
+  taken x ps seen i e o t = sym (without-there x ps i o (subst (λ l. IsNameAt x l i) (sym e) t)) ∙ ap (without x) e
 
-  pub taken-ordered : (x : List ℕ) (ps seen : Named A) (i : ℕ) → ps ≡ seen → AreOrdered ps → IsThere x seen i → AreOrdered (remove ps i)
+  pub taken-ordered : (x : List ℕ) (ps seen : Named A) (i : ℕ) → ps ≡ seen → AreOrdered ps → IsNameAt x seen i → AreOrdered (remove ps i)
   taken-ordered x ps seen i e o t =
       subst AreOrdered (ap (without x) e ∙ sym (taken x ps seen i e o t)) (ordered-without x ps o)
 
   -- where the name isn't there, nothing is taken out
-  pub without-gap : (x : List ℕ) (ps : Named A) (i : ℕ) → IsGapFor x ps i → ps ≡ without x ps
+  pub without-gap : (x : List ℕ) (ps : Named A) (i : ℕ) → IsNameGap x ps i → ps ≡ without x ps
   without-gap x ps i g = sym (without_absent x ps (find-gap x ps i g))

@@ -10,12 +10,12 @@ abbrev pub AreOrdered : {A : Type 0} → Named A → Type 0
 AreOrdered ps = IsStrictlySortedBy name_cmp (keys_of ps)
 
 -- the name stands at i
-pub record IsThere {A : Type 0} (x : List ℕ) (ps : Named A) (i : ℕ) : Type 0 where
+pub record IsNameAt {A : Type 0} (x : List ℕ) (ps : Named A) (i : ℕ) : Type 0 where
   pub in_range : i < length ps
   pub same_name : (d : List ℕ × A) → name_cmp (slice_index_or ps i d).0 x ≡ Equal
 
 -- the name would stand at i: lower names before it, higher ones from it on
-pub record IsGapFor {A : Type 0} (x : List ℕ) (ps : Named A) (i : ℕ) : Type 0 where
+pub record IsNameGap {A : Type 0} (x : List ℕ) (ps : Named A) (i : ℕ) : Type 0 where
   pub in_range : i ≤ length ps
   pub lower_before : (j : ℕ) (d : List ℕ × A) → j < i → name_cmp (slice_index_or ps j d).0 x ≡ Less
   pub higher_after : (j : ℕ) (d : List ℕ × A)

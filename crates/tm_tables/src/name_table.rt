@@ -1,7 +1,7 @@
 //! Tables by name, whose entries stand at places.
 ghost use Rattle.std.specs.Prelude.{◌≡◌, [], None, OnErr, OnOk, MatchOption, MatchResult};
 ghost use Rattle.tm_syntax.specs.Named.{find, name_cmp, put, without};
-ghost use Rattle.tm_tables.specs.Places.{IsThere, IsGapFor};
+ghost use Rattle.tm_tables.specs.Places.{IsNameAt, IsNameGap};
 ghost use Rattle.tm_values.specs.Answer.{IsLent};
 
 use std::alloc::{AllocError, Global};
@@ -65,7 +65,7 @@ impl<T> NameTable<T> {
 
     /// Where the entry of a name stands; none where it stands for nothing.
     pub fn place(&self, name: &str) -> Option<usize>
-        ensures { MatchOption result (find name.now self.now ≡ None) (IsThere name.now self.now) }
+        ensures { MatchOption result (find name.now self.now ≡ None) (IsNameAt name.now self.now) }
     {
         match self.search(name) {
             Ok(place) => Some(place),
@@ -75,7 +75,7 @@ impl<T> NameTable<T> {
 
     /// Where the entry of a name stands, or where it would stand.
     pub(crate) fn search(&self, name: &str) -> Result<usize, usize>
-        ensures { MatchResult result (IsThere name.now self.now) (IsGapFor name.now self.now) }
+        ensures { MatchResult result (IsNameAt name.now self.now) (IsNameGap name.now self.now) }
     {
         self.entries.binary_search_by(
             |entry|

@@ -10,7 +10,7 @@ use Rattle.std.specs.Map.{keys_of}
 use Rattle.tm_values.specs.Val.{Val, undefined}
 use Rattle.tm_meaning.specs.World.{Bindings}
 use Rattle.tm_syntax.specs.Named.{find, name_cmp, put, without}
-use Rattle.tm_tables.specs.Places.{AreOrdered, IsThere, IsGapFor}
+use Rattle.tm_tables.specs.Places.{AreOrdered, IsNameAt, IsNameGap}
 use Rattle.tm_tables.proofs.Places.{added, held, ordered-none, ordered-put, searched_in, taken, taken-ordered, written}
 use Rattle.tm_templates.specs.Globals.{AreNamesOf}
 
@@ -56,9 +56,9 @@ names_none names ps e f = record {
 
 -- a name that is there takes another value
 pub put_over : (names : List (List ℕ)) (x y : List ℕ) (v : Val) (ps seen new : Bindings) (i : ℕ) → AreNamesOf names ps → ps ≡ seen → y ≡ x →
-    IsThere y seen i → new ≡ put x v ps → AreNamesOf names new
+    IsNameAt y seen i → new ≡ put x v ps → AreNamesOf names new
 put_over names x y v ps seen new i are e f there is =
-    let at = subst (λ (z : List ℕ). IsThere z ps i) f (subst (λ (l : Bindings). IsThere y l i) (sym e) there) in
+    let at = subst (λ (z : List ℕ). IsNameAt z ps i) f (subst (λ (l : Bindings). IsNameAt y l i) (sym e) there) in
     let p = get_or ps i nothing in
     let written_is = written x x v ps ps i p refl refl are.ordered at (read_again ps i nothing p at.in_range) in record {
       names_are = are.names_are ∙ sym (keys-set ps i nothing v) ∙ ap keys_of (written_is ∙ sym is);
@@ -67,9 +67,9 @@ put_over names x y v ps seen new i are e f there is =
 
 -- a new name is put into the gap
 pub put_new : (names new_names : List (List ℕ)) (x y z : List ℕ) (v : Val) (ps seen new : Bindings) (i : ℕ) → AreNamesOf names ps → ps ≡ seen →
-    y ≡ x → z ≡ x → IsGapFor y seen i → new_names ≡ insert names i z → new ≡ put x v ps → AreNamesOf new_names new
+    y ≡ x → z ≡ x → IsNameGap y seen i → new_names ≡ insert names i z → new ≡ put x v ps → AreNamesOf new_names new
 put_new names new_names x y z v ps seen new i are e f g gap names_is is =
-    let at = subst (λ (w : List ℕ). IsGapFor w ps i) f (subst (λ (l : Bindings). IsGapFor y l i) (sym e) gap) in record {
+    let at = subst (λ (w : List ℕ). IsNameGap w ps i) f (subst (λ (l : Bindings). IsNameGap y l i) (sym e) gap) in record {
       names_are =
           names_is ∙ ap (λ w. insert names i w) g ∙ ap (λ l. insert l i x) are.names_are ∙ keys-insert ps i x v
           ∙ ap keys_of (added x x v ps ps i refl refl at ∙ sym is);
@@ -78,7 +78,7 @@ put_new names new_names x y z v ps seen new i are e f g gap names_is is =
 
 -- and taken out again
 pub undone : (names more less : List (List ℕ)) (y z : List ℕ) (ps seen new : Bindings) (i : ℕ) → AreNamesOf names ps → ps ≡ seen →
-    IsGapFor y seen i → more ≡ insert names i z → less ≡ remove more i → new ≡ ps → AreNamesOf less new
+    IsNameGap y seen i → more ≡ insert names i z → less ≡ remove more i → new ≡ ps → AreNamesOf less new
 undone names more less y z ps seen new i are e gap more_is less_is is =
     let long : length names ≡ length seen = ap length are.names_are ∙ length-map ps (λ p. p.0) ∙ ap length e in
     let within : i ≤ length names = subst (λ (n : ℕ). i ≤ n) (sym long) gap.in_range in
@@ -87,9 +87,9 @@ undone names more less y z ps seen new i are e gap more_is less_is is =
 
 -- a name that is there is dropped
 pub taken_out : (names less : List (List ℕ)) (x : List ℕ) (ps seen new : Bindings) (i : ℕ) → AreNamesOf names ps → ps ≡ seen →
-    IsThere x seen i → less ≡ remove names i → new ≡ without x ps → AreNamesOf less new
+    IsNameAt x seen i → less ≡ remove names i → new ≡ without x ps → AreNamesOf less new
 taken_out names less x ps seen new i are e there less_is is =
-    let at = subst (λ (l : Bindings). IsThere x l i) (sym e) there in
+    let at = subst (λ (l : Bindings). IsNameAt x l i) (sym e) there in
     let taken_is = taken x ps ps i refl are.ordered at in record {
       names_are = less_is ∙ ap (λ l. remove l i) are.names_are ∙ keys-remove ps i ∙ ap keys_of (taken_is ∙ sym is);
       ordered = subst AreOrdered (taken_is ∙ sym is) (taken-ordered x ps ps i refl are.ordered at);
@@ -118,7 +118,7 @@ of_names x ps (Err i) h found = λ rise.
 
 pub searched_names : (x : List ℕ) (names lent : List (List ℕ)) (ps seen : Bindings) → AreNamesOf names ps → lent ≡ names → ps ≡ seen →
     (r : Result ℕ ℕ) → IsSearchInRange r (length lent) → IsBinarySearchResult (λ y. name_cmp y x) lent r →
-    MatchResult r (IsThere x seen) (IsGapFor x seen)
+    MatchResult r (IsNameAt x seen) (IsNameGap x seen)
 searched_names x names lent ps seen are e f r h found =
     let all : lent ≡ keys_of ps = e ∙ are.names_are in
     let within = subst (λ (n : ℕ). IsSearchInRange r n) (ap length all ∙ keys-long ps) h in

@@ -2,7 +2,7 @@
 ghost use Rattle.std.specs.Map.{keys_of};
 ghost use Rattle.std.specs.Prelude.{◌≡◌, ◌≢◌, ◌<◌, [], ◌∷◌, None, Some, IfOk, OnOk, OnErr, IfErr, MatchResult, length, slice_get};
 ghost use Rattle.tm_syntax.specs.Named.{find, name_cmp, put, without};
-ghost use Rattle.tm_tables.specs.Places.{AreOrdered, IsThere, IsGapFor};
+ghost use Rattle.tm_tables.specs.Places.{AreOrdered, IsNameAt, IsNameGap};
 ghost use Rattle.tm_values.specs.Answer.{OkOrOutOfMemory};
 ghost use Rattle.tm_values.specs.declared.error.ErrorKind.TheVariants.{OutOfMemory};
 
@@ -138,7 +138,7 @@ impl GlobalMap {
 
     /// Where a name stands, or where it would stand.
     fn place(&self, name: &str) -> Result<usize, usize>
-        ensures { MatchResult result (IsThere name.now self.now) (IsGapFor name.now self.now) }
+        ensures { MatchResult result (IsNameAt name.now self.now) (IsNameGap name.now self.now) }
     {
         self.names.binary_search_by(
             |other|

@@ -2,7 +2,7 @@
 ghost use Rattle.std.specs.Prelude.{◌≡◌, ◌≢◌, ◌<◌, [], ◌∷◌, None, Some, OnOk, OnErr, IfErr, MatchOption, MatchResult, length, slice_get};
 ghost use Rattle.tm_syntax.specs.Named.{find, put, name_cmp, without};
 ghost use Rattle.tm_values.specs.Answer.{IsLent};
-ghost use Rattle.tm_tables.specs.Places.{AreOrdered, IsThere, IsGapFor};
+ghost use Rattle.tm_tables.specs.Places.{AreOrdered, IsNameAt, IsNameGap};
 
 use crate::compiled::CompiledTemplate;
 use std::alloc::Global;
@@ -94,7 +94,7 @@ impl<'source> Templates<'source> {
     /// Where the template of a name stands, or where it would stand. Makes one comparison where it stands at this place.
     #[inline(always)]
     fn place_from(&self, place: usize, name: &str) -> Result<usize, usize>
-        ensures { MatchResult result (IsThere name.now self.now) (IsGapFor name.now self.now) }
+        ensures { MatchResult result (IsNameAt name.now self.now) (IsNameGap name.now self.now) }
     {
         match self.entries.get(place) {
             Some(entry) if entry.0.is(name) => Ok(place),
@@ -147,7 +147,7 @@ impl<'source> Templates<'source> {
 
     /// Where the template of a name stands, or where it would stand.
     fn place(&self, name: &str) -> Result<usize, usize>
-        ensures { MatchResult result (IsThere name.now self.now) (IsGapFor name.now self.now) }
+        ensures { MatchResult result (IsNameAt name.now self.now) (IsNameGap name.now self.now) }
     {
         self.entries.binary_search_by(
             |entry|

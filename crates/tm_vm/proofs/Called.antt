@@ -22,7 +22,7 @@ use Rattle.tm_state.specs.declared.saved.SavedMacro.{SavedMacro}
 use Rattle.tm_state.specs.declared.saved.SavedInclude.{SavedInclude}
 use Rattle.tm_state.specs.declared.saved.SavedSuper.{SavedSuper}
 use Rattle.tm_state.specs.declared.nested.NestedRun.{NestedRun}
-use Rattle.tm_state.specs.Answers.{Becomes, CallDeeper, HasOneMore, KeepsFixedAndNames, Leaves, NamedBecomes, NeedsAny, OneDeeper, StaysInPlace, call_of}
+use Rattle.tm_state.specs.Answers.{Becomes, CallDeeper, HasOneMore, KeepsFixedAndNames, LeavesState, NamedBecomes, NeedsAny, OneDeeper, StaysInPlace, call_of}
 use Rattle.tm_state.specs.State.{IsSaved, behind_block, callee_of, put_back, saved_of}
 use Rattle.tm_vm.specs.declared.flow.Flow.{Flow}
 use Rattle.tm_vm.specs.declared.flow.Flow.TheVariants as flow
@@ -193,14 +193,14 @@ module _ (p : Program) (call : World → List Val → Asked) (count : ℕ) (old 
   Called c new result = Needs p (take_n count c.run.operands c.world (calling p call c)) c new result
 
   pub went_on : (came : CallResult) (new : Config) (result : Result Flow Halt) → NamedBecomes (Ok came) (call old.world vs) w →
-      Leaves p.host.limit (Ok came) old.world w → GoesOnWith p came count (record old { world = w }) new result → Called now new result
+      LeavesState p.host.limit (Ok came) old.world w → GoesOnWith p came count (record old { world = w }) new result → Called now new result
   went_on came new result becomes leaves goes_on =
       subst (λ c. Called c new result) is
       (subst (λ t. Needs p (on_taken t old.world (calling p call old)) old new result) (sym there)
       (goes_on (call old.world vs) old.world becomes leaves))
 
   -- or it was refused
-  refused_there : (chain : List ErrorKind) → NamedBecomes (Err chain) (call old.world vs) w → Leaves p.host.limit (Err chain) old.world w →
+  refused_there : (chain : List ErrorKind) → NamedBecomes (Err chain) (call old.world vs) w → LeavesState p.host.limit (Err chain) old.world w →
       Called old (record old { world = w }) (Err (halt.Fault chain))
   refused_there chain becomes leaves =
       subst (λ t. Needs p (on_taken t old.world (calling p call old)) old (record old { world = w }) (Err (halt.Fault chain)))
@@ -212,7 +212,7 @@ module _ (p : Program) (call : World → List Val → Asked) (count : ℕ) (old 
       })
 
   pub ended : (r : Result Flow Halt) (chain : List ErrorKind) → IsErr r × IsErrAnd r (λ e. e ≡ halt.Fault chain) →
-      NamedBecomes (Err chain) (call old.world vs) w → Leaves p.host.limit (Err chain) old.world w → Called now (record old { world = w }) r
+      NamedBecomes (Err chain) (call old.world vs) w → LeavesState p.host.limit (Err chain) old.world w → Called now (record old { world = w }) r
   ended (Ok f) chain same becomes leaves = absurd (cc same.0)
   ended (Err e) chain same becomes leaves =
       subst (λ c. Called c (record old { world = w }) (Err e)) is
@@ -220,6 +220,6 @@ module _ (p : Program) (call : World → List Val → Asked) (count : ℕ) (old 
 
   -- the same of a call whose run has no kind before its fault
   pub went_on_plainly : (came : CallResult) (new : Config) (result : Result Flow Halt) → Becomes (Ok came) (call old.world vs) w →
-      Leaves p.host.limit (Ok came) old.world w → GoesOnWith p came count (record old { world = w }) new result → Called now new result
+      LeavesState p.host.limit (Ok came) old.world w → GoesOnWith p came count (record old { world = w }) new result → Called now new result
   went_on_plainly came new result becomes leaves goes_on =
       went_on came new result (as_named (Ok came) (call old.world vs) w becomes) leaves goes_on

@@ -27,7 +27,7 @@ use Rattle.tm_parts.specs.declared.halt.Halt.TheVariants as halt
 use Rattle.tm_state.specs.declared.nested.NestedRun.{NestedRun}
 use Rattle.tm_vm.specs.declared.flow.Flow.{Flow}
 use Rattle.tm_vm.specs.declared.flow.Flow.TheVariants as flow
-use Rattle.tm_vm.specs.Answers.{Begins, ComesTo, Did, Enters, HaltsAs, KeepsGround, NoFewer, ReachesEnd, KeepsBaseScopes, SameStanding}
+use Rattle.tm_vm.specs.Answers.{BeginsRun, ComesTo, Did, Enters, HaltsAs, KeepsGround, NoFewer, ReachesEnd, KeepsBaseScopes, SameStanding}
 use Rattle.tm_vm.specs.Answers.{finished_at, output}
 use Rattle.tm_vm.proofs.Ground.{below_first, below_owning, ground_then, outermost_long, outermost_twice, owning_long, standing}
 use Rattle.tm_state.specs.Answers.{KeepsFixed, KeepsFixedAndNames, OneDeeper, call_of}
@@ -36,7 +36,7 @@ use Rattle.tm_state.specs.declared.saved.Saved.TheVariants as saved
 use Rattle.tm_state.specs.declared.saved.SavedBlock.{SavedBlock}
 use Rattle.tm_state.specs.declared.saved.SavedMacro.{SavedMacro}
 use Rattle.tm_state.specs.declared.saved.SavedInclude.{SavedInclude}
-use Rattle.tm_vm.specs.Nested.{IsCaptured, RanNested, Went, EndsIn, WroteBeginning, IsBack, IsWrapped, StandsOn, behind, begins_in, base_in}
+use Rattle.tm_vm.specs.Nested.{IsCaptured, RanNested, Went, EndsNested, WroteBeginning, IsBack, IsWrapped, StandsOn, behind, begins_in, base_in}
 use Rattle.tm_state.specs.State.{IsSaved, callee_of, put_back, undo_of}
 use Rattle.tm_meaning.specs.Inheritance.{names_left}
 use Rattle.tm_meaning.specs.World.{HostValue}
@@ -255,10 +255,10 @@ ended_at {p = p} {f = f} {a = a} {c = c} {told = told} {now = now} new why w s e
 -- the end of a run whose nested run halted
 pub ended_in : {p : Program} {f : Base} {a c : Config} {told now : Option (List ℕ)} (entry : NestedRun) (mid : Config)
     (at new : Option (List ℕ)) (why : Halt) (w : World) → RunsUpTo p f a told now c
-    → (Enters p entry mid (step p f c) × (at ≡ now)) → HaltsAs why w (EndsIn p entry mid at new) → HaltsAs why w (ReachesEnd p f a told new)
+    → (Enters p entry mid (step p f c) × (at ≡ now)) → HaltsAs why w (EndsNested p entry mid at new) → HaltsAs why w (ReachesEnd p f a told new)
 ended_in {p = p} {f = f} {a = a} {c = c} {told = told} {now = now} entry mid at new why w s did ends = by_halt why ends
   where
-    comes : (x : End) → EndsIn p entry mid at new x → ReachesEnd p f a told new x
+    comes : (x : End) → EndsNested p entry mid at new x → ReachesEnd p f a told new x
     comes x ended =
         let run = ended.1 in
         let enters = did.0 in
@@ -270,7 +270,7 @@ ended_in {p = p} {f = f} {a = a} {c = c} {told = told} {now = now} entry mid at 
               (over (behind_is entry enters.0 mid.run ended.0 enters.1 ∙ ended.2) refl))),
         )
 
-    by_halt : (why : Halt) → HaltsAs why w (EndsIn p entry mid at new) → HaltsAs why w (ReachesEnd p f a told new)
+    by_halt : (why : Halt) → HaltsAs why w (EndsNested p entry mid at new) → HaltsAs why w (ReachesEnd p f a told new)
     by_halt halt.Writer ends = tt
     by_halt halt.Stuck ends = comes (Stuck w) ends
     by_halt (halt.Fault chain) ends = λ own. comes (Failed chain w) (ends own)
@@ -429,20 +429,20 @@ want_wrapped (Some wrapping.BadInclude) (k ∷ ks) = refl
 -- the halt of a nested run, as it is told
 wrapped_as : (p : Program) (e : NestedRun) (old : Config) (told now : Option (List ℕ)) (why tells : Halt) (w : World) →
     IsWrapped e.wrap why tells
-    → HaltsAs why w (ComesTo p (base_in e old) (begins_in p e old) told now) → HaltsAs tells (put_back e.saved w) (EndsIn p e old told now)
+    → HaltsAs why w (ComesTo p (base_in e old) (begins_in p e old) told now) → HaltsAs tells (put_back e.saved w) (EndsNested p e old told now)
 wrapped_as p e old told now halt.Writer tells w is h =
-    subst (λ x. HaltsAs x (put_back e.saved w) (EndsIn p e old told now)) (sym is) tt
+    subst (λ x. HaltsAs x (put_back e.saved w) (EndsNested p e old told now)) (sym is) tt
 wrapped_as p e old told now halt.Stuck tells w is h =
-    subst (λ x. HaltsAs x (put_back e.saved w) (EndsIn p e old told now)) (sym is) (Stuck w, h, refl)
+    subst (λ x. HaltsAs x (put_back e.saved w) (EndsNested p e old told now)) (sym is) (Stuck w, h, refl)
 wrapped_as p e old told now (halt.Fault chain) tells w (inl is) h =
-    subst (λ x. HaltsAs x (put_back e.saved w) (EndsIn p e old told now)) (sym is)
+    subst (λ x. HaltsAs x (put_back e.saved w) (EndsNested p e old told now)) (sym is)
     (λ own. (Failed chain w, h (sym (want_wrapped e.wrap chain) ∙ own), refl))
 wrapped_as p e old told now (halt.Fault chain) tells w (inr is) h =
-    subst (λ x. HaltsAs x (put_back e.saved w) (EndsIn p e old told now)) (sym is) (λ own. absurd (cc own))
+    subst (λ x. HaltsAs x (put_back e.saved w) (EndsNested p e old told now)) (sym is) (λ own. absurd (cc own))
 
 -- A run that has begun, and has come to another configuration.
 module _ (p : Program) (e : NestedRun) (waits : Activation) (old begun_at ran : Config) (told now : Option (List ℕ))
-    (begins : Begins (first_of p e old) (Some waits) old begun_at) where
+    (begins : BeginsRun (first_of p e old) (Some waits) old begun_at) where
   abbrev Stands : Base
   Stands = base_of e.heard begun_at.captures begun_at.world
 
@@ -468,9 +468,9 @@ module _ (p : Program) (e : NestedRun) (waits : Activation) (old begun_at ran : 
 
   -- Where it halted, that is the end of the run that waits;
   pub wrapped_ends : (left : Config) (why tells : Halt) → left.world ≡ put_back e.saved ran.world → IsWrapped e.wrap why tells →
-      HaltsAs why ran.world (ReachesEnd p Stands begun_at told now) → HaltsAs tells left.world (EndsIn p e old told now)
+      HaltsAs why ran.world (ReachesEnd p Stands begun_at told now) → HaltsAs tells left.world (EndsNested p e old told now)
   wrapped_ends left why tells same is h =
-      subst (λ w. HaltsAs tells w (EndsIn p e old told now)) (sym same)
+      subst (λ w. HaltsAs tells w (EndsNested p e old told now)) (sym same)
       (wrapped_as p e old told now why tells ran.world is (halts why h))
 
   -- and where it was done, that goes on.
@@ -527,9 +527,9 @@ refused_first p e old none = ap (λ a. begun p (base_in e old) a old.captures ol
 
 pub refused_ends : (p : Program) (e : NestedRun) (old left : Config) (told : Option (List ℕ)) (tells : Halt) → first_of p e old ≡ None →
     left.world ≡ put_back e.saved old.world → IsWrapped e.wrap (halt.Fault (InvalidOperation ∷ [])) tells →
-    HaltsAs tells left.world (EndsIn p e old told told)
+    HaltsAs tells left.world (EndsNested p e old told told)
 refused_ends p e old left told tells none same is =
-    subst (λ w. HaltsAs tells w (EndsIn p e old told told)) (sym same)
+    subst (λ w. HaltsAs tells w (EndsNested p e old told told)) (sym same)
     (wrapped_as p e old told told (halt.Fault (InvalidOperation ∷ [])) tells old.world is
     (λ own. ([], appends_nothing told, over (refused_first p e old none) refl)))
 

@@ -29,7 +29,7 @@ use Rattle.tm_state.specs.State.{IsSaved, runs_block, saved_of}
 use Rattle.tm_state.specs.declared.saved.Saved.{Saved}
 use Rattle.tm_state.specs.declared.saved.Saved.TheVariants as saved
 use Rattle.tm_state.specs.declared.nested.RunOf.TheVariants as run_of
-use Rattle.tm_vm.specs.Answers.{Depths, Did, Enters, entered, Performs, Writes, Silently, Opens, Shifts, Needs, Loads, Finishes}
+use Rattle.tm_vm.specs.Answers.{Depths, Did, Enters, entered, Performs, WritesNext, Silently, Opens, Shifts, Needs, Loads, Finishes}
 use Rattle.tm_vm.specs.Answers.{NoFewer, KeepsBaseScopes, Names, output}
 use Rattle.tm_vm.specs.AtOnce.{Attempted, IsAtOnce, IsCharged, IsFree, IsPaid, attempt_of, captured_of, free_attempt_of, paid}
 use Rattle.tm_vm.specs.AtOnce.{written_of}
@@ -157,7 +157,7 @@ shifted {p = p} {n = n} {told = told} (Err (halt.Fault chain)) s =
     }
 
 pub wrote : {p : Program} {f : Base} {n : Next} {old new : Config} {told now : Option (List ℕ)} {failures count : ℕ} (result : Result Flow Halt)
-    → Writes n old new told now failures count result → Performs p f n old new told now failures count result
+    → WritesNext n old new told now failures count result → Performs p f n old new told now failures count result
 wrote {p = p} {f = f} {old = old} {new = new}
     (Ok flow.GoOn) s = record {
       did = s.did;

@@ -23,7 +23,7 @@ use Rattle.tm_output.specs.Counts.{AppendsBeginning}
 use Rattle.tm_parts.specs.Halts.{failures_after}
 use Rattle.tm_parts.specs.declared.halt.Halt.{Halt}
 use Rattle.tm_parts.specs.declared.halt.Halt.TheVariants as halt
-use Rattle.tm_state.specs.Answers.{KeepsFixed, KeepsFixedAndNames, OneDeeper, NamedBecomes, Leaves, call_of}
+use Rattle.tm_state.specs.Answers.{KeepsFixed, KeepsFixedAndNames, OneDeeper, NamedBecomes, LeavesState, call_of}
 use Rattle.tm_state.specs.State.{IsSaved, callee_of, put_back}
 use Rattle.tm_meaning.specs.Inheritance.{names_left}
 use Rattle.tm_meaning.specs.declared.stream.TemplateId.{TemplateId}
@@ -187,7 +187,7 @@ Wrote (Ok flow.Restart) told now c n = ⊥
 Wrote (Ok (flow.Enter e)) told now c n = ⊥
 Wrote (Err why) told now c n = HaltsAs why c.world (λ e. n ≡ Over e) × AppendsBeginning told now (output n)
 
-pub record Writes (n : Next) (old new : Config) (told now : Option (List ℕ)) (failures count : ℕ) (result : Result Flow Halt) : Type 0 where
+pub record WritesNext (n : Next) (old new : Config) (told now : Option (List ℕ)) (failures count : ℕ) (result : Result Flow Halt) : Type 0 where
   pub did : Wrote result told now new n
   pub counted : count ≡ failures_after result failures
   pub kept : KeepsFixedAndNames old.world new.world
@@ -264,7 +264,7 @@ EntersAsValue run count _ old new = ⊥
 -- A run goes on behind a call of so many operands, which came to this and left this world, whatever was asked for in the world before.
 abbrev pub GoesOnWith : Program → CallResult → ℕ → Config → Config → Result Flow Halt → Type 0
 GoesOnWith p came count old new result = (q : Asked) (before : World) → NamedBecomes (Ok came) q old.world →
-    Leaves p.host.limit (Ok came) before old.world →
+    LeavesState p.host.limit (Ok came) before old.world →
     Needs p (asked p (record old { world = before }) (drop count old.run.operands) q) (record old { world = before }) new result
 
 -- A run is over behind its last instruction, where it has closed what it opened, or restarts in the parent that waits; and else it is stuck.
@@ -279,10 +279,10 @@ Finishes (Err (halt.Fault chain)) f old new n = (is_want_of_memory chain ≡ tru
 Finishes _ f old new n = ⊥
 
 -- The run of a callee has begun over the same captures and world, and gives the run that waits; or there is none, and all stays as it was.
-abbrev pub Begins : Option Activation → Option Activation → Config → Config → Type 0
-Begins first (Some waits) old new =
+abbrev pub BeginsRun : Option Activation → Option Activation → Config → Config → Type 0
+BeginsRun first (Some waits) old new =
     (waits ≡ old.run) × (first ≡ Some new.run) × (new.captures ≡ old.captures) × (new.world ≡ old.world)
-Begins first None old new = (first ≡ None) × (new ≡ old)
+BeginsRun first None old new = (first ≡ None) × (new ≡ old)
 
 -- A machine stands at the first place of a run; or there is none, and the state is given back.
 abbrev pub IsAtFirst : Option Activation → List Capture → World → Result Config World → Type 0

@@ -8,7 +8,7 @@ use Rattle.tm_meaning.specs.declared.base.Base.{Base}
 use Rattle.tm_parts.specs.declared.halt.Halt.{Halt}
 use Rattle.tm_parts.specs.declared.halt.Halt.TheVariants as halt
 use Rattle.tm_output.specs.declared.target.TargetFailed.{TargetFailed}
-use Rattle.tm_vm.specs.Answers.{Paid, Performs, Silently, Writes}
+use Rattle.tm_vm.specs.Answers.{Paid, Performs, Silently, WritesNext}
 use Rattle.tm_vm.specs.declared.at_once.Attempt.{Attempt}
 use Rattle.tm_vm.specs.declared.at_once.Attempt.TheVariants.{Done, DoneFree, Left, WriterFailed, NoMemory}
 use Rattle.tm_vm.specs.declared.flow.Flow.TheVariants as flow
@@ -49,10 +49,10 @@ IsFree false n old new = new ≡ old
 
 -- The same of one that may write: by the writer, or for want of memory, it may have ended.
 abbrev pub Attempted : Attempt → (Config → Next) → Config → Config → Option (List ℕ) → Option (List ℕ) → ℕ → ℕ → Type 0
-Attempted Done n old new told now failures count = Writes (n (paid old)) (paid old) new told now failures count (Ok flow.GoOn)
-Attempted WriterFailed n old new told now failures count = Writes (n (paid old)) (paid old) new told now failures count (Err halt.Writer)
-Attempted DoneFree n old new told now failures count = Writes (n old) old new told now failures count (Ok flow.GoOn)
-Attempted NoMemory n old new told now failures count = Writes (n (paid old)) (paid old) new told now failures count (Err no_memory)
+Attempted Done n old new told now failures count = WritesNext (n (paid old)) (paid old) new told now failures count (Ok flow.GoOn)
+Attempted WriterFailed n old new told now failures count = WritesNext (n (paid old)) (paid old) new told now failures count (Err halt.Writer)
+Attempted DoneFree n old new told now failures count = WritesNext (n old) old new told now failures count (Ok flow.GoOn)
+Attempted NoMemory n old new told now failures count = WritesNext (n (paid old)) (paid old) new told now failures count (Err no_memory)
 Attempted Left n old new told now failures count = (new ≡ old) × (now ≡ told) × (count ≡ failures)
 
 -- The same of one that told the writer nothing.

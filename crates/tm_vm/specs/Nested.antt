@@ -66,14 +66,14 @@ IsBack (saved.Include s) begun w =
     × (w.scopes.outer ≡ s.replaced.outer) × (w.places ≡ s.lists.places)
 
 -- The run came to an end that leads to the end of the run that waits.
-abbrev pub EndsIn : Program → NestedRun → Config → Option (List ℕ) → Option (List ℕ) → End → Type 0
-EndsIn p e old told now x = (inner : End) × ComesTo p (base_in e old) (begins_in p e old) told now inner ×
+abbrev pub EndsNested : Program → NestedRun → Config → Option (List ℕ) → Option (List ℕ) → End → Type 0
+EndsNested p e old told now x = (inner : End) × ComesTo p (base_in e old) (begins_in p e old) told now inner ×
     (behind e old.run inner ≡ Over x)
 
 -- The run was done, or the halt is the end that it leads to.
 abbrev pub RanNested : Program → NestedRun → Config → Config → Option (List ℕ) → Option (List ℕ) → Result (Unit {0}) Halt → Type 0
 RanNested p e old new told now (Ok _) = Went p e old new told now
-RanNested p e old new told now (Err why) = HaltsAs why new.world (EndsIn p e old told now)
+RanNested p e old new told now (Err why) = HaltsAs why new.world (EndsNested p e old told now)
 
 -- A kind is put before a fault, and touches neither the writer's failure nor what is stuck; no memory may be found for it.
 abbrev pub IsWrapped : Option Wrapping → Halt → Halt → Type 0

@@ -4,7 +4,7 @@ ghost use Rattle.tm_meaning.specs.Inheritance.{names_left};
 ghost use Rattle.tm_meaning.specs.Machine.{audible, base_of, first_run, run_from, running};
 ghost use Rattle.tm_meaning.specs.Steps.{step};
 ghost use Rattle.tm_parts.specs.Halts.{failures_after};
-ghost use Rattle.tm_vm.specs.Answers.{program, Begins, EndsAs, IsAtFirst, ReachesEnd, NoFewer, SameStanding, StaysRun};
+ghost use Rattle.tm_vm.specs.Answers.{program, BeginsRun, EndsAs, IsAtFirst, ReachesEnd, NoFewer, SameStanding, StaysRun};
 ghost use Rattle.tm_state.specs.Answers.{KeepsFixed};
 ghost use Rattle.tm_state.specs.State.{callee_of, put_back};
 ghost use Rattle.tm_vm.specs.Nested.{RanNested, StandsOn, WroteBeginning, IsBack, IsWrapped, IsCaptured, base_in, begins_in};
@@ -211,7 +211,7 @@ impl Machine {
     /// Begins the run of what is called over the same captures and state, and gives the run that waits; none where there
     /// is no such run.
     fn begin<H: Host>(&mut self, alloc: Global, host: &H, run: RunOf) -> Option<Activation>
-        ensures { Begins (first_run (program (H.meaning host.now) (H.code host.now))
+        ensures { BeginsRun (first_run (program (H.meaning host.now) (H.code host.now))
             (callee_of run) (length self.old.captures)) result self.old self.new }
     {
         let floor = self.captures.depth();

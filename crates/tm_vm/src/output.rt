@@ -3,7 +3,7 @@ ghost use Rattle.tm_meaning.specs.World.{records_of};
 ghost use Rattle.tm_meaning.specs.Machine.{writes};
 ghost use Rattle.tm_meaning.specs.Instructions.{emit_raw_of, emit_of};
 ghost use Rattle.tm_definitions.specs.Emitted.{emitted_text};
-ghost use Rattle.tm_vm.specs.Answers.{CanGoOn, Writes};
+ghost use Rattle.tm_vm.specs.Answers.{CanGoOn, WritesNext};
 
 use crate::flow::Flow;
 use crate::machine::Machine;
@@ -22,7 +22,7 @@ impl Machine {
         text: &str,
         writer: &mut W,
     ) -> Result<Flow, Halt>
-        ensures { Writes (writes base.now text.now self.old) self.old self.new
+        ensures { WritesNext (writes base.now text.now self.old) self.old self.new
             (W.written writer.old) (W.written writer.new)
             (W.failures writer.old) (W.failures writer.new) result }
     {
@@ -40,7 +40,7 @@ impl Machine {
         value: &Value,
         writer: &mut W,
     ) -> Result<Flow, Halt>
-        ensures { Writes (writes base.now (emitted_text self.old.world.escape
+        ensures { WritesNext (writes base.now (emitted_text self.old.world.escape
             (records_of self.old.world) value.now) self.old) self.old self.new
             (W.written writer.old) (W.written writer.new)
             (W.failures writer.old) (W.failures writer.new) result }
@@ -61,7 +61,7 @@ impl Machine {
         writer: &mut W,
     ) -> Result<Flow, Halt>
         requires { CanGoOn self.old.run }
-        ensures { Writes (emit_raw_of base.now text.now self.old) self.old self.new
+        ensures { WritesNext (emit_raw_of base.now text.now self.old) self.old self.new
             (W.written writer.old) (W.written writer.new)
             (W.failures writer.old) (W.failures writer.new) result }
     {
@@ -78,7 +78,7 @@ impl Machine {
         writer: &mut W,
     ) -> Result<Flow, Halt>
         requires { CanGoOn self.old.run }
-        ensures { Writes (emit_of (H.meaning host.now) base.now self.old) self.old self.new
+        ensures { WritesNext (emit_of (H.meaning host.now) base.now self.old) self.old self.new
             (W.written writer.old) (W.written writer.new)
             (W.failures writer.old) (W.failures writer.new) result }
     {
@@ -103,7 +103,7 @@ impl Machine {
         writer: &mut W,
     ) -> Result<Flow, Halt>
         requires { CanGoOn self.old.run }
-        ensures { Writes (emit_of (H.meaning host.now) base.now self.old) self.old self.new
+        ensures { WritesNext (emit_of (H.meaning host.now) base.now self.old) self.old self.new
             (W.written writer.old) (W.written writer.new)
             (W.failures writer.old) (W.failures writer.new) result }
     {

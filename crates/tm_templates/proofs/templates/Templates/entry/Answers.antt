@@ -4,7 +4,7 @@ use Rattle.std.specs.Ordering.{is_eq}
 use Rattle.std.specs.declared.cmp.Ordering.TheVariants.{Equal}
 use Rattle.tm_syntax.specs.Named.{Named, find, name_cmp}
 use Rattle.tm_tables.proofs.Places.{find-read, find-gap}
-use Rattle.tm_tables.specs.Places.{IsThere}
+use Rattle.tm_tables.specs.Places.{IsNameAt}
 use Rattle.tm_templates.specs.Templates.{Compiled}
 use Rattle.tm_templates.proofs.templates.Templates.entry.Goals as goal
 
@@ -17,7 +17,7 @@ returns-in-Ok c =
     let entries = c.self.inside.entries.items in
     let p = c.index.result.now in
     let q = c.index-in-Ok.result.now in
-    let there = subst (λ (l : Named Compiled). IsThere x l c.in-Ok.at) (sym c.self.view_is) c.in-Ok.ensures in
+    let there = subst (λ (l : Named Compiled). IsNameAt x l c.in-Ok.at) (sym c.self.view_is) c.in-Ok.ensures in
     let named : name_cmp p.0 x ≡ Equal = ap (λ (e : List ℕ × Compiled). name_cmp e.0 x) c.index.ensures ∙ there.same_name p in (
       same_text p.0 x named,
       subst (λ (l : Named Compiled). find x l

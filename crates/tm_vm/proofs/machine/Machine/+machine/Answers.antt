@@ -9,7 +9,7 @@ use Rattle.tm_vm.specs.declared.flow.Flow.TheVariants as flow
 use Rattle.tm_vm.proofs.Loop.{at_base, fixed_same, fixed_then, stands_first, stands_next, stands_again, stands_behind, beginning_at, beginning_in}
 use Rattle.tm_parts.specs.declared.halt.Halt.TheVariants as halt
 use Rattle.tm_state.specs.declared.nested.NestedRun.{NestedRun}
-use Rattle.tm_vm.specs.Nested.{EndsIn, IsWrapped, RanNested, Went, WroteBeginning, base_in, begins_in}
+use Rattle.tm_vm.specs.Nested.{EndsNested, IsWrapped, RanNested, Went, WroteBeginning, base_in, begins_in}
 use Rattle.tm_state.specs.declared.nested.RunOf.{RunOf}
 use Rattle.tm_vm.proofs.Ground.{no_fewer_same, over_same}
 use Rattle.tm_vm.proofs.Loop.{as_value, began, ended_at, in_place, refused_ends, stands_deeper, was_back, wrapped_ends}
@@ -304,7 +304,7 @@ run_nested-returns-in_default-clause-ran g t c =
     let now = g.W.Sink.written c.args.writer.now in
     let same = ap (λ (x : Config). x.world) c.put_back.ensures ∙ ap (λ (x : Config). put_back e.saved x.world) c.in_default.ensures.1 in
     let is = subst (λ k. IsWrapped e.wrap (halt.Fault k) c.wrapped.result) c.from.ensures c.wrapped.ensures in
-    subst (λ (x : NestedRun). HaltsAs c.wrapped.result c.put_back.new.self.world (EndsIn p x c.args.self.now now now)) whole
+    subst (λ (x : NestedRun). HaltsAs c.wrapped.result c.put_back.new.self.world (EndsNested p x c.args.self.now now now)) whole
     (refused_ends p e c.args.self.now c.put_back.new.self now c.wrapped.result c.in_default.ensures.0 same is)
 
 pub run_nested-returns-in-Err-clause-ran : goal.run_nested-returns-in-Err-clause-ran
@@ -316,7 +316,7 @@ run_nested-returns-in-Err-clause-ran g t c =
     let now = g.W.Sink.written c.args.writer.now in
     let new = g.W.Sink.written c.run-result.new.writer in
     let same = ap (λ (x : Config). x.world) c.put_back_of.ensures ∙ ap (λ (x : Config). put_back e.saved x.world) c.resume.ensures in
-    subst (λ (x : NestedRun). HaltsAs c.wrapped-in-Err.result c.put_back_of.new.self.world (EndsIn p x c.args.self.now now new)) whole
+    subst (λ (x : NestedRun). HaltsAs c.wrapped-in-Err.result c.put_back_of.new.self.world (EndsNested p x c.args.self.now now new)) whole
     (wrapped_ends p e c.in-Some.waiting c.args.self.now c.begin.new.self c.run-result.new.self now new c.in-Some.ensures
     c.put_back_of.new.self c.in-Err.halt c.wrapped-in-Err.result same c.wrapped-in-Err.ensures c.in-Err.ensures.ended)
 
