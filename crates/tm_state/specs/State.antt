@@ -4,6 +4,7 @@ use Rattle.std.specs.Prelude.{option_and_then}
 use Rattle.tm_syntax.specs.Named.{find}
 use Rattle.tm_values.specs.Val.{MacroData, Val, undefined}
 use Rattle.tm_values.specs.declared.escape.AutoEscape.{AutoEscape}
+use Rattle.tm_values.specs.declared.escape.AutoEscape.TheVariants as auto_escape
 use Rattle.tm_meaning.specs.World.{World, Loop, loop_scope, new_loop, root_of, block_of, plain_scope, with_frames}
 use Rattle.tm_meaning.specs.World.{own_closure, owning}
 use Rattle.tm_meaning.specs.Calls.{Asked, runs, cut_to, block_call, macro_call, Undo, of_block, of_super, of_macro, of_include, Callee, whole}
@@ -11,6 +12,7 @@ use Rattle.tm_meaning.specs.Calls.{macro_of, outermost}
 use Rattle.tm_meaning.specs.Inheritance.{place_in}
 use Rattle.tm_meaning.specs.Runs.{first_fuel}
 use Rattle.tm_meaning.specs.declared.stream.TemplateId.{TemplateId}
+use Rattle.tm_meaning.specs.declared.stream.TemplateId.TheVariants as template_id
 use Rattle.tm_meaning.specs.declared.stream.StreamId.{StreamId}
 use Rattle.tm_syntax.specs.declared.instruction.LoopFlags.{LoopFlags}
 use Rattle.tm_tables.specs.Fuel.{Fuel}
@@ -52,6 +54,26 @@ started id t names escape fuel context = record {
   stream = root_of t;
   fuel_set = fuel;
   fuel = first_fuel fuel;
+}
+
+-- What stands where a state was taken out: no scopes, and no fuel.
+abbrev pub nothing_left : World
+nothing_left = record {
+  id = 0;
+  scopes = record { frames = []; outer = 0 };
+  namespaces = [];
+  loops = [];
+  closures = [];
+  streams = [];
+  temps = [];
+  blocks = [];
+  places = [];
+  loaded = [];
+  block = None;
+  escape = auto_escape.None;
+  stream = root_of template_id.Own;
+  fuel_set = None;
+  fuel = 0;
 }
 
 -- what is put back behind a block, of the world before it

@@ -1,6 +1,6 @@
 //! The data of a state.
 ghost use Rattle.std.specs.List.Sorted.{IsStrictlySortedBy};
-ghost use Rattle.std.specs.Prelude.{◌-◌, ◌≡◌, ◌+◌, ◌≤◌, ◌<◌, List, [], ◌∷◌, ◌++◌, Some, None, false, true, is_some, length};
+ghost use Rattle.std.specs.Prelude.{◌-◌, ◌≡◌, ◌+◌, ◌≤◌, ◌<◌, List, [], ◌∷◌, ◌++◌, ◌^◌, Some, None, SomeIff, false, true, is_some, length};
 ghost use Rattle.std.specs.Prelude.{nat_lt, slice_get, Ok, OnOk, OnErr, IfErr, IfOk, IfSome, MatchOption, MatchResult};
 ghost use Rattle.tm_values.specs.Answer.{IsAnswer, OkOrOutOfMemory, OrStays, IsLent};
 ghost use Rattle.tm_meaning.specs.Memory.{is_want_of_memory};
@@ -8,13 +8,13 @@ ghost use Rattle.tm_syntax.specs.Named.{find, name_cmp, put, put_each, texts_of}
 ghost use Rattle.tm_meaning.specs.Calls.{deeper, depths_left};
 ghost use Rattle.tm_meaning.specs.World.{depth, with_escape, innermost, loop_depth, top_loop, top_mark, next_turn};
 ghost use Rattle.tm_meaning.specs.World.{cleared, pop, store, set_member, make_namespace, emitted, records_of};
-ghost use Rattle.tm_meaning.specs.World.{HostValue, find_name, view_of, name_of, Good, Bad, block_of};
+ghost use Rattle.tm_meaning.specs.World.{HostValue, find_name, top_locals, view_of, name_of, Good, Bad, block_of};
 ghost use Rattle.tm_meaning.specs.Calls.{enter_block, given_by, refused, of_loop, told_changed, told_turn};
 ghost use Rattle.tm_definitions.specs.Emitted.{emitted_text};
 ghost use Rattle.tm_tables.specs.Known.{AreFound, NamingFails};
 ghost use Rattle.tm_tables.specs.Scopes.{PushFails};
 ghost use Rattle.tm_state.specs.Answers.{KeepsFixedAndNames, CanBeEmitted, Comes};
-ghost use Rattle.tm_state.specs.State.{with_open_loop, exported, started, put_back, saved_of, runs_block, IsBlockOf, scoped};
+ghost use Rattle.tm_state.specs.State.{with_open_loop, exported, nothing_left, started, put_back, saved_of, runs_block, IsBlockOf, scoped};
 
 use crate::records::{add_loop, changed_at, keep_each, set_in, turn_at};
 use crate::rooms::Rooms;
@@ -125,7 +125,8 @@ impl StateData {
     /// The innermost scope's own value of a name, where it has one.
     #[inline(always)]
     pub fn local(&self, name: &Name) -> Option<&Value>
-        ensures { IfSome result (λ v. (host : HostValue) →
+        ensures own { IsLent result (find name.now (top_locals self.now.scopes.frames)) }
+        ensures found { IfSome result (λ v. (host : HostValue) →
             find_name (view_of host self.now) name.now ≡ Ok (Some v.now)) }
     {
         self.context.local(name)
@@ -291,7 +292,8 @@ impl StateData {
 
     /// Takes the state out, and leaves one of no template and without scopes in its place.
     pub fn take(&mut self, alloc: Global) -> StateData
-        ensures { result ≡ self.old }
+        ensures taken { result ≡ self.old }
+        ensures left { self.new ≡ nothing_left }
     {
         mem::replace(
             self,
@@ -402,7 +404,7 @@ impl StateData {
 
     /// How deep a loop stands that is opened now. None where that is beyond the machine's numbers.
     fn loop_depth(&self) -> Option<usize>
-        ensures { IfSome result (λ depth. depth ≡ loop_depth self.now) }
+        ensures { SomeIff result (loop_depth self.now < 2 ^ 64) (loop_depth self.now) }
     {
         match self.context.innermost_loop() {
             Some(number) => match self.loops.get(number) {

@@ -2,8 +2,8 @@
 ghost use Rattle.std.specs.List.Sorted.{IsStrictlySortedBy};
 ghost use Rattle.std.specs.Prelude.{◌≡◌, ◌<◌, ◌^◌, ◌-◌, [], ◌∷◌, true, false, length, min, nat_lt};
 ghost use Rattle.std.specs.Prelude.{Ok, OnErr, OnOk, IfErr, IfOk, IfSome, MatchOption, Some};
-ghost use Rattle.tm_syntax.specs.Named.{name_cmp, texts_of};
-ghost use Rattle.tm_values.specs.Answer.{OkOrOutOfMemory, OrStays};
+ghost use Rattle.tm_syntax.specs.Named.{find, name_cmp, texts_of};
+ghost use Rattle.tm_values.specs.Answer.{IsLent, OkOrOutOfMemory, OrStays};
 ghost use Rattle.tm_values.specs.Val.{undefined};
 ghost use Rattle.tm_values.specs.declared.error.ErrorKind.TheVariants.{OutOfMemory};
 ghost use Rattle.tm_meaning.specs.World.{View, plain_scope, depth, in_frames, innermost, own_closure, put_at, stored_in, top_mark};
@@ -91,7 +91,9 @@ impl Context {
     }
 
     /// Takes the room of these scopes for those of a macro: their names stand for nothing any more.
-    pub fn take_room(&mut self) -> Context {
+    pub fn take_room(&mut self) -> Context
+        ensures { self.new ≡ record self.old { frames = [] } }
+    {
         let none = Vec::new(self.allocator());
         let mut frames = mem::replace(&mut self.frames, none);
         frames.truncate(2);
@@ -281,7 +283,8 @@ impl Context {
     /// The innermost scope's own value of a name, where it has one.
     #[inline(always)]
     pub fn local(&self, name: &Name) -> Option<&Value>
-        ensures { IfSome result (λ v. (view : View) →
+        ensures own { IsLent result (find name.now (top_locals self.now.frames)) }
+        ensures found { IfSome result (λ v. (view : View) →
             in_frames view name.now self.now.frames ≡ Ok (Some v.now)) }
     {
         self.frames.last()?.locals.get(name)

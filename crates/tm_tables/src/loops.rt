@@ -1,5 +1,5 @@
 //! The records of loops.
-ghost use Rattle.std.specs.Prelude.{◌≡◌, ◌∷◌, ◌&&◌, [], None, Some, IfErr, IfOk, IfSome, OnErr, OnOk, length, map};
+ghost use Rattle.std.specs.Prelude.{◌≡◌, ◌<◌, ◌^◌, ◌∷◌, ◌&&◌, [], None, Some, SomeIff, IfErr, IfOk, OnErr, OnOk, length, map};
 ghost use Rattle.std.specs.Prelude.{nat_eq, option_and_then, option_map, slice_get};
 ghost use Rattle.tm_values.specs.Answer.{IsLent, OkOrOutOfMemory};
 ghost use Rattle.tm_values.specs.Position.{position_of};
@@ -118,7 +118,8 @@ impl LoopState {
     /// How deep a loop in it stands: one deeper where it can be called, and else outermost. None where that
     /// is beyond the machine's numbers.
     pub fn depth_inside(&self) -> Option<usize>
-        ensures { IfSome result (λ depth. depth ≡ depth_inside (Some self.now)) }
+        ensures { SomeIff result (depth_inside (Some self.now) < 2 ^ 64)
+            (depth_inside (Some self.now)) }
     {
         if self.recursive {
             self.depth.checked_add(1)
