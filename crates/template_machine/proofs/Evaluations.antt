@@ -6,7 +6,7 @@ use Rattle.tm_values.specs.declared.error.ErrorKind.{ErrorKind}
 use Rattle.tm_values.specs.declared.error.ErrorKind.TheVariants.{InvalidOperation}
 use Rattle.tm_definitions.specs.Mapped.{with_maps}
 use Rattle.tm_meaning.specs.Memory.{is_want_of_memory}
-use Rattle.tm_meaning.specs.World.{World, Res, Good, Bad, answered, records_of}
+use Rattle.tm_meaning.specs.World.{World, Good, Bad, answered, records_of}
 use Rattle.tm_meaning.specs.Meaning.{Ending, done, leave, next, fault, left_by, Outcome}
 use Rattle.tm_meaning.specs.Runs.{left_of, value_left}
 use Rattle.tm_meaning.specs.Machine.{Capture}

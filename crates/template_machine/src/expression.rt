@@ -96,7 +96,7 @@ impl<'env, 'source, O: Parties> ExpressionOf<'env, 'source, O> {
         let id = ids.next()?;
         let own = OwnTemplate::Lent(&*self.compiled);
         let rendering = Rendering::new(self.environment, None, own);
-        let state = rendering.state_at(id, context)?;
-        rendering.evaluate(state)
+        let mut state = rendering.state_at(id, context)?;
+        rendering.evaluate(&mut state)
     }
 }

@@ -206,17 +206,19 @@ impl<O: Parties> Rendering<'_, O> {
         }
     }
 
-    /// The value of the expression whose stream a state names, with its namespaces as maps.
-    pub(crate) fn evaluate(&self, mut state: StateData) -> Result<Value, Error>
-        ensures { Evaluated (value_meant O.stated self.now state) result }
+    /// The value of the expression whose stream a state names, with its namespaces as maps. The state is left as the run leaves it.
+    pub(crate) fn evaluate(&self, state: &mut StateData) -> Result<Value, Error>
+        ensures { Evaluated (value_meant O.stated self.now state.old) result }
     {
         let alloc = self.allocator();
         let stream = state.stream().share()?;
         let mut machine = Machine::new(alloc, stream, Captures::new(alloc), state.take(alloc));
-        machine.run(alloc, self, true, &mut NullWriter)?;
+        let result = machine.run(alloc, self, true, &mut NullWriter);
         let (value, left) = machine.into_value();
+        *state = left;
+        result?;
         match value {
-            Some(value) => with_maps(alloc, &value, &left),
+            Some(value) => with_maps(alloc, &value, state),
             None => Err(Error::from(ErrorKind::InvalidOperation)),
         }
     }

@@ -1,5 +1,4 @@
 use Rattle.std.proofs.Common.{◌≡◌, ◌∙◌, [], ◌∷◌, None, Ok, Err, MatchOption, inl, ap, length, refl, rules, subst, sym}
-use Rattle.tm_values.specs.declared.error.ErrorKind.TheVariants.{InvalidOperation}
 use Rattle.tm_meaning.specs.Machine.{Config, run_from, running}
 use Rattle.tm_parts.specs.Halts.{error_of}
 use Rattle.template_machine.specs.Renders.{meaning_from, value_meant, Evaluated}
@@ -8,31 +7,31 @@ use Rattle.template_machine.proofs.Evaluations.{evaluated_failed, evaluated_none
 use Rattle.template_machine.proofs.Runs.{over_answers, over_halted, over_leaves}
 use Rattle.template_machine.proofs.rendering.Rendering.evaluate.Goals as goal
 
-pub returns-in_err-run : goal.returns-in_err-run
-returns-in_err-run g c =
+pub returns-in_err-result : goal.returns-in_err-result
+returns-in_err-result g c =
     let stated = g.O.Parties.stated in
     let t = c.args.self.now in
-    let old = c.args.state in
+    let old = c.args.state.now in
     let ks = c.new.result in
-    let left : Config = c.run.new.self in
-    let why = c.in_err-run.field-0.0 in
+    let left : Config = c.run-result.new.self in
+    let why = c.in_err-result.field-0.0 in
     let stream_is : c.in_ok-stream.stream ≡ old.stream = search rules in
     let world_is : c.take.result ≡ old = search rules in
     let begins : c.new-machine.result ≡ running (run_from old.stream (length ks)) ks old =
     c.new-machine.ensures ∙ ap (λ s. running (run_from s (length ks)) ks c.take.result) stream_is
     ∙ ap (λ w. running (run_from old.stream (length ks)) ks w) world_is in
-    passed c.from_residual-in_err-run.result (Evaluated (value_meant stated t old)) (error_of why) c.from_residual-in_err-run.ensures.1
+    passed c.from_residual-in_err-result.result (Evaluated (value_meant stated t old)) (error_of why) c.from_residual-in_err-result.ensures.1
     (evaluated_failed (meaning_from stated t old) left.world ks None None why
     (over_halted stated t ks left.captures old left.world None None 0 0 c.new-machine.result begins (inl c.new.ensures) why left.world refl
-    c.in_err-run.ensures.ended c.in_err-run.ensures.beginning c.in_err-run.ensures.failures))
+    c.in_err-result.ensures.ended c.in_err-result.ensures.beginning c.in_err-result.ensures.failures))
 
 pub returns-in-Some : goal.returns-in-Some
 returns-in-Some g c =
     let stated = g.O.Parties.stated in
     let t = c.args.self.now in
-    let old = c.args.state in
+    let old = c.args.state.now in
     let ks = c.new.result in
-    let left : Config = c.run.new.self in
+    let left : Config = c.run-result.new.self in
     let us = left.run.operands in
     let v = c.in-Some.value in
     let put = c.into_value-value.result.1 in
@@ -43,7 +42,7 @@ returns-in-Some g c =
     ∙ ap (λ w. running (run_from old.stream (length ks)) ks w) world_is in
     let one : us ≡ v ∷ [] =
     subst (λ o. MatchOption o (length us ≡ 1 → ⊥) (λ x. us ≡ x ∷ [])) c.in-Some.is c.into_value-value.ensures.value in
-    let ended = c.in_ok-run.ensures.ended in
+    let ended = c.in_ok-result.ensures.ended in
     let m = meaning_from stated t old in
     evaluated_one m put us v c.with_maps.result
     (over_answers stated t ks left.captures old left.world None None 0 0 c.new-machine.result begins (inl c.new.ensures) us ended
@@ -51,13 +50,13 @@ returns-in-Some g c =
     (over_leaves stated t ks left.captures old left.world None None 0 0 c.new-machine.result begins (inl c.new.ensures) us ended)
     one c.with_maps.ensures
 
-pub returns : goal.returns
-returns g c =
+pub returns-in-None : goal.returns-in-None
+returns-in-None g c =
     let stated = g.O.Parties.stated in
     let t = c.args.self.now in
-    let old = c.args.state in
+    let old = c.args.state.now in
     let ks = c.new.result in
-    let left : Config = c.run.new.self in
+    let left : Config = c.run-result.new.self in
     let us = left.run.operands in
     let stream_is : c.in_ok-stream.stream ≡ old.stream = search rules in
     let world_is : c.take.result ≡ old = search rules in
@@ -66,7 +65,7 @@ returns g c =
     ∙ ap (λ w. running (run_from old.stream (length ks)) ks w) world_is in
     let many : length us ≡ 1 → ⊥ =
     subst (λ o. MatchOption o (length us ≡ 1 → ⊥) (λ x. us ≡ x ∷ [])) c.in-None.is c.into_value-value.ensures.value in
-    let ended = c.in_ok-run.ensures.ended in
+    let ended = c.in_ok-result.ensures.ended in
     subst (λ chain. Evaluated (value_meant stated t old) (Err chain)) (sym c.from.ensures)
     (evaluated_none (meaning_from stated t old) left.world us
     (over_answers stated t ks left.captures old left.world None None 0 0 c.new-machine.result begins (inl c.new.ensures) us ended)

@@ -16,7 +16,7 @@ returns-in-Ok-result-clause-ran g c =
     let ks = c.args.captures in
     let begins : c.new-machine.result ≡ running (run_from old.stream (length ks)) ks old =
     c.new-machine.ensures ∙ ap (λ s. running (run_from s (length ks)) ks c.take.result) (c.in-Ok.ensures ∙ c.stream.ensures)
-    ∙ ap (λ w. running (run_from old.stream (length ks)) ks w) c.take.ensures in
+    ∙ ap (λ w. running (run_from old.stream (length ks)) ks w) c.take.ensures.taken in
     let left : Config = c.run-result.new.self in
     over_done g.O.Parties.stated c.args.self.now ks left.captures old left.world (g.W.Sink.written c.args.writer.now)
     (g.W.Sink.written c.run-result.new.writer) (g.W.Sink.failures c.args.writer.now) (g.W.Sink.failures c.run-result.new.writer)
@@ -30,7 +30,7 @@ returns-in-Err-result-clause-ran g c =
     let ks = c.args.captures in
     let begins : c.new-machine.result ≡ running (run_from old.stream (length ks)) ks old =
     c.new-machine.ensures ∙ ap (λ s. running (run_from s (length ks)) ks c.take.result) (c.in-Ok.ensures ∙ c.stream.ensures)
-    ∙ ap (λ w. running (run_from old.stream (length ks)) ks w) c.take.ensures in
+    ∙ ap (λ w. running (run_from old.stream (length ks)) ks w) c.take.ensures.taken in
     let left : Config = c.run-result.new.self in
     over_halted g.O.Parties.stated c.args.self.now ks left.captures old left.world (g.W.Sink.written c.args.writer.now)
     (g.W.Sink.written c.run-result.new.writer) (g.W.Sink.failures c.args.writer.now) (g.W.Sink.failures c.run-result.new.writer)
