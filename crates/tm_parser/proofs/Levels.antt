@@ -211,7 +211,7 @@ module _ (i : Inside) where
 
   -- where something may go on at a level
   module _ (level end found : ℕ) (x : Expr) (ts : List Token) (goes : GoesOnAt (Some found) level end ts) where
-    at_found : (levels i level end x).reads ts ≡ (climbed i (suc (end - (found + 1))) found x).reads ts
+    pub at_found : (levels i level end x).reads ts ≡ (climbed i (suc (end - (found + 1))) found x).reads ts
     at_found = to_level (found - level) (suc (end - (found + 1))) (end - level) level found x ts (omega (arith, goes.0, goes.1))
         (omega (arith, goes.0)) goes.2
 

@@ -4,3 +4,4 @@ pub mod Levels
 pub mod Loops
 pub mod Names
 pub mod Calls
+pub mod Waiting

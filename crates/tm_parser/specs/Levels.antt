@@ -7,7 +7,7 @@ use Rattle.tm_syntax.specs.declared.tree.Expr.{Expr}
 use Rattle.tm_syntax.specs.declared.tree.Expr.TheVariants as exprs
 use Rattle.tm_parser.specs.declared.expressions.OperandStart.{OperandStart}
 use Rattle.tm_grammar.specs.Combinators.{first, branch, pure, ◌>>=◌}
-use Rattle.tm_parser.specs.Grammar.{Rule, Inside, primary, operand, steps_from, chained}
+use Rattle.tm_parser.specs.Grammar.{Rule, Inside, primary, operand, steps_from, chained, conditions_from, conditional}
 use Rattle.tm_parser.specs.Tokens.{postfix_level, prefix_of, link}
 
 abbrev pub up_to : {A : Type 0} → ℕ → Option (ℕ × A) → Option (ℕ × A)
@@ -39,6 +39,18 @@ climbed i (suc n) level x = do
 -- an operand of a level, and the steps of all levels before the end behind it
 abbrev pub levels : Inside → ℕ → ℕ → Expr → Rule Expr
 levels i level end x = climbed i (end - level) level x
+
+-- a value and the conditions behind it
+abbrev pub conditioned : Inside → Expr → Rule Expr
+conditioned i x = do
+  cs ← conditions_from i []
+  pure (conditional x cs)
+
+-- a value with the steps of the tightest level behind it
+abbrev pub postfixed : Inside → Expr → Rule Expr
+postfixed i x = do
+  ss ← steps_from i (operand i postfix_level) postfix_level []
+  pure (chained x ss)
 
 -- Nothing goes on with a value here at a level from one on and before another.
 abbrev pub EndsBefore : ℕ → ℕ → List Token → Type 0

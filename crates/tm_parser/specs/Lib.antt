@@ -1,3 +1,4 @@
+pub mod Constants
 pub mod Distinct
 pub mod Grammar
 pub mod Levels
@@ -6,3 +7,4 @@ pub mod Parses
 pub mod Statements
 pub mod Template
 pub mod Tokens
+pub mod Waiting

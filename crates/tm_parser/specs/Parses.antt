@@ -17,3 +17,13 @@ TakesFirst (Some x) before after seen = seen ≡ got x after
 abbrev pub TakesSign : {T : Type 0} → Bool → List T → List T → Read T (Unit {0}) → Type 0
 TakesSign false before after seen = (seen ≡ None) × (after ≡ before)
 TakesSign true before after seen = seen ≡ got tt after
+
+-- The same of a method that answers by changing what it is given.
+abbrev pub Adds : {T A : Type 0} → Result (Unit {0}) (List ErrorKind) → A → List T → Read T A → Type 0
+Adds (Ok x) given left read = read ≡ got given left
+Adds (Err chain) given left read = Refused chain (read ≡ None)
+
+-- What is left to be read behind the answer is what was read; where nothing was read, that is why there is no answer.
+abbrev pub Leads : {T A B : Type 0} → Result A (List ErrorKind) → List T → (A → List T → Read T B) → Read T B → Type 0
+Leads (Ok x) rest left read = left x rest ≡ read
+Leads (Err chain) rest left read = Refused chain (read ≡ None)

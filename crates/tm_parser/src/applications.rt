@@ -1,15 +1,17 @@
 //! Calls, filters and tests behind a value: their names, and what they are passed.
 ghost use Rattle.std.specs.Prelude.{◌≡◌, ◌++◌, ◌∷◌, [], codes, MatchResult};
-ghost use Rattle.tm_parser.specs.Parses.{Parses};
-ghost use Rattle.tm_parser.specs.Grammar.{inside, call_step, dotted, filter_step, given, more_parts, one_part};
+ghost use Rattle.tm_parser.specs.Parses.{Adds, Parses};
+ghost use Rattle.tm_parser.specs.Grammar as grammar;
+ghost use Rattle.tm_parser.specs.Grammar.{inside, passed, call_step, dotted, filter_step, more_parts, one_part};
 ghost use Rattle.tm_parser.specs.Grammar.{passed_to_test, test_name, test_step, tested};
 ghost use Rattle.tm_parser.specs.Statements.{more_filters};
 ghost use Rattle.tm_grammar.specs.Combinators.{one_more};
+ghost use Rattle.tm_syntax.specs.declared.tree.Step.TheVariants.{Apply, Call};
 ghost use Rattle.tm_values.specs.declared.error.ErrorKind.TheVariants.{OutOfMemory};
 
 use crate::cursor::{Cursor, refusal};
-use crate::lists::with_one;
-use crate::primaries::Passed;
+use crate::lists::add_one;
+use crate::primaries::{Passed, add_argument, nothing_passed};
 use sqlite_items::Items;
 use std::alloc::Global;
 use tm_syntax::{Application, Argument, Name, Sign, Step};
@@ -17,19 +19,27 @@ use tm_values::{Error, SharedText};
 
 // Each method reads one rule, with `depth` nestings to go. SyntaxError where no tokens spell it.
 impl Cursor<'_> {
-    /// The call of a value behind its opening bracket.
+    /// The call of a value behind its opening bracket, at the end of other steps.
     #[cycle(expressions)]
     #[tactic(auto, unfolding(crate::specs::Grammar::call_step))]
     #[inline(never)]
-    pub fn call_step(&mut self, alloc: Global, depth: u8) -> Result<Step, Error>
-        ensures { Parses result self.new ((call_step (inside depth)).reads self.old) }
+    pub fn call_step(
+        &mut self,
+        alloc: Global,
+        depth: u8,
+        steps: &mut Items<Step>,
+    ) -> Result<(), Error>
+        ensures { Adds result steps.new self.new
+            ((one_more (call_step (inside depth)) steps.old).reads self.old) }
     {
-        let given = self.in_brackets(alloc, depth)?;
-        Ok(Step::Call(given.by_place, given.by_name))
+        let mut given = nothing_passed(alloc);
+        self.in_brackets(alloc, depth, &mut given)?;
+        add_call(given, steps)
     }
 
     /// More filters behind others, each behind a bar and inside one nesting more.
     #[tactic(auto, using(crate::proofs::Loops::bars))]
+    #[inline(never)]
     pub fn more_filters(
         &mut self,
         alloc: Global,
@@ -40,104 +50,118 @@ impl Cursor<'_> {
     {
         let mut filters = first;
         while self.take(Sign::Bar) {
-            filters = self.one_filter(alloc, depth, filters)?;
+            self.one_filter(alloc, depth, &mut filters)?;
         }
         Ok(filters)
     }
 
     /// A filter inside one nesting more, at the end of others.
+    #[tactic(auto, using(crate::proofs::Nesting::filters))]
+    #[inline(never)]
     pub fn one_filter(
         &mut self,
         alloc: Global,
         depth: u8,
-        filters: Items<Step>,
-    ) -> Result<Items<Step>, Error>
-        ensures { Parses result self.new
-            ((one_more (inside depth).filter filters).reads self.old) }
-    {
-        let filter = self.inner_filter(alloc, depth)?;
-        with_one(filters, filter)
-    }
-
-    /// A filter inside one nesting more.
-    #[tactic(auto, using(crate::proofs::Nesting::filters))]
-    fn inner_filter(&mut self, alloc: Global, depth: u8) -> Result<Step, Error>
-        ensures { Parses result self.new ((inside depth).filter.reads self.old) }
+        filters: &mut Items<Step>,
+    ) -> Result<(), Error>
+        ensures { Adds result filters.new self.new
+            ((one_more (inside depth).filter filters.old).reads self.old) }
     {
         if depth == 0 {
             return Err(refusal());
         }
-        self.filter_step(alloc, depth - 1)
+        self.filter_step(alloc, depth - 1, filters)
     }
 
-    /// A filter, and its arguments behind the value.
+    /// A filter, and its arguments behind the value, at the end of other steps.
     #[cycle(expressions)]
     #[tactic(auto, unfolding(crate::specs::Grammar::filter_step))]
     #[inline(never)]
-    pub fn filter_step(&mut self, alloc: Global, depth: u8) -> Result<Step, Error>
-        ensures { Parses result self.new ((filter_step (inside depth)).reads self.old) }
+    pub fn filter_step(
+        &mut self,
+        alloc: Global,
+        depth: u8,
+        steps: &mut Items<Step>,
+    ) -> Result<(), Error>
+        ensures { Adds result steps.new self.new
+            ((one_more (filter_step (inside depth)) steps.old).reads self.old) }
     {
         let name = self.dotted(alloc)?;
-        let given = self.given(alloc, depth)?;
-        Ok(Step::Apply(Application::Filter, name, given.by_place, given.by_name))
+        let mut given = nothing_passed(alloc);
+        self.given(alloc, depth, &mut given)?;
+        add_application(Application::Filter, name, given, steps)
     }
 
-    /// A test, or `not` and a test, and its arguments behind the value.
+    /// A test, or `not` and a test, and its arguments behind the value, at the end of other steps.
     #[cycle(expressions)]
     #[tactic(auto, unfolding(crate::specs::Grammar::test_step))]
-    #[inline(never)]
-    pub fn test_step(&mut self, alloc: Global, depth: u8) -> Result<Step, Error>
-        ensures { Parses result self.new ((test_step (inside depth)).reads self.old) }
+    #[inline(always)]
+    pub fn test_step(
+        &mut self,
+        alloc: Global,
+        depth: u8,
+        steps: &mut Items<Step>,
+    ) -> Result<(), Error>
+        ensures { Adds result steps.new self.new
+            ((one_more (test_step (inside depth)) steps.old).reads self.old) }
     {
         if self.take(Sign::Not) {
-            return self.tested(alloc, depth, Application::NegatedTest);
+            return self.tested(alloc, depth, Application::NegatedTest, steps);
         }
-        self.tested(alloc, depth, Application::Test)
+        self.tested(alloc, depth, Application::Test, steps)
     }
 
-    /// The name of a test, and its arguments behind the value.
+    /// The name of a test, and its arguments behind the value, at the end of other steps.
     #[cycle(expressions)]
     #[tactic(auto, unfolding(crate::specs::Grammar::tested))]
-    fn tested(&mut self, alloc: Global, depth: u8, application: Application) -> Result<Step, Error>
-        ensures { Parses result self.new ((tested (inside depth) application).reads self.old) }
+    #[inline(never)]
+    fn tested(
+        &mut self,
+        alloc: Global,
+        depth: u8,
+        application: Application,
+        steps: &mut Items<Step>,
+    ) -> Result<(), Error>
+        ensures { Adds result steps.new self.new
+            ((one_more (tested (inside depth) application) steps.old).reads self.old) }
     {
         let name = self.test_name(alloc)?;
-        let given = self.passed_to_test(alloc, depth)?;
-        Ok(Step::Apply(application, name, given.by_place, given.by_name))
+        let mut given = nothing_passed(alloc);
+        self.passed_to_test(alloc, depth, &mut given)?;
+        add_application(application, name, given, steps)
     }
 
     /// What a test is passed: a name or a literal without brackets, or the arguments in brackets.
     #[cycle(expressions)]
     #[tactic(auto, unfolding(crate::specs::Grammar::passed_to_test))]
-    fn passed_to_test(&mut self, alloc: Global, depth: u8) -> Result<Passed, Error>
-        ensures { Parses result self.new ((passed_to_test (inside depth)).reads self.old) }
+    #[inline(always)]
+    fn passed_to_test(&mut self, alloc: Global, depth: u8, given: &mut Passed) -> Result<(), Error>
+        requires { given.old ≡ passed [] [] }
+        ensures { Adds result given.new self.new ((passed_to_test (inside depth)).reads self.old) }
     {
         if let Some(argument) = self.take_bare(alloc)? {
-            return Ok(Passed {
-                by_place: with_one(Items::new(alloc), Argument::Plain(argument))?,
-                by_name: Items::new(alloc),
-            });
+            return add_argument(given, Argument::Plain(argument));
         }
-        self.given(alloc, depth)
+        self.given(alloc, depth, given)
     }
 
     /// The arguments in brackets, if they stand here.
     #[cycle(expressions)]
     #[tactic(auto, unfolding(crate::specs::Grammar::given))]
-    fn given(&mut self, alloc: Global, depth: u8) -> Result<Passed, Error>
-        ensures { Parses result self.new ((given (inside depth)).reads self.old) }
+    #[inline(always)]
+    fn given(&mut self, alloc: Global, depth: u8, given: &mut Passed) -> Result<(), Error>
+        requires { given.old ≡ passed [] [] }
+        ensures { Adds result given.new self.new ((grammar.given (inside depth)).reads self.old) }
     {
         if !self.take(Sign::OpenRound) {
-            return Ok(Passed {
-                by_place: Items::new(alloc),
-                by_name: Items::new(alloc),
-            });
+            return Ok(());
         }
-        self.in_brackets(alloc, depth)
+        self.in_brackets(alloc, depth, given)
     }
 
     /// The name of a test: a reserved word, or names with dots between them.
     #[tactic(auto, unfolding(crate::specs::Grammar::test_name))]
+    #[inline(never)]
     fn test_name(&mut self, alloc: Global) -> Result<Name, Error>
         ensures { Parses result self.new (test_name.reads self.old) }
     {
@@ -149,6 +173,7 @@ impl Cursor<'_> {
 
     /// Names with dots between them, as one.
     #[tactic(auto, unfolding(crate::specs::Grammar::dotted))]
+    #[inline(never)]
     fn dotted(&mut self, alloc: Global) -> Result<Name, Error>
         ensures { Parses result self.new (dotted.reads self.old) }
     {
@@ -188,4 +213,33 @@ fn joined(before: SharedText, name: &Name) -> Result<SharedText, Error>
     whole.append(".")?;
     whole.append(name.as_str())?;
     Ok(whole)
+}
+
+/// Adds the application of a name to what it is passed. OutOfMemory for want of memory.
+#[inline(never)]
+pub fn add_application(
+    application: Application,
+    name: Name,
+    given: Passed,
+    steps: &mut Items<Step>,
+) -> Result<(), Error>
+    ensures { MatchResult result
+        (λ done. steps.new ≡
+        steps.old ++ Apply application name given.by_place given.by_name ∷ [])
+        (λ e. e ≡ OutOfMemory ∷ []) }
+{
+    add_one(
+        steps,
+        Step::Apply(application, name, given.by_place, given.by_name),
+    )
+}
+
+/// Adds the call of a value with what it is passed. OutOfMemory for want of memory.
+#[inline(never)]
+fn add_call(given: Passed, steps: &mut Items<Step>) -> Result<(), Error>
+    ensures { MatchResult result
+        (λ done. steps.new ≡ steps.old ++ Call given.by_place given.by_name ∷ [])
+        (λ e. e ≡ OutOfMemory ∷ []) }
+{
+    add_one(steps, Step::Call(given.by_place, given.by_name))
 }

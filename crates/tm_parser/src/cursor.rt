@@ -1,12 +1,14 @@
 //! Tokens one after another.
-ghost use Rattle.std.specs.Prelude.{◌≡◌, ◌∷◌, [], ◌↔◌, IsTrue, MatchResult, is_some};
+ghost use Rattle.std.specs.Prelude.{◌≡◌, ◌∷◌, [], ◌↔◌, IsTrue, IfSome, MatchResult, None, is_some, nat_lt};
 ghost use Rattle.tm_parser.specs.Parses.{Parses, TakesFirst, TakesSign};
+ghost use Rattle.tm_parser.specs.Constants.{TakesConstant};
 ghost use Rattle.tm_parser.specs.Tokens.{is, a_name, a_constant, a_test_word, bare, is_comma, is_kept, link};
 ghost use Rattle.tm_parser.specs.Tokens.{a_target_link, ends_part, ends_target};
 ghost use Rattle.tm_parser.specs.Grammar.{bare_call, comma, inside, keyword_start, target_comma};
 ghost use Rattle.tm_parser.specs.Levels.{GoesOnAt, prefix_up_to};
 ghost use Rattle.tm_parser.specs.Looks.{starts};
 ghost use Rattle.tm_parser.specs.Statements.{a_start, ends_iterated, is_tag, is_word, iterated_comma, lone, same_name};
+ghost use Rattle.tm_parser.specs.Waiting.{role_of};
 ghost use Rattle.tm_grammar.specs.Combinators.{token};
 ghost use Rattle.tm_grammar.specs.Meanings.{first_sees};
 ghost use Rattle.tm_syntax.specs.declared.token.Sign.TheVariants as sign;
@@ -269,25 +271,25 @@ impl<'t> Cursor<'t> {
         }
     }
 
-    /// Takes a literal or a word for a value, and answers a second owner of the value. OutOfMemory
-    /// where there can be none.
+    /// Takes a literal or a word for a value, as an expression. OutOfMemory where there is no
+    /// memory for that.
     #[inline(always)]
-    pub fn take_constant(&mut self) -> Result<Option<Value>, Error>
+    pub fn take_constant(&mut self, alloc: Global) -> Result<Option<Boxed<Expr>>, Error>
         ensures { MatchResult result
-            (λ value. TakesFirst value self.old self.new (first_sees a_constant self.old))
+            (λ expr. TakesConstant expr self.old self.new (first_sees a_constant self.old))
             (λ e. e ≡ ErrorKind.OutOfMemory ∷ []) }
     {
         match self.rest {
             [Token::Name(_), ..] => Ok(None),
-            _ => self.read_constant(),
+            _ => self.read_constant(alloc),
         }
     }
 
     /// The same; a call of its own, since most values are names.
     #[inline(never)]
-    fn read_constant(&mut self) -> Result<Option<Value>, Error>
+    fn read_constant(&mut self, alloc: Global) -> Result<Option<Boxed<Expr>>, Error>
         ensures { MatchResult result
-            (λ value. TakesFirst value self.old self.new (first_sees a_constant self.old))
+            (λ expr. TakesConstant expr self.old self.new (first_sees a_constant self.old))
             (λ e. e ≡ ErrorKind.OutOfMemory ∷ []) }
     {
         let value = match self.rest {
@@ -298,8 +300,9 @@ impl<'t> Cursor<'t> {
             },
             _ => return Ok(None),
         };
+        let expr = boxed(alloc, Expr::Const(value))?;
         self.rest = &self.rest[1..];
-        Ok(Some(value))
+        Ok(Some(expr))
     }
 
     /// Takes a reserved word that names a test, and answers it as a name. OutOfMemory where there is
@@ -322,6 +325,7 @@ impl<'t> Cursor<'t> {
 
     /// Takes what a test may be passed without brackets, as an expression. OutOfMemory where there is
     /// no memory for that.
+    #[inline(never)]
     pub fn take_bare(&mut self, alloc: Global) -> Result<Option<Boxed<Expr>>, Error>
         ensures { MatchResult result
             (λ expr. TakesFirst expr self.old self.new (first_sees bare self.old))
@@ -348,7 +352,8 @@ impl<'t> Cursor<'t> {
 
     /// Takes what goes on with a value at this level: a sign, or `not` and one.
     pub fn take_link(&mut self, level: u8) -> Option<Link>
-        ensures { TakesFirst result self.old self.new ((link level).sees self.old) }
+        ensures first { TakesFirst result self.old self.new ((link level).sees self.old) }
+        ensures operator { IfSome result (λ link. is_some (role_of link) ≡ nat_lt 0 level) }
     {
         let (found, rest) = match self.rest {
             [Token::Sign(Sign::Not), Token::Sign(sign), rest @ ..] => (
@@ -369,7 +374,8 @@ impl<'t> Cursor<'t> {
 
     /// Takes what goes on with a target.
     pub fn take_target_link(&mut self) -> Option<Link>
-        ensures { TakesFirst result self.old self.new (first_sees a_target_link self.old) }
+        ensures first { TakesFirst result self.old self.new (first_sees a_target_link self.old) }
+        ensures operator { IfSome result (λ link. role_of link ≡ None) }
     {
         match self.rest {
             [Token::Sign(sign), rest @ ..] => match target_link(*sign) {
@@ -491,6 +497,7 @@ impl<'t> Cursor<'t> {
     }
 
     /// Takes a name, which has to stand first.
+    #[inline(never)]
     pub fn expect_name(&mut self) -> Result<Name, Error>
         ensures { Parses result self.new ((token a_name).reads self.old) }
     {

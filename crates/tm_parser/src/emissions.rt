@@ -9,22 +9,22 @@ ghost use Rattle.tm_syntax.specs.declared.tree.Argument.TheBlock.{hidden-the_row
 ghost use Rattle.tm_syntax.specs.declared.tree.Argument.TheBlock.{hidden-the_row-Argument-3 as row_of_arguments};
 ghost use Rattle.tm_syntax.specs.declared.tree.Argument.TheBlock.{hidden-the_row-Keyword-4 as row_of_keywords};
 
-use crate::lists::with_one;
+use crate::lists::add_one;
 use sqlite_items::{Boxed, Items};
 use tm_syntax::{Application, Argument, Expr, Keyword, Step, Stmt};
 use tm_values::Error;
 
-/// Statements with one more that emits a value. OutOfMemory for want of memory.
+/// Adds a statement that emits a value. OutOfMemory for want of memory.
 #[inline(always)]
-pub(crate) fn with_emission(body: Items<Stmt>, value: Boxed<Expr>) -> Result<Items<Stmt>, Error>
+pub(crate) fn add_emission(body: &mut Items<Stmt>, value: Boxed<Expr>) -> Result<(), Error>
     ensures { MatchResult result
-        (λ items. items ≡ body ++ spec.emit_statement value ∷ [])
+        (λ done. body.new ≡ body.old ++ spec.emit_statement value ∷ [])
         (λ e. e ≡ OutOfMemory ∷ []) }
 {
     if is_call_of_name(value.get()) {
-        return with_one(body, emit_statement(value)?);
+        return add_one(body, emit_statement(value)?);
     }
-    with_one(body, Stmt::EmitExpr(value))
+    add_one(body, Stmt::EmitExpr(value))
 }
 
 /// Whether an expression is the call of a name or of a block: what may be emitted in place.

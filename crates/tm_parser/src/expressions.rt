@@ -1,19 +1,20 @@
 //! Expressions: values with operators, steps and conditions behind them.
-ghost use Rattle.std.specs.Prelude.{◌≡◌, ◌∷◌, [], MatchResult};
-ghost use Rattle.tm_parser.specs.Parses.{Parses};
+ghost use Rattle.std.specs.Prelude.{◌≡◌, ◌∷◌, [], None, MatchResult};
+ghost use Rattle.tm_parser.specs.Parses.{Adds, Parses};
 ghost use Rattle.tm_parser.specs.Grammar as grammar;
-ghost use Rattle.tm_parser.specs.Grammar.{inside, behind_comparison, comparison, comparisons_from};
-ghost use Rattle.tm_parser.specs.Grammar.{condition, conditions_from, conjunction, disjunction};
-ghost use Rattle.tm_parser.specs.Grammar.{else_part, expr, last_part, named_step, operand};
-ghost use Rattle.tm_parser.specs.Grammar.{operation, part, slice, step, steps_from, subscript};
-ghost use Rattle.tm_parser.specs.Grammar.{whole};
-ghost use Rattle.tm_parser.specs.Levels.{levels, operand_start};
+ghost use Rattle.tm_parser.specs.Grammar.{inside, condition, conditions_from, else_part, expr, last_part};
+ghost use Rattle.tm_parser.specs.Grammar.{named_step, operand, part, slice, step, steps_from, subscript, whole};
+ghost use Rattle.tm_parser.specs.Levels.{conditioned, levels, operand_start, postfixed};
+ghost use Rattle.tm_parser.specs.Tokens.{postfix_level};
+ghost use Rattle.tm_parser.specs.Waiting.{role_of};
 ghost use Rattle.tm_syntax.specs.declared.tree.Expr.TheVariants as exprs;
 ghost use Rattle.tm_grammar.specs.Combinators.{one_more};
 ghost use Rattle.tm_values.specs.declared.error.ErrorKind.TheVariants.{OutOfMemory};
 
+use crate::applications::add_application;
 use crate::cursor::{Cursor, refusal};
-use crate::lists::{boxed, with_one};
+use crate::lists::{add_one, boxed};
+use crate::primaries::nothing_passed;
 use crate::tables::{Link, OR_LEVEL, POSTFIX_LEVEL};
 use sqlite_items::{Boxed, Items};
 use std::alloc::Global;
@@ -62,6 +63,7 @@ impl Cursor<'_> {
     /// An expression: a value, and the conditions behind it.
     #[cycle(expressions)]
     #[tactic(auto, unfolding(crate::specs::Grammar::expr), using(crate::proofs::Levels::no_condition))]
+    #[inline(never)]
     pub fn expr(&mut self, alloc: Global, depth: u8) -> Result<Boxed<Expr>, Error>
         ensures { Parses result self.new ((expr (inside depth)).reads self.old) }
     {
@@ -69,6 +71,21 @@ impl Cursor<'_> {
         if !self.is_at_if() {
             return Ok(value);
         }
+        self.conditioned(alloc, depth, value)
+    }
+
+    /// A value and the conditions behind it.
+    #[cycle(expressions)]
+    #[inline(never)]
+    fn conditioned(
+        &mut self,
+        alloc: Global,
+        depth: u8,
+        value: Boxed<Expr>,
+    ) -> Result<Boxed<Expr>, Error>
+        ensures { Parses result self.new
+            ((conditioned (inside depth) value).reads self.old) }
+    {
         let conditions = self.conditions(alloc, depth)?;
         conditional(alloc, value, conditions)
     }
@@ -81,7 +98,7 @@ impl Cursor<'_> {
     {
         let mut conditions = Items::new(alloc);
         while self.take(Sign::If) {
-            conditions = self.one_condition(alloc, depth, conditions)?;
+            self.one_condition(alloc, depth, &mut conditions)?;
         }
         Ok(conditions)
     }
@@ -89,19 +106,19 @@ impl Cursor<'_> {
     /// A condition and its else part, at the end of others.
     #[cycle(expressions)]
     #[tactic(auto, unfolding(crate::specs::Grammar::condition))]
-    #[inline(never)]
+    #[inline(always)]
     fn one_condition(
         &mut self,
         alloc: Global,
         depth: u8,
-        conditions: Items<Condition>,
-    ) -> Result<Items<Condition>, Error>
-        ensures { Parses result self.new
-            ((one_more (condition (inside depth)) conditions).reads self.old) }
+        conditions: &mut Items<Condition>,
+    ) -> Result<(), Error>
+        ensures { Adds result conditions.new self.new
+            ((one_more (condition (inside depth)) conditions.old).reads self.old) }
     {
         let test = self.whole(alloc, depth)?;
         let otherwise = self.else_part(alloc, depth)?;
-        with_one(conditions, Condition { test, otherwise })
+        add_one(conditions, Condition { test, otherwise })
     }
 
     /// What stands behind `else`, if it stands there.
@@ -142,7 +159,12 @@ impl Cursor<'_> {
     #[cycle(expressions)]
     #[tactic(auto, unfolding(crate::specs::Levels::operand_start))]
     #[inline(always)]
-    fn operand_start(&mut self, alloc: Global, depth: u8, level: u8) -> Result<OperandStart, Error>
+    pub fn operand_start(
+        &mut self,
+        alloc: Global,
+        depth: u8,
+        level: u8,
+    ) -> Result<OperandStart, Error>
         ensures { Parses result self.new ((operand_start (inside depth) level).reads self.old) }
     {
         if let Some((level, operator)) = self.take_prefix(level) {
@@ -157,7 +179,8 @@ impl Cursor<'_> {
         })
     }
 
-    /// Behind an operand of a level, the steps of all levels before the end, from its own on.
+    /// Behind an operand of a level, the steps of all levels before the end, from its own on. Most
+    /// values have no operators behind them.
     #[cycle(expressions)]
     #[inline(always)]
     fn climb(
@@ -174,109 +197,128 @@ impl Cursor<'_> {
         let mut level = from;
         let mut value = operand;
         while let Some(found) = self.link_level(level, end) {
-            let steps = self.steps(alloc, depth, found)?;
-            value = chained(alloc, value, steps)?;
+            if found != POSTFIX_LEVEL {
+                return self.operators(alloc, depth, level, end, value);
+            }
+            value = self.with_steps(alloc, depth, value)?;
             level = found + 1;
         }
         Ok(value)
     }
 
-    /// As many steps of a level as there are.
+    /// A value with the steps behind it that are no operators.
     #[cycle(expressions)]
     #[inline(never)]
-    pub fn steps(&mut self, alloc: Global, depth: u8, level: u8) -> Result<Items<Step>, Error>
+    pub fn with_steps(
+        &mut self,
+        alloc: Global,
+        depth: u8,
+        value: Boxed<Expr>,
+    ) -> Result<Boxed<Expr>, Error>
+        ensures { Parses result self.new ((postfixed (inside depth) value).reads self.old) }
+    {
+        let steps = self.steps(alloc, depth)?;
+        chained(alloc, value, steps)
+    }
+
+    /// As many steps that are no operators as there are.
+    #[cycle(expressions)]
+    #[tactic(auto, using(crate::proofs::Waiting::no_role))]
+    #[inline(always)]
+    fn steps(&mut self, alloc: Global, depth: u8) -> Result<Items<Step>, Error>
         ensures { Parses result self.new
-            ((steps_from (inside depth) (operand (inside depth) level) level []).reads self.old) }
+            ((steps_from (inside depth) (operand (inside depth) postfix_level) postfix_level
+            []).reads self.old) }
     {
         let mut steps = Items::new(alloc);
-        while let Some(link) = self.take_link(level) {
-            steps = self.one_step(alloc, depth, level, link, steps)?;
+        while let Some(link) = self.take_link(POSTFIX_LEVEL) {
+            self.one_step(alloc, depth, link, &mut steps)?;
         }
         Ok(steps)
     }
 
-    /// The step of a link, at the end of others.
+    /// The step of a link that is no operator, at the end of others.
     #[cycle(expressions)]
+    #[inline(always)]
     pub fn one_step(
         &mut self,
         alloc: Global,
         depth: u8,
-        level: u8,
         link: Link,
-        steps: Items<Step>,
-    ) -> Result<Items<Step>, Error>
-        ensures { Parses result self.new
-            ((one_more (step (inside depth) (operand (inside depth) level) level link) steps).reads
-            self.old) }
-    {
-        let step = self.step(alloc, depth, level, link)?;
-        with_one(steps, step)
-    }
-
-    /// The step of a link.
-    #[cycle(expressions)]
-    fn step(&mut self, alloc: Global, depth: u8, level: u8, link: Link) -> Result<Step, Error>
-        ensures { Parses result self.new
-            ((step (inside depth) (operand (inside depth) level) level link).reads self.old) }
+        steps: &mut Items<Step>,
+    ) -> Result<(), Error>
+        requires { role_of link ≡ None }
+        ensures { Adds result steps.new self.new
+            ((one_more
+            (step (inside depth) (operand (inside depth) postfix_level) postfix_level link)
+            steps.old).reads self.old) }
     {
         match link {
-            Link::Member => self.named_step(alloc, depth),
-            Link::Item => self.subscript(alloc, depth),
-            Link::Call => self.call_step(alloc, depth),
-            Link::Filter => self.filter_step(alloc, depth),
-            Link::Test => self.test_step(alloc, depth),
-            Link::Operator(operator) => self.operation(alloc, depth, level, operator),
-            Link::Comparison(operator) => self.comparison(alloc, depth, level, operator),
-            Link::And => self.conjunction(alloc, depth, level),
-            Link::Or => self.disjunction(alloc, depth, level),
+            Link::Member => self.named_step(alloc, depth, steps),
+            Link::Item => self.subscript(alloc, depth, steps),
+            Link::Call => self.call_step(alloc, depth, steps),
+            Link::Filter => self.filter_step(alloc, depth, steps),
+            Link::Test => self.test_step(alloc, depth, steps),
+            Link::Operator(_) | Link::Comparison(_) | Link::And | Link::Or => Err(refusal()),
         }
     }
 
-    /// An attribute, or the call of a method.
+    /// An attribute, or the call of a method, at the end of other steps.
     #[cycle(expressions)]
     #[tactic(auto, unfolding(crate::specs::Grammar::named_step))]
     #[inline(never)]
-    fn named_step(&mut self, alloc: Global, depth: u8) -> Result<Step, Error>
-        ensures { Parses result self.new ((named_step (inside depth)).reads self.old) }
+    fn named_step(&mut self, alloc: Global, depth: u8, steps: &mut Items<Step>) -> Result<(), Error>
+        ensures { Adds result steps.new self.new
+            ((one_more (named_step (inside depth)) steps.old).reads self.old) }
     {
         let name = self.expect_name()?;
         if !self.take(Sign::OpenRound) {
-            return Ok(Step::Attribute(name));
+            return add_one(steps, Step::Attribute(name));
         }
-        let given = self.in_brackets(alloc, depth)?;
-        Ok(Step::Apply(Application::Method, name, given.by_place, given.by_name))
+        let mut given = nothing_passed(alloc);
+        self.in_brackets(alloc, depth, &mut given)?;
+        add_application(Application::Method, name, given, steps)
     }
 
-    /// The item or slice in square brackets, and their end.
+    /// The item or slice in square brackets, and their end, at the end of other steps.
     #[cycle(expressions)]
     #[tactic(auto, unfolding(crate::specs::Grammar::subscript))]
     #[inline(never)]
-    fn subscript(&mut self, alloc: Global, depth: u8) -> Result<Step, Error>
-        ensures { Parses result self.new ((subscript (inside depth)).reads self.old) }
+    fn subscript(&mut self, alloc: Global, depth: u8, steps: &mut Items<Step>) -> Result<(), Error>
+        ensures { Adds result steps.new self.new
+            ((one_more (subscript (inside depth)) steps.old).reads self.old) }
     {
         self.room(depth)?;
         if self.take(Sign::Colon) {
             let start = missing(alloc)?;
-            return self.slice(alloc, depth, start);
+            return self.slice(alloc, depth, start, steps);
         }
         let item = self.inner_expr(alloc, depth)?;
         if self.take(Sign::Colon) {
-            return self.slice(alloc, depth, item);
+            return self.slice(alloc, depth, item, steps);
         }
         self.expect(Sign::CloseSquare)?;
-        Ok(Step::Item(item))
+        add_one(steps, Step::Item(item))
     }
 
-    /// A slice behind its first colon, and the end of its brackets.
+    /// A slice behind its first colon, and the end of its brackets, at the end of other steps.
     #[cycle(expressions)]
     #[tactic(auto, unfolding(crate::specs::Grammar::slice))]
-    fn slice(&mut self, alloc: Global, depth: u8, start: Boxed<Expr>) -> Result<Step, Error>
-        ensures { Parses result self.new ((slice (inside depth) start).reads self.old) }
+    #[inline(never)]
+    fn slice(
+        &mut self,
+        alloc: Global,
+        depth: u8,
+        start: Boxed<Expr>,
+        steps: &mut Items<Step>,
+    ) -> Result<(), Error>
+        ensures { Adds result steps.new self.new
+            ((one_more (slice (inside depth) start) steps.old).reads self.old) }
     {
         let stop = self.part(alloc, depth)?;
         let by = self.last_part(alloc, depth)?;
         self.expect(Sign::CloseSquare)?;
-        Ok(Step::Slice(start, stop, by))
+        add_one(steps, Step::Slice(start, stop, by))
     }
 
     /// The part behind the second colon of a slice, if it has one.
@@ -301,101 +343,6 @@ impl Cursor<'_> {
             return missing(alloc);
         }
         self.inner_expr(alloc, depth)
-    }
-
-    /// The right side of an operator.
-    #[cycle(expressions)]
-    #[tactic(auto, unfolding(crate::specs::Grammar::operation))]
-    fn operation(
-        &mut self,
-        alloc: Global,
-        depth: u8,
-        level: u8,
-        operator: BinaryOperator,
-    ) -> Result<Step, Error>
-        ensures { Parses result self.new
-            ((operation (operand (inside depth) level) operator).reads self.old) }
-    {
-        Ok(Step::Binary(operator, self.operand(alloc, depth, level)?))
-    }
-
-    /// The right side of a comparison, and the comparisons in a row behind it.
-    #[cycle(expressions)]
-    #[tactic(auto, unfolding(crate::specs::Grammar::comparison))]
-    #[inline(never)]
-    fn comparison(
-        &mut self,
-        alloc: Global,
-        depth: u8,
-        level: u8,
-        operator: BinaryOperator,
-    ) -> Result<Step, Error>
-        ensures { Parses result self.new
-            ((comparison (operand (inside depth) level) level operator).reads self.old) }
-    {
-        let right = self.operand(alloc, depth, level)?;
-        let behind = self.comparisons(alloc, depth, level)?;
-        Ok(compared(operator, right, behind))
-    }
-
-    /// As many comparisons in a row as there are.
-    #[cycle(expressions)]
-    fn comparisons(
-        &mut self,
-        alloc: Global,
-        depth: u8,
-        level: u8,
-    ) -> Result<Items<Comparison>, Error>
-        ensures { Parses result self.new
-            ((comparisons_from (operand (inside depth) level) level []).reads self.old) }
-    {
-        let mut comparisons = Items::new(alloc);
-        while let Some(link) = self.take_link(level) {
-            comparisons = self.one_comparison(alloc, depth, level, link, comparisons)?;
-        }
-        Ok(comparisons)
-    }
-
-    /// The comparison of a link, at the end of others.
-    #[cycle(expressions)]
-    #[tactic(auto, unfolding(crate::specs::Grammar::another_comparison))]
-    fn one_comparison(
-        &mut self,
-        alloc: Global,
-        depth: u8,
-        level: u8,
-        link: Link,
-        comparisons: Items<Comparison>,
-    ) -> Result<Items<Comparison>, Error>
-        ensures { Parses result self.new
-            ((one_more (behind_comparison (operand (inside depth) level) link) comparisons).reads
-            self.old) }
-    {
-        let Link::Comparison(operator) = link else {
-            return Err(refusal());
-        };
-        let right = self.operand(alloc, depth, level)?;
-        with_one(comparisons, Comparison { operator, right })
-    }
-
-    /// The right side of `and`.
-    #[cycle(expressions)]
-    #[tactic(auto, unfolding(crate::specs::Grammar::conjunction))]
-    fn conjunction(&mut self, alloc: Global, depth: u8, level: u8) -> Result<Step, Error>
-        ensures { Parses result self.new
-            ((conjunction (operand (inside depth) level)).reads self.old) }
-    {
-        Ok(Step::And(self.operand(alloc, depth, level)?))
-    }
-
-    /// The right side of `or`.
-    #[cycle(expressions)]
-    #[tactic(auto, unfolding(crate::specs::Grammar::disjunction))]
-    fn disjunction(&mut self, alloc: Global, depth: u8, level: u8) -> Result<Step, Error>
-        ensures { Parses result self.new
-            ((disjunction (operand (inside depth) level)).reads self.old) }
-    {
-        Ok(Step::Or(self.operand(alloc, depth, level)?))
     }
 }
 
@@ -422,7 +369,7 @@ fn no_else(alloc: Global) -> Result<Boxed<Expr>, Error>
 /// A comparison, and those in a row behind it.
 #[tactic(auto, using(crate::proofs::Nesting::comparisons))]
 #[inline(never)]
-fn compared(operator: BinaryOperator, right: Boxed<Expr>, behind: Items<Comparison>) -> Step
+pub fn compared(operator: BinaryOperator, right: Boxed<Expr>, behind: Items<Comparison>) -> Step
     ensures { result ≡ grammar.compared operator right behind }
 {
     if behind.is_empty() {

@@ -1,6 +1,6 @@
 //! Templates that are included, and what is imported from them.
 ghost use Rattle.std.specs.Prelude.{◌≡◌, [], MatchResult};
-ghost use Rattle.tm_parser.specs.Parses.{Parses};
+ghost use Rattle.tm_parser.specs.Parses.{Adds, Parses};
 ghost use Rattle.tm_parser.specs.Grammar.{inside, more_items};
 ghost use Rattle.tm_parser.specs.Statements.{from_tag, given_name, import_tag, imported, imports};
 ghost use Rattle.tm_parser.specs.Statements.{include_tag, may_be_missing};
@@ -8,7 +8,7 @@ ghost use Rattle.tm_grammar.specs.Combinators.{one_more};
 ghost use Rattle.tm_syntax.specs.declared.token.Sign.TheVariants as sign;
 
 use crate::cursor::Cursor;
-use crate::lists::with_one;
+use crate::lists::{add_one, with_one};
 use sqlite_items::Items;
 use std::alloc::Global;
 use tm_syntax::{Imported, Name, Sign, Stmt};
@@ -18,13 +18,20 @@ use tm_values::Error;
 impl Cursor<'_> {
     /// The template of an `include`, whether it may be missing, and the end of the tag.
     #[tactic(auto, unfolding(crate::specs::Statements::include_tag))]
-    pub fn include_tag(&mut self, alloc: Global, depth: u8) -> Result<Stmt, Error>
-        ensures { Parses result self.new ((include_tag (inside depth)).reads self.old) }
+    #[inline(never)]
+    pub fn include_tag(
+        &mut self,
+        alloc: Global,
+        depth: u8,
+        body: &mut Items<Stmt>,
+    ) -> Result<(), Error>
+        ensures { Adds result body.new self.new
+            ((one_more (include_tag (inside depth)) body.old).reads self.old) }
     {
         let template = self.expr(alloc, depth)?;
         let missing = self.may_be_missing()?;
         self.expect(Sign::BlockEnd)?;
-        Ok(Stmt::Include(template, missing))
+        add_one(body, Stmt::Include(template, missing))
     }
 
     /// The words of a template that may be missing, if they stand there.
@@ -40,25 +47,39 @@ impl Cursor<'_> {
 
     /// The template of an `import`, the target of its module, and the end of the tag.
     #[tactic(auto, unfolding(crate::specs::Statements::import_tag))]
-    pub fn import_tag(&mut self, alloc: Global, depth: u8) -> Result<Stmt, Error>
-        ensures { Parses result self.new ((import_tag (inside depth)).reads self.old) }
+    #[inline(never)]
+    pub fn import_tag(
+        &mut self,
+        alloc: Global,
+        depth: u8,
+        body: &mut Items<Stmt>,
+    ) -> Result<(), Error>
+        ensures { Adds result body.new self.new
+            ((one_more (import_tag (inside depth)) body.old).reads self.old) }
     {
         let template = self.expr(alloc, depth)?;
         self.expect_word("as")?;
         let target = self.target(alloc, depth)?;
         self.expect(Sign::BlockEnd)?;
-        Ok(Stmt::Import(template, target))
+        add_one(body, Stmt::Import(template, target))
     }
 
     /// The template of a `from`, the names that are imported, and the end of the tag.
     #[tactic(auto, unfolding(crate::specs::Statements::from_tag))]
-    pub fn from_tag(&mut self, alloc: Global, depth: u8) -> Result<Stmt, Error>
-        ensures { Parses result self.new ((from_tag (inside depth)).reads self.old) }
+    #[inline(never)]
+    pub fn from_tag(
+        &mut self,
+        alloc: Global,
+        depth: u8,
+        body: &mut Items<Stmt>,
+    ) -> Result<(), Error>
+        ensures { Adds result body.new self.new
+            ((one_more (from_tag (inside depth)) body.old).reads self.old) }
     {
         let template = self.expr(alloc, depth)?;
         self.expect_word("import")?;
         let imports = self.imports(alloc)?;
-        Ok(Stmt::FromImport(template, imports))
+        add_one(body, Stmt::FromImport(template, imports))
     }
 
     /// One imported name or more, and the end of the tag.

@@ -10,6 +10,7 @@ mod expressions;
 mod imports;
 mod lists;
 mod macros;
+mod operators;
 mod primaries;
 mod statements;
 mod tables;

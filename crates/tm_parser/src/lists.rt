@@ -18,6 +18,17 @@ pub fn with_one<T: Drop>(items: Items<T>, item: T) -> Result<Items<T>, Error>
     Ok(items)
 }
 
+/// Adds an item to others. OutOfMemory for want of memory.
+#[inline(always)]
+pub fn add_one<T: Drop>(items: &mut Items<T>, item: T) -> Result<(), Error>
+    ensures { MatchResult result
+        (λ done. items.new ≡ items.old ++ item ∷ [])
+        (λ e. e ≡ OutOfMemory ∷ []) }
+{
+    items.push(item)?;
+    Ok(())
+}
+
 /// A value in a box. OutOfMemory for want of memory.
 #[inline(always)]
 pub fn boxed<T: Drop>(alloc: Global, value: T) -> Result<Boxed<T>, Error>

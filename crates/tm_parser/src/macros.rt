@@ -1,6 +1,6 @@
 //! Blocks, also as `self` has them, macros and calls with a body: bodies around which is no loop, and parameters.
 ghost use Rattle.std.specs.Prelude.{◌≡◌, [], ◌∷◌, false, IfOk, MatchResult};
-ghost use Rattle.tm_parser.specs.Parses.{Parses};
+ghost use Rattle.tm_parser.specs.Parses.{Adds, Parses};
 ghost use Rattle.tm_parser.specs.Distinct as spec;
 ghost use Rattle.tm_parser.specs.Grammar.{inside, items, more_items, of_self};
 ghost use Rattle.tm_parser.specs.Statements as statements;
@@ -14,7 +14,7 @@ ghost use Rattle.tm_values.specs.declared.error.ErrorKind.TheVariants.{OutOfMemo
 use crate::cursor::{Cursor, refusal};
 use crate::distinct::are_distinct;
 use crate::emissions::is_call;
-use crate::lists::{boxed, with_one};
+use crate::lists::{add_one, boxed, with_one};
 use sqlite_items::{Boxed, Items};
 use std::alloc::{AllocError, Global};
 use tm_syntax::{Application, CallBlock, Expr, Macro, Name, Parameter, Sign, Step, Stmt, Tag};
@@ -25,14 +25,21 @@ impl Cursor<'_> {
     /// A block's name, whether another template has to replace it, and its body, up to its end tag.
     #[cycle(statements)]
     #[tactic(auto, unfolding(crate::specs::Statements::block_tag))]
-    pub fn block_tag(&mut self, alloc: Global, depth: u8) -> Result<Stmt, Error>
-        ensures { Parses result self.new ((block_tag (inner depth)).reads self.old) }
+    #[inline(never)]
+    pub fn block_tag(
+        &mut self,
+        alloc: Global,
+        depth: u8,
+        body: &mut Items<Stmt>,
+    ) -> Result<(), Error>
+        ensures { Adds result body.new self.new
+            ((one_more (block_tag (inner depth)) body.old).reads self.old) }
     {
         let name = self.expect_name()?;
         let required = self.take_word("required");
         self.expect(Sign::BlockEnd)?;
-        let body = self.named_body(alloc, depth, Tag::Endblock, &name)?;
-        Ok(Stmt::Block(name, required, body))
+        let inner = self.named_body(alloc, depth, Tag::Endblock, &name)?;
+        add_one(body, Stmt::Block(name, required, inner))
     }
 
     /// The name `self`, or the block that is called behind it.
@@ -51,19 +58,27 @@ impl Cursor<'_> {
     /// A macro's name, parameters and body, up to its end tag.
     #[cycle(statements)]
     #[tactic(auto, unfolding(crate::specs::Statements::macro_tag))]
-    pub fn macro_tag(&mut self, alloc: Global, depth: u8) -> Result<Stmt, Error>
-        ensures { Parses result self.new ((macro_tag (inner depth)).reads self.old) }
+    #[inline(never)]
+    pub fn macro_tag(
+        &mut self,
+        alloc: Global,
+        depth: u8,
+        body: &mut Items<Stmt>,
+    ) -> Result<(), Error>
+        ensures { Adds result body.new self.new
+            ((one_more (macro_tag (inner depth)) body.old).reads self.old) }
     {
         let name = self.expect_name()?;
         self.expect(Sign::OpenRound)?;
         let parameters = self.inner_parameters(alloc, depth)?;
         self.expect(Sign::BlockEnd)?;
-        let body = self.named_body(alloc, depth, Tag::Endmacro, &name)?;
-        Ok(Stmt::Macro(Macro {
+        let inner = self.named_body(alloc, depth, Tag::Endmacro, &name)?;
+        let statement = Stmt::Macro(Macro {
             name,
             parameters,
-            body,
-        }))
+            body: inner,
+        });
+        add_one(body, statement)
     }
 
     /// The body of a block or a macro of this name, up to its end tag.
@@ -95,12 +110,19 @@ impl Cursor<'_> {
     /// The parameters of a call's body, if any, the call and the body, up to its end tag.
     #[cycle(statements)]
     #[tactic(auto, unfolding(crate::specs::Statements::call_tag))]
-    pub fn call_tag(&mut self, alloc: Global, depth: u8) -> Result<Stmt, Error>
-        ensures { Parses result self.new ((call_tag (inside depth) (inner depth)).reads self.old) }
+    #[inline(never)]
+    pub fn call_tag(
+        &mut self,
+        alloc: Global,
+        depth: u8,
+        body: &mut Items<Stmt>,
+    ) -> Result<(), Error>
+        ensures { Adds result body.new self.new
+            ((one_more (call_tag (inside depth) (inner depth)) body.old).reads self.old) }
     {
         let parameters = self.call_parameters(alloc, depth)?;
         let call = self.inner_expr(alloc, depth)?;
-        self.call_block(alloc, depth, parameters, call)
+        self.call_block(alloc, depth, parameters, call, body)
     }
 
     /// What stands behind the expression of a call's tag. SyntaxError also where that is no call.
@@ -112,25 +134,28 @@ impl Cursor<'_> {
         depth: u8,
         parameters: Items<Parameter>,
         call: Boxed<Expr>,
-    ) -> Result<Stmt, Error>
-        ensures { Parses result self.new
-            ((call_block (inner depth) parameters call).reads self.old) }
+        body: &mut Items<Stmt>,
+    ) -> Result<(), Error>
+        ensures { Adds result body.new self.new
+            ((one_more (call_block (inner depth) parameters call) body.old).reads self.old) }
     {
         if !is_call(call.get()) {
             return Err(refusal());
         }
-        let body = self.body_behind(alloc, depth, Tag::Endcall, false)?;
+        let inner = self.body_behind(alloc, depth, Tag::Endcall, false)?;
         let call = with_caller(alloc, call)?;
-        Ok(Stmt::CallBlock(CallBlock {
+        let statement = Stmt::CallBlock(CallBlock {
             call,
             parameters,
-            body,
-        }))
+            body: inner,
+        });
+        add_one(body, statement)
     }
 
     /// The parameters of a call's body, none where no bracket opens. SyntaxError also where one has
     /// a default.
     #[tactic(auto, unfolding(crate::specs::Statements::call_parameters))]
+    #[inline(never)]
     fn call_parameters(&mut self, alloc: Global, depth: u8) -> Result<Items<Parameter>, Error>
         ensures { Parses result self.new ((call_parameters (inner depth)).reads self.old) }
     {
@@ -146,6 +171,7 @@ impl Cursor<'_> {
 
     /// Parameters behind their opening bracket, inside one nesting more.
     #[tactic(auto, using(crate::proofs::Nesting::macros))]
+    #[inline(never)]
     fn inner_parameters(&mut self, alloc: Global, depth: u8) -> Result<Items<Parameter>, Error>
         ensures { Parses result self.new ((inner depth).parameters.reads self.old) }
     {

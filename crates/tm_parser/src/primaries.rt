@@ -1,11 +1,12 @@
 //! What stands between operators: literals, names, calls, and what stands in brackets.
 ghost use Rattle.std.specs.Prelude.{◌≡◌, ◌++◌, ◌∷◌, [], MatchResult};
-ghost use Rattle.tm_parser.specs.Parses.{Parses};
+ghost use Rattle.tm_parser.specs.Parses.{Adds, Parses};
 ghost use Rattle.tm_parser.specs.Grammar.{inside, all_passed, argument, bracketed, called, closed, in_brackets, items};
 ghost use Rattle.tm_parser.specs.Grammar.{keyword, list_literal, map_literal, more_items, more_passed};
 ghost use Rattle.tm_parser.specs.Grammar.{named, one_passed, pair, passed, primary, spread_list, spread_map, tuple};
 ghost use Rattle.tm_grammar.specs.Combinators.{one_more};
 ghost use Rattle.tm_syntax.specs.declared.token.Sign.TheVariants as sign;
+ghost use Rattle.tm_syntax.specs.declared.tree.Expr.TheVariants as exprs;
 ghost use Rattle.tm_values.specs.declared.error.ErrorKind.TheVariants.{OutOfMemory};
 
 use crate::cursor::{Cursor, refusal};
@@ -33,8 +34,8 @@ impl Cursor<'_> {
     pub fn primary(&mut self, alloc: Global, depth: u8) -> Result<Boxed<Expr>, Error>
         ensures { Parses result self.new ((primary (inside depth)).reads self.old) }
     {
-        if let Some(value) = self.take_constant()? {
-            return boxed(alloc, Expr::Const(value));
+        if let Some(value) = self.take_constant(alloc)? {
+            return Ok(value);
         }
         if let Some(name) = self.take_name()? {
             return self.named(alloc, depth, name);
@@ -74,8 +75,9 @@ impl Cursor<'_> {
     fn called(&mut self, alloc: Global, depth: u8, name: Name) -> Result<Boxed<Expr>, Error>
         ensures { Parses result self.new ((called (inside depth) name).reads self.old) }
     {
-        let given = self.in_brackets(alloc, depth)?;
-        boxed(alloc, Expr::Call(name, given.by_place, given.by_name))
+        let mut given = nothing_passed(alloc);
+        self.in_brackets(alloc, depth, &mut given)?;
+        call_of(alloc, name, given)
     }
 
     /// The expression or tuple in round brackets, and their end.
@@ -117,7 +119,7 @@ impl Cursor<'_> {
         ensures { Parses result self.new ((tuple (inside depth) first).reads self.old) }
     {
         self.expect(Sign::Comma)?;
-        let items = with_one(Items::new(alloc), first.into_inner())?;
+        let items = lone_item(alloc, first)?;
         let items = self.exprs(alloc, depth, Sign::CloseRound, items)?;
         boxed(alloc, Expr::Tuple(items))
     }
@@ -260,51 +262,51 @@ impl Cursor<'_> {
     /// The arguments of a call inside one bracket more, and its end.
     #[cycle(expressions)]
     #[tactic(auto, unfolding(crate::specs::Grammar::in_brackets))]
-    pub fn in_brackets(&mut self, alloc: Global, depth: u8) -> Result<Passed, Error>
-        ensures { Parses result self.new ((in_brackets (inside depth)).reads self.old) }
+    pub fn in_brackets(&mut self, alloc: Global, depth: u8, given: &mut Passed) -> Result<(), Error>
+        requires { given.old ≡ passed [] [] }
+        ensures { Adds result given.new self.new ((in_brackets (inside depth)).reads self.old) }
     {
         self.room(depth)?;
-        self.all_passed(alloc, depth)
+        self.all_passed(alloc, depth, given)
     }
 
     /// The arguments of a call, and the end of its brackets.
     #[cycle(expressions)]
     #[tactic(auto, unfolding(crate::specs::Grammar::all_passed))]
-    fn all_passed(&mut self, alloc: Global, depth: u8) -> Result<Passed, Error>
-        ensures { Parses result self.new ((all_passed (inside depth)).reads self.old) }
+    #[inline(never)]
+    fn all_passed(&mut self, alloc: Global, depth: u8, given: &mut Passed) -> Result<(), Error>
+        requires { given.old ≡ passed [] [] }
+        ensures { Adds result given.new self.new ((all_passed (inside depth)).reads self.old) }
     {
-        let given = Passed {
-            by_place: Items::new(alloc),
-            by_name: Items::new(alloc),
-        };
         if self.take(Sign::CloseRound) {
-            return Ok(given);
+            return Ok(());
         }
-        let given = self.one_passed(alloc, depth, given)?;
-        let given = self.more_passed(alloc, depth, given)?;
+        self.one_passed(alloc, depth, given)?;
+        self.more_passed(alloc, depth, given)?;
         self.take(Sign::Comma);
-        self.expect(Sign::CloseRound)?;
-        Ok(given)
+        self.expect(Sign::CloseRound)
     }
 
-    /// More arguments, each behind a comma.
+    /// More arguments behind those that are given, each behind a comma.
     #[cycle(expressions)]
     #[tactic(auto, using(crate::proofs::Loops::arguments))]
-    fn more_passed(&mut self, alloc: Global, depth: u8, first: Passed) -> Result<Passed, Error>
-        ensures { Parses result self.new ((more_passed (inside depth) first).reads self.old) }
+    fn more_passed(&mut self, alloc: Global, depth: u8, given: &mut Passed) -> Result<(), Error>
+        ensures { Adds result given.new self.new
+            ((more_passed (inside depth) given.old).reads self.old) }
     {
-        let mut given = first;
         while self.take_comma(Sign::CloseRound) {
-            given = self.one_passed(alloc, depth, given)?;
+            self.one_passed(alloc, depth, given)?;
         }
-        Ok(given)
+        Ok(())
     }
 
-    /// An argument, behind others.
+    /// An argument, behind those that are given.
     #[cycle(expressions)]
     #[tactic(auto, unfolding(crate::specs::Grammar::one_passed))]
-    fn one_passed(&mut self, alloc: Global, depth: u8, given: Passed) -> Result<Passed, Error>
-        ensures { Parses result self.new ((one_passed (inside depth) given).reads self.old) }
+    #[inline(never)]
+    fn one_passed(&mut self, alloc: Global, depth: u8, given: &mut Passed) -> Result<(), Error>
+        ensures { Adds result given.new self.new
+            ((one_passed (inside depth) given.old).reads self.old) }
     {
         if let Some(name) = self.take_keyword()? {
             return self.keyword(alloc, depth, given, name);
@@ -325,72 +327,104 @@ impl Cursor<'_> {
         &mut self,
         alloc: Global,
         depth: u8,
-        given: Passed,
+        given: &mut Passed,
         name: Name,
-    ) -> Result<Passed, Error>
-        ensures { Parses result self.new ((keyword (inside depth) given name).reads self.old) }
+    ) -> Result<(), Error>
+        ensures { Adds result given.new self.new
+            ((keyword (inside depth) given.old name).reads self.old) }
     {
         let value = self.inner_expr(alloc, depth)?;
-        with_keyword(given, Keyword::Named(name, value))
+        add_keyword(given, Keyword::Named(name, value))
     }
 
     /// A map of arguments by their names, behind its `**`.
     #[cycle(expressions)]
     #[tactic(auto, unfolding(crate::specs::Grammar::spread_map))]
-    fn spread_map(&mut self, alloc: Global, depth: u8, given: Passed) -> Result<Passed, Error>
-        ensures { Parses result self.new ((spread_map (inside depth) given).reads self.old) }
+    fn spread_map(&mut self, alloc: Global, depth: u8, given: &mut Passed) -> Result<(), Error>
+        ensures { Adds result given.new self.new
+            ((spread_map (inside depth) given.old).reads self.old) }
     {
         let value = self.inner_expr(alloc, depth)?;
-        with_keyword(given, Keyword::Spread(value))
+        add_keyword(given, Keyword::Spread(value))
     }
 
     /// A list of arguments by their places, behind its `*`; it stands behind none by its name.
     #[cycle(expressions)]
     #[tactic(auto, unfolding(crate::specs::Grammar::spread_list), using(crate::proofs::Nesting::names))]
-    fn spread_list(&mut self, alloc: Global, depth: u8, given: Passed) -> Result<Passed, Error>
-        ensures { Parses result self.new ((spread_list (inside depth) given).reads self.old) }
+    fn spread_list(&mut self, alloc: Global, depth: u8, given: &mut Passed) -> Result<(), Error>
+        ensures { Adds result given.new self.new
+            ((spread_list (inside depth) given.old).reads self.old) }
     {
         if !given.by_name.is_empty() {
             return Err(refusal());
         }
         let value = self.inner_expr(alloc, depth)?;
-        with_argument(given, Argument::Spread(value))
+        add_argument(given, Argument::Spread(value))
     }
 
     /// An argument by its place, which stands behind none by its name.
     #[cycle(expressions)]
     #[tactic(auto, unfolding(crate::specs::Grammar::argument), using(crate::proofs::Nesting::names))]
-    fn argument(&mut self, alloc: Global, depth: u8, given: Passed) -> Result<Passed, Error>
-        ensures { Parses result self.new ((argument (inside depth) given).reads self.old) }
+    fn argument(&mut self, alloc: Global, depth: u8, given: &mut Passed) -> Result<(), Error>
+        ensures { Adds result given.new self.new
+            ((argument (inside depth) given.old).reads self.old) }
     {
         if !given.by_name.is_empty() {
             return Err(refusal());
         }
         let value = self.inner_expr(alloc, depth)?;
-        with_argument(given, Argument::Plain(value))
+        add_argument(given, Argument::Plain(value))
     }
 }
 
-/// What is passed, with one argument more by its place. OutOfMemory for want of memory.
-fn with_argument(given: Passed, argument: Argument) -> Result<Passed, Error>
+/// The call of a name with what it is passed. OutOfMemory for want of memory.
+#[inline(never)]
+fn call_of(alloc: Global, name: Name, given: Passed) -> Result<Boxed<Expr>, Error>
     ensures { MatchResult result
-        (λ more. more ≡ passed (given.by_place ++ argument ∷ []) given.by_name)
+        (λ call. call ≡ exprs.Call name given.by_place given.by_name)
         (λ e. e ≡ OutOfMemory ∷ []) }
 {
-    Ok(Passed {
-        by_place: with_one(given.by_place, argument)?,
-        by_name: given.by_name,
-    })
+    boxed(alloc, Expr::Call(name, given.by_place, given.by_name))
 }
 
-/// What is passed, with one argument more by its name. OutOfMemory for want of memory.
-fn with_keyword(given: Passed, keyword: Keyword) -> Result<Passed, Error>
+/// A list of one item. OutOfMemory for want of memory.
+#[inline(never)]
+fn lone_item(alloc: Global, item: Boxed<Expr>) -> Result<Items<Expr>, Error>
     ensures { MatchResult result
-        (λ more. more ≡ passed given.by_place (given.by_name ++ keyword ∷ []))
+        (λ items. items ≡ item ∷ [])
         (λ e. e ≡ OutOfMemory ∷ []) }
 {
-    Ok(Passed {
-        by_place: given.by_place,
-        by_name: with_one(given.by_name, keyword)?,
-    })
+    with_one(Items::new(alloc), item.into_inner())
+}
+
+/// Nothing that is passed.
+pub fn nothing_passed(alloc: Global) -> Passed
+    ensures { result ≡ passed [] [] }
+{
+    Passed {
+        by_place: Items::new(alloc),
+        by_name: Items::new(alloc),
+    }
+}
+
+/// Adds an argument by its place to what is passed. OutOfMemory for want of memory.
+#[inline(never)]
+pub fn add_argument(given: &mut Passed, argument: Argument) -> Result<(), Error>
+    ensures { MatchResult result
+        (λ done. given.new ≡ passed (given.old.by_place ++ argument ∷ []) given.old.by_name)
+        (λ e. e ≡ OutOfMemory ∷ []) }
+{
+    given.by_place.push(argument)?;
+    Ok(())
+}
+
+/// Adds an argument by its name to what is passed. OutOfMemory for want of memory.
+#[inline(never)]
+fn add_keyword(given: &mut Passed, keyword: Keyword) -> Result<(), Error>
+    ensures { MatchResult result
+        (λ done. given.new ≡ passed given.old.by_place (given.old.by_name ++ keyword ∷ []))
+        (λ e. e ≡ OutOfMemory ∷ []) }
+{
+    given.by_name.push(keyword)?;
+    Ok(())
 }

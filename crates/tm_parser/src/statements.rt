@@ -1,5 +1,5 @@
 //! Statements.
-ghost use Rattle.tm_parser.specs.Parses.{Parses};
+ghost use Rattle.tm_parser.specs.Parses.{Adds, Parses};
 ghost use Rattle.tm_parser.specs.Grammar.{inside};
 ghost use Rattle.tm_parser.specs.Statements.{autoescape_tag, block_end, body, body_behind, captured, do_tag, elif_tag};
 ghost use Rattle.tm_parser.specs.Statements.{else_or_end, else_tag, emission, ended_body, extends_tag, filter_tag, for_body, for_tag, if_tag, inner, jump, rest, set_block, set_tag};
@@ -8,8 +8,8 @@ ghost use Rattle.tm_grammar.specs.Combinators.{one_more, provided};
 ghost use Rattle.tm_syntax.specs.declared.tree.Stmt.TheVariants.{Break, Continue};
 
 use crate::cursor::{Cursor, refusal};
-use crate::emissions::{emit_statement, is_call, with_emission};
-use crate::lists::with_one;
+use crate::emissions::{add_emission, is_call};
+use crate::lists::{add_one, with_one};
 use crate::tables::Start;
 use crate::targets::LoopHead;
 use sqlite_items::Items;
@@ -18,7 +18,8 @@ use tm_syntax::{AssignmentTarget, CaptureUse, ForLoop, Sign, Step, Stmt, Tag};
 use tm_values::Error;
 
 // Each method reads one rule, with `depth` nestings to go, and where `looping` with a loop around
-// it. SyntaxError where no tokens spell it.
+// it. SyntaxError where no tokens spell it. A statement is large, so it goes to the end of `body` at
+// once. What reads no statements inside is a call of its own: those inside stand on its frame else.
 impl Cursor<'_> {
     /// Statements inside one nesting more.
     #[cycle(statements)]
@@ -80,7 +81,7 @@ impl Cursor<'_> {
     {
         let mut body = Items::new(alloc);
         while let Some(start) = self.take_start()? {
-            body = self.one_statement(alloc, depth, looping, start, body)?;
+            self.one_statement(alloc, depth, looping, start, &mut body)?;
         }
         Ok(body)
     }
@@ -95,15 +96,15 @@ impl Cursor<'_> {
         depth: u8,
         looping: bool,
         start: Start,
-        body: Items<Stmt>,
-    ) -> Result<Items<Stmt>, Error>
-        ensures { Parses result self.new
-            ((one_more (statement (inside depth) (inner depth) looping start) body).reads
+        body: &mut Items<Stmt>,
+    ) -> Result<(), Error>
+        ensures { Adds result body.new self.new
+            ((one_more (statement (inside depth) (inner depth) looping start) body.old).reads
             self.old) }
     {
         match start {
-            Start::Raw(text) => with_one(body, Stmt::EmitRaw(text)),
-            Start::Emit => self.one_emission(alloc, depth, body),
+            Start::Raw(text) => add_one(body, Stmt::EmitRaw(text)),
+            Start::Emit => self.emission(alloc, depth, body),
             start => self.other_statement(alloc, depth, looping, start, body),
         }
     }
@@ -111,17 +112,27 @@ impl Cursor<'_> {
     /// An emission, at the end of others.
     #[inline(always)]
     #[tactic(auto, unfolding(crate::specs::Statements::emission))]
-    fn one_emission(
-        &mut self,
-        alloc: Global,
-        depth: u8,
-        body: Items<Stmt>,
-    ) -> Result<Items<Stmt>, Error>
-        ensures { Parses result self.new ((one_more (emission (inside depth)) body).reads self.old) }
+    fn emission(&mut self, alloc: Global, depth: u8, body: &mut Items<Stmt>) -> Result<(), Error>
+        ensures { Adds result body.new self.new
+            ((one_more (emission (inside depth)) body.old).reads self.old) }
     {
         let value = self.expr(alloc, depth)?;
         self.expect(Sign::VariableEnd)?;
-        with_emission(body, value)
+        add_emission(body, value)
+    }
+
+    /// The same; a call of its own, since the others begin here.
+    #[inline(never)]
+    fn late_emission(
+        &mut self,
+        alloc: Global,
+        depth: u8,
+        body: &mut Items<Stmt>,
+    ) -> Result<(), Error>
+        ensures { Adds result body.new self.new
+            ((one_more (emission (inside depth)) body.old).reads self.old) }
+    {
+        self.emission(alloc, depth, body)
     }
 
     /// The statement behind its start, whichever it is, at the end of others.
@@ -133,72 +144,53 @@ impl Cursor<'_> {
         depth: u8,
         looping: bool,
         start: Start,
-        body: Items<Stmt>,
-    ) -> Result<Items<Stmt>, Error>
-        ensures { Parses result self.new
-            ((one_more (statement (inside depth) (inner depth) looping start) body).reads
+        body: &mut Items<Stmt>,
+    ) -> Result<(), Error>
+        ensures { Adds result body.new self.new
+            ((one_more (statement (inside depth) (inner depth) looping start) body.old).reads
             self.old) }
     {
-        let statement = self.statement(alloc, depth, looping, start)?;
-        with_one(body, statement)
-    }
-
-    /// The statement behind its start.
-    #[cycle(statements)]
-    fn statement(
-        &mut self,
-        alloc: Global,
-        depth: u8,
-        looping: bool,
-        start: Start,
-    ) -> Result<Stmt, Error>
-        ensures { Parses result self.new
-            ((statement (inside depth) (inner depth) looping start).reads self.old) }
-    {
         match start {
-            Start::Raw(text) => Ok(Stmt::EmitRaw(text)),
-            Start::Emit => self.emission(alloc, depth),
-            Start::If => self.if_tag(alloc, depth, looping),
-            Start::For => self.for_tag(alloc, depth, looping),
-            Start::Break => self.break_tag(looping),
-            Start::Continue => self.continue_tag(looping),
-            Start::Block => self.block_tag(alloc, depth),
-            Start::Extends => self.extends_tag(alloc, depth),
-            Start::Set => self.set_tag(alloc, depth, looping),
-            Start::Filter => self.filter_tag(alloc, depth, looping),
-            Start::With => self.with_tag(alloc, depth, looping),
-            Start::Do => self.do_tag(alloc, depth),
-            Start::AutoEscape => self.autoescape_tag(alloc, depth, looping),
-            Start::Macro => self.macro_tag(alloc, depth),
-            Start::Call => self.call_tag(alloc, depth),
-            Start::Include => self.include_tag(alloc, depth),
-            Start::Import => self.import_tag(alloc, depth),
-            Start::From => self.from_tag(alloc, depth),
+            Start::Raw(text) => add_one(body, Stmt::EmitRaw(text)),
+            Start::Emit => self.late_emission(alloc, depth, body),
+            Start::If => self.if_tag(alloc, depth, looping, body),
+            Start::For => self.for_tag(alloc, depth, looping, body),
+            Start::Break => self.break_tag(looping, body),
+            Start::Continue => self.continue_tag(looping, body),
+            Start::Block => self.block_tag(alloc, depth, body),
+            Start::Extends => self.extends_tag(alloc, depth, body),
+            Start::Set => self.set_tag(alloc, depth, looping, body),
+            Start::Filter => self.filter_tag(alloc, depth, looping, body),
+            Start::With => self.with_tag(alloc, depth, looping, body),
+            Start::Do => self.do_tag(alloc, depth, body),
+            Start::AutoEscape => self.autoescape_tag(alloc, depth, looping, body),
+            Start::Macro => self.macro_tag(alloc, depth, body),
+            Start::Call => self.call_tag(alloc, depth, body),
+            Start::Include => self.include_tag(alloc, depth, body),
+            Start::Import => self.import_tag(alloc, depth, body),
+            Start::From => self.from_tag(alloc, depth, body),
         }
-    }
-
-    /// The expression of an emission, and its end.
-    #[tactic(auto, unfolding(crate::specs::Statements::emission))]
-    fn emission(&mut self, alloc: Global, depth: u8) -> Result<Stmt, Error>
-        ensures { Parses result self.new ((emission (inside depth)).reads self.old) }
-    {
-        let value = self.expr(alloc, depth)?;
-        self.expect(Sign::VariableEnd)?;
-        emit_statement(value)
     }
 
     /// The condition of an `if`, its body, and all up to its end tag.
     #[cycle(statements)]
     #[tactic(auto, unfolding(crate::specs::Statements::if_tag))]
-    fn if_tag(&mut self, alloc: Global, depth: u8, looping: bool) -> Result<Stmt, Error>
-        ensures { Parses result self.new
-            ((if_tag (inside depth) (inner depth) looping).reads self.old) }
+    #[inline(never)]
+    fn if_tag(
+        &mut self,
+        alloc: Global,
+        depth: u8,
+        looping: bool,
+        body: &mut Items<Stmt>,
+    ) -> Result<(), Error>
+        ensures { Adds result body.new self.new
+            ((one_more (if_tag (inside depth) (inner depth) looping) body.old).reads self.old) }
     {
         let condition = self.inner_expr(alloc, depth)?;
         self.expect(Sign::BlockEnd)?;
-        let body = self.inner_body(alloc, depth, looping)?;
+        let inner = self.inner_body(alloc, depth, looping)?;
         let other = self.inner_rest(alloc, depth, looping)?;
-        Ok(Stmt::If(condition, body, other))
+        add_one(body, Stmt::If(condition, inner, other))
     }
 
     /// What stands behind the body of an `if`, up to its end tag: the else part, or none.
@@ -311,14 +303,21 @@ impl Cursor<'_> {
     /// and all up to its end tag.
     #[cycle(statements)]
     #[tactic(auto, unfolding(crate::specs::Statements::for_tag))]
-    fn for_tag(&mut self, alloc: Global, depth: u8, looping: bool) -> Result<Stmt, Error>
-        ensures { Parses result self.new
-            ((for_tag (inside depth) (inner depth) looping).reads self.old) }
+    #[inline(never)]
+    fn for_tag(
+        &mut self,
+        alloc: Global,
+        depth: u8,
+        looping: bool,
+        body: &mut Items<Stmt>,
+    ) -> Result<(), Error>
+        ensures { Adds result body.new self.new
+            ((one_more (for_tag (inside depth) (inner depth) looping) body.old).reads self.old) }
     {
         let target = self.inner_target(alloc, depth)?;
         self.expect(Sign::In)?;
         let head = self.inner_loop_head(alloc, depth)?;
-        self.for_body(alloc, depth, looping, target, head)
+        self.for_body(alloc, depth, looping, target, head, body)
     }
 
     /// The body of a `for`, and all up to its end tag. Around its else part is no other loop than
@@ -332,38 +331,42 @@ impl Cursor<'_> {
         looping: bool,
         target: AssignmentTarget,
         head: LoopHead,
-    ) -> Result<Stmt, Error>
-        ensures { Parses result self.new
-            ((for_body (inner depth) looping target head).reads self.old) }
+        body: &mut Items<Stmt>,
+    ) -> Result<(), Error>
+        ensures { Adds result body.new self.new
+            ((one_more (for_body (inner depth) looping target head) body.old).reads self.old) }
     {
-        let body = self.inner_body(alloc, depth, true)?;
+        let inner = self.inner_body(alloc, depth, true)?;
         let other = self.inner_else_or_end(alloc, depth, Tag::Endfor, looping)?;
-        Ok(Stmt::For(ForLoop {
+        let statement = Stmt::For(ForLoop {
             target,
             iterable: head.iterable,
             condition: head.condition,
             recursive: head.recursive,
-            body,
+            body: inner,
             other,
-        }))
+        });
+        add_one(body, statement)
     }
 
     /// The end of a `break`.
     #[tactic(auto, unfolding(crate::specs::Statements::jump))]
-    fn break_tag(&mut self, looping: bool) -> Result<Stmt, Error>
-        ensures { Parses result self.new ((jump looping Break).reads self.old) }
+    fn break_tag(&mut self, looping: bool, body: &mut Items<Stmt>) -> Result<(), Error>
+        ensures { Adds result body.new self.new
+            ((one_more (jump looping Break) body.old).reads self.old) }
     {
         self.jump(looping)?;
-        Ok(Stmt::Break)
+        add_one(body, Stmt::Break)
     }
 
     /// The end of a `continue`.
     #[tactic(auto, unfolding(crate::specs::Statements::jump))]
-    fn continue_tag(&mut self, looping: bool) -> Result<Stmt, Error>
-        ensures { Parses result self.new ((jump looping Continue).reads self.old) }
+    fn continue_tag(&mut self, looping: bool, body: &mut Items<Stmt>) -> Result<(), Error>
+        ensures { Adds result body.new self.new
+            ((one_more (jump looping Continue) body.old).reads self.old) }
     {
         self.jump(looping)?;
-        Ok(Stmt::Continue)
+        add_one(body, Stmt::Continue)
     }
 
     /// The end of a tag of one word, whose statement stands nowhere but inside a loop.
@@ -379,29 +382,39 @@ impl Cursor<'_> {
     /// The target of a `set`, and its value or its body.
     #[cycle(statements)]
     #[tactic(auto, unfolding(crate::specs::Statements::set_tag))]
-    fn set_tag(&mut self, alloc: Global, depth: u8, looping: bool) -> Result<Stmt, Error>
-        ensures { Parses result self.new
-            ((set_tag (inside depth) (inner depth) looping).reads self.old) }
+    #[inline(never)]
+    fn set_tag(
+        &mut self,
+        alloc: Global,
+        depth: u8,
+        looping: bool,
+        body: &mut Items<Stmt>,
+    ) -> Result<(), Error>
+        ensures { Adds result body.new self.new
+            ((one_more (set_tag (inside depth) (inner depth) looping) body.old).reads self.old) }
     {
         let target = self.target(alloc, depth)?;
         if self.take(Sign::Assign) {
-            return self.set_value(alloc, depth, target);
+            return self.set_value(alloc, depth, target, body);
         }
-        self.set_block(alloc, depth, looping, target)
+        self.set_block(alloc, depth, looping, target, body)
     }
 
     /// The value of a `set` behind its `=`, and its end.
     #[tactic(auto, unfolding(crate::specs::Statements::set_value))]
+    #[inline(never)]
     fn set_value(
         &mut self,
         alloc: Global,
         depth: u8,
         target: AssignmentTarget,
-    ) -> Result<Stmt, Error>
-        ensures { Parses result self.new ((set_value (inside depth) target).reads self.old) }
+        body: &mut Items<Stmt>,
+    ) -> Result<(), Error>
+        ensures { Adds result body.new self.new
+            ((one_more (set_value (inside depth) target) body.old).reads self.old) }
     {
         let value = self.bare(alloc, depth)?;
-        Ok(Stmt::Set(target, value))
+        add_one(body, Stmt::Set(target, value))
     }
 
     /// The filters and the body of a `set` without `=`, up to its end tag.
@@ -413,18 +426,21 @@ impl Cursor<'_> {
         depth: u8,
         looping: bool,
         target: AssignmentTarget,
-    ) -> Result<Stmt, Error>
-        ensures { Parses result self.new
-            ((set_block (inside depth) (inner depth) looping target).reads self.old) }
+        body: &mut Items<Stmt>,
+    ) -> Result<(), Error>
+        ensures { Adds result body.new self.new
+            ((one_more (set_block (inside depth) (inner depth) looping target) body.old).reads
+            self.old) }
     {
         let filters = self.more_filters(alloc, depth, Items::new(alloc))?;
         let becomes = CaptureUse::Assign(target);
-        self.captured(alloc, depth, Tag::Endset, looping, becomes, filters)
+        self.captured(alloc, depth, Tag::Endset, looping, becomes, filters, body)
     }
 
     /// The end of a tag and a body whose text is filtered and used, up to this end tag.
     #[cycle(statements)]
     #[tactic(auto, unfolding(crate::specs::Statements::captured))]
+    #[inline(always)]
     fn captured(
         &mut self,
         alloc: Global,
@@ -433,22 +449,32 @@ impl Cursor<'_> {
         looping: bool,
         becomes: CaptureUse,
         filters: Items<Step>,
-    ) -> Result<Stmt, Error>
-        ensures { Parses result self.new
-            ((captured (inner depth) end looping becomes filters).reads self.old) }
+        body: &mut Items<Stmt>,
+    ) -> Result<(), Error>
+        ensures { Adds result body.new self.new
+            ((one_more (captured (inner depth) end looping becomes filters) body.old).reads
+            self.old) }
     {
-        let body = self.body_behind(alloc, depth, end, looping)?;
-        Ok(Stmt::CaptureBlock(becomes, filters, body))
+        let inner = self.body_behind(alloc, depth, end, looping)?;
+        add_one(body, Stmt::CaptureBlock(becomes, filters, inner))
     }
 
     /// The filters of a `filter` and its body, up to its end tag.
     #[cycle(statements)]
     #[tactic(auto, unfolding(crate::specs::Statements::filter_tag))]
-    fn filter_tag(&mut self, alloc: Global, depth: u8, looping: bool) -> Result<Stmt, Error>
-        ensures { Parses result self.new
-            ((filter_tag (inside depth) (inner depth) looping).reads self.old) }
+    #[inline(never)]
+    fn filter_tag(
+        &mut self,
+        alloc: Global,
+        depth: u8,
+        looping: bool,
+        body: &mut Items<Stmt>,
+    ) -> Result<(), Error>
+        ensures { Adds result body.new self.new
+            ((one_more (filter_tag (inside depth) (inner depth) looping) body.old).reads self.old) }
     {
-        let first = self.one_filter(alloc, depth, Items::new(alloc))?;
+        let mut first = Items::new(alloc);
+        self.one_filter(alloc, depth, &mut first)?;
         let filters = self.more_filters(alloc, depth, first)?;
         self.captured(
             alloc,
@@ -457,53 +483,73 @@ impl Cursor<'_> {
             looping,
             CaptureUse::Emit,
             filters,
+            body,
         )
     }
 
     /// The assignments of a `with` and its body, up to its end tag.
     #[cycle(statements)]
     #[tactic(auto, unfolding(crate::specs::Statements::with_tag))]
-    fn with_tag(&mut self, alloc: Global, depth: u8, looping: bool) -> Result<Stmt, Error>
-        ensures { Parses result self.new
-            ((with_tag (inside depth) (inner depth) looping).reads self.old) }
+    #[inline(never)]
+    fn with_tag(
+        &mut self,
+        alloc: Global,
+        depth: u8,
+        looping: bool,
+        body: &mut Items<Stmt>,
+    ) -> Result<(), Error>
+        ensures { Adds result body.new self.new
+            ((one_more (with_tag (inside depth) (inner depth) looping) body.old).reads self.old) }
     {
         let given = self.assignments(alloc, depth)?;
-        let body = self.ended_body(alloc, depth, Tag::Endwith, looping)?;
-        Ok(Stmt::With(given, body))
+        let inner = self.ended_body(alloc, depth, Tag::Endwith, looping)?;
+        add_one(body, Stmt::With(given, inner))
     }
 
     /// What an `autoescape` escapes as, and its body, up to its end tag.
     #[cycle(statements)]
     #[tactic(auto, unfolding(crate::specs::Statements::autoescape_tag))]
-    fn autoescape_tag(&mut self, alloc: Global, depth: u8, looping: bool) -> Result<Stmt, Error>
-        ensures { Parses result self.new
-            ((autoescape_tag (inside depth) (inner depth) looping).reads self.old) }
+    #[inline(never)]
+    fn autoescape_tag(
+        &mut self,
+        alloc: Global,
+        depth: u8,
+        looping: bool,
+        body: &mut Items<Stmt>,
+    ) -> Result<(), Error>
+        ensures { Adds result body.new self.new
+            ((one_more (autoescape_tag (inside depth) (inner depth) looping) body.old).reads
+            self.old) }
     {
         let value = self.inner_expr(alloc, depth)?;
-        let body = self.body_behind(alloc, depth, Tag::Endautoescape, looping)?;
-        Ok(Stmt::AutoEscape(value, body))
+        let inner = self.body_behind(alloc, depth, Tag::Endautoescape, looping)?;
+        add_one(body, Stmt::AutoEscape(value, inner))
     }
 
     /// The parent of an `extends`, and its end.
     #[tactic(auto, unfolding(crate::specs::Statements::extends_tag))]
-    fn extends_tag(&mut self, alloc: Global, depth: u8) -> Result<Stmt, Error>
-        ensures { Parses result self.new ((extends_tag (inside depth)).reads self.old) }
+    #[inline(never)]
+    fn extends_tag(&mut self, alloc: Global, depth: u8, body: &mut Items<Stmt>) -> Result<(), Error>
+        ensures { Adds result body.new self.new
+            ((one_more (extends_tag (inside depth)) body.old).reads self.old) }
     {
         let parent = self.expr(alloc, depth)?;
         self.expect(Sign::BlockEnd)?;
-        Ok(Stmt::Extends(parent))
+        add_one(body, Stmt::Extends(parent))
     }
 
     /// The call of a `do`, and its end.
     #[tactic(auto, unfolding(crate::specs::Statements::do_tag))]
-    fn do_tag(&mut self, alloc: Global, depth: u8) -> Result<Stmt, Error>
-        ensures { Parses result self.new ((do_tag (inside depth)).reads self.old) }
+    #[inline(never)]
+    fn do_tag(&mut self, alloc: Global, depth: u8, body: &mut Items<Stmt>) -> Result<(), Error>
+        ensures { Adds result body.new self.new
+            ((one_more (do_tag (inside depth)) body.old).reads self.old) }
     {
         let call = self.expr(alloc, depth)?;
         if !is_call(call.get()) {
             return Err(refusal());
         }
         self.expect(Sign::BlockEnd)?;
-        Ok(Stmt::Do(call))
+        add_one(body, Stmt::Do(call))
     }
 }

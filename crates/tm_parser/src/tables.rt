@@ -1,7 +1,8 @@
 //! What a sign or a tag begins: the tables of the grammar.
-ghost use Rattle.std.specs.Prelude.{◌≡◌, MatchOption, Some, None};
+ghost use Rattle.std.specs.Prelude.{◌≡◌, IfSome, MatchOption, Some, None, is_some, nat_lt};
 ghost use Rattle.tm_parser.specs.Tokens as tokens;
 ghost use Rattle.tm_parser.specs.Statements as statements;
+ghost use Rattle.tm_parser.specs.Waiting.{role_of};
 
 use tm_syntax::{BinaryOperator, RawText, Sign, Tag, UnaryOperator};
 use tm_values::Value;
@@ -90,7 +91,8 @@ pub const OR_LEVEL: u8 = 7;
 
 /// How a sign goes on with a value, and at which level.
 pub fn link_of(sign: Sign) -> Option<(u8, Link)>
-    ensures { result ≡ tokens.link_of sign }
+    ensures at { result ≡ tokens.link_of sign }
+    ensures operator { IfSome result (λ x. is_some (role_of x.1) ≡ nat_lt 0 x.0) }
 {
     Some(match sign {
         Sign::Dot => (POSTFIX_LEVEL, Link::Member),
@@ -145,7 +147,8 @@ pub fn link_of(sign: Sign) -> Option<(u8, Link)>
 
 /// How a sign behind `not` goes on with a value, and at which level.
 pub fn negated_link_of(sign: Sign) -> Option<(u8, Link)>
-    ensures { result ≡ tokens.negated_link_of sign }
+    ensures at { result ≡ tokens.negated_link_of sign }
+    ensures operator { IfSome result (λ x. is_some (role_of x.1) ≡ nat_lt 0 x.0) }
 {
     Some(match sign {
         Sign::In => (COMPARISON_LEVEL, Link::Comparison(BinaryOperator::NotIn)),
@@ -191,7 +194,8 @@ pub fn negated_link_of(sign: Sign) -> Option<(u8, Link)>
 
 /// How a sign goes on with a target, which a bar ends.
 pub fn target_link(sign: Sign) -> Option<Link>
-    ensures { result ≡ tokens.target_link sign }
+    ensures at { result ≡ tokens.target_link sign }
+    ensures operator { IfSome result (λ link. role_of link ≡ None) }
 {
     match sign {
         Sign::Dot => Some(Link::Member),

@@ -35,6 +35,7 @@ impl Cursor<'_> {
     /// A target inside one nesting more.
     #[cycle(targets)]
     #[tactic(auto, using(crate::proofs::Nesting::targets))]
+    #[inline(never)]
     pub fn inner_target(&mut self, alloc: Global, depth: u8) -> Result<AssignmentTarget, Error>
         ensures { Parses result self.new ((inside depth).target.reads self.old) }
     {
@@ -47,6 +48,7 @@ impl Cursor<'_> {
     /// One target, or several between commas.
     #[cycle(targets)]
     #[tactic(auto, unfolding(crate::specs::Grammar::target))]
+    #[inline(never)]
     pub fn target(&mut self, alloc: Global, depth: u8) -> Result<AssignmentTarget, Error>
         ensures { Parses result self.new ((target (inside depth)).reads self.old) }
     {
@@ -137,7 +139,7 @@ impl Cursor<'_> {
     {
         let mut steps = Items::new(alloc);
         while let Some(link) = self.take_target_link() {
-            steps = self.one_step(alloc, depth, POSTFIX_LEVEL, link, steps)?;
+            self.one_step(alloc, depth, link, &mut steps)?;
         }
         Ok(steps)
     }
@@ -145,6 +147,7 @@ impl Cursor<'_> {
     /// What a loop goes over, the condition of an item, whether it can be called, and the end of
     /// its tag, inside one nesting more.
     #[tactic(auto, using(crate::proofs::Nesting::loops))]
+    #[inline(never)]
     pub fn inner_loop_head(&mut self, alloc: Global, depth: u8) -> Result<LoopHead, Error>
         ensures { Parses result self.new ((inner depth).loop_head.reads self.old) }
     {
@@ -324,6 +327,7 @@ impl Cursor<'_> {
 
     /// Assignments, and the end of the tag.
     #[tactic(auto, unfolding(crate::specs::Grammar::items))]
+    #[inline(never)]
     pub fn assignments(&mut self, alloc: Global, depth: u8) -> Result<Items<Assignment>, Error>
         ensures { Parses result self.new
             ((items sign.BlockEnd (assignment (inside depth)) []).reads self.old) }

@@ -1,6 +1,5 @@
 use Rattle.std.proofs.Common.{◌≡◌, false, List, [], sym, ◌∙◌, ap}
 use Rattle.tm_syntax.specs.declared.token.Token.{Token}
-use Rattle.tm_syntax.specs.declared.tree.Stmt.{Stmt}
 use Rattle.tm_syntax.specs.declared.tree.Tree.{Tree}
 use Rattle.tm_syntax.specs.declared.tree.Tree.TheVariants as trees
 use Rattle.tm_grammar.specs.Laws.{same_got}

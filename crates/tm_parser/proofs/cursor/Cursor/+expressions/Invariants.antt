@@ -1,7 +1,9 @@
 use Rattle.std.proofs.Common.{◌≡◌, ℕ, ◌+◌, ◌-◌, ◌*◌, length, []}
 use Rattle.tm_syntax.specs.declared.token.Sign.TheVariants as sign
-use Rattle.tm_parser.specs.Grammar.{inside, operand, steps_from, comparisons_from, conditions_from, more_items, more_passed, pair}
+use Rattle.tm_parser.specs.Grammar.{inside, operand, steps_from, conditions_from, more_items, more_passed, pair}
 use Rattle.tm_parser.specs.Levels.{levels}
+use Rattle.tm_parser.specs.Tokens.{postfix_level}
+use Rattle.tm_parser.specs.Waiting.{reached_from, AllAbove, size}
 use Rattle.tm_parser.proofs.cursor.Cursor.+expressions.Given as goal
 
 -- each nesting has room for one call of each method, the higher above the lower
@@ -113,60 +115,50 @@ decreases-bracketed l = nesting_room * l.depth + 9
 abbrev pub decreases-primary : goal.decreases-primary
 decreases-primary l = nesting_room * l.depth + 10
 
--- and so has each level
-abbrev level_room : ℕ
-level_room = 10
-
-abbrev pub decreases-climb : goal.decreases-climb
-decreases-climb l = nesting_room * l.depth + level_room * l.end + 9
-
 abbrev pub decreases-operand_start : goal.decreases-operand_start
 decreases-operand_start l = nesting_room * l.depth + 11
 
-abbrev pub decreases-operand : goal.decreases-operand
-decreases-operand l = nesting_room * l.depth + level_room * l.level + 12
-
-abbrev pub decreases-operation : goal.decreases-operation
-decreases-operation l = nesting_room * l.depth + level_room * l.level + 13
-
-abbrev pub decreases-one_comparison : goal.decreases-one_comparison
-decreases-one_comparison l = nesting_room * l.depth + level_room * l.level + 13
-
-abbrev pub decreases-comparisons : goal.decreases-comparisons
-decreases-comparisons l = nesting_room * l.depth + level_room * l.level + 14
-
-abbrev pub decreases-comparison : goal.decreases-comparison
-decreases-comparison l = nesting_room * l.depth + level_room * l.level + 15
-
-abbrev pub decreases-conjunction : goal.decreases-conjunction
-decreases-conjunction l = nesting_room * l.depth + level_room * l.level + 13
-
-abbrev pub decreases-disjunction : goal.decreases-disjunction
-decreases-disjunction l = nesting_room * l.depth + level_room * l.level + 13
-
-abbrev pub decreases-step : goal.decreases-step
-decreases-step l = nesting_room * l.depth + level_room * l.level + 16
+abbrev pub decreases-right_side : goal.decreases-right_side
+decreases-right_side l = nesting_room * l.depth + 12
 
 abbrev pub decreases-one_step : goal.decreases-one_step
-decreases-one_step l = nesting_room * l.depth + level_room * l.level + 17
+decreases-one_step l = nesting_room * l.depth + 10
 
 abbrev pub decreases-steps : goal.decreases-steps
-decreases-steps l = nesting_room * l.depth + level_room * l.level + 18
+decreases-steps l = nesting_room * l.depth + 11
+
+abbrev pub decreases-with_steps : goal.decreases-with_steps
+decreases-with_steps l = nesting_room * l.depth + 12
+
+abbrev pub decreases-behind_postfix : goal.decreases-behind_postfix
+decreases-behind_postfix l = nesting_room * l.depth + 13
+
+abbrev pub decreases-operators : goal.decreases-operators
+decreases-operators l = nesting_room * l.depth + 14
+
+abbrev pub decreases-climb : goal.decreases-climb
+decreases-climb l = nesting_room * l.depth + 15
+
+abbrev pub decreases-operand : goal.decreases-operand
+decreases-operand l = nesting_room * l.depth + 16
 
 abbrev pub decreases-whole : goal.decreases-whole
-decreases-whole l = nesting_room * l.depth + 100
+decreases-whole l = nesting_room * l.depth + 16
 
 abbrev pub decreases-else_part : goal.decreases-else_part
 decreases-else_part l = nesting_room * l.depth + 1
 
 abbrev pub decreases-one_condition : goal.decreases-one_condition
-decreases-one_condition l = nesting_room * l.depth + 128
+decreases-one_condition l = nesting_room * l.depth + 17
 
 abbrev pub decreases-conditions : goal.decreases-conditions
-decreases-conditions l = nesting_room * l.depth + 129
+decreases-conditions l = nesting_room * l.depth + 18
 
 abbrev pub decreases-expr : goal.decreases-expr
-decreases-expr l = nesting_room * l.depth + 130
+decreases-expr l = nesting_room * l.depth + 20
+
+abbrev pub decreases-conditioned : goal.decreases-conditioned
+decreases-conditioned l = nesting_room * l.depth + 19
 
 abbrev pub invariant-conditions-loop-alloc : goal.invariant-conditions-loop-alloc
 invariant-conditions-loop-alloc l =
@@ -183,25 +175,25 @@ invariant-climb-loop-found l =
 abbrev pub decreases-climb-loop-found : goal.decreases-climb-loop-found
 decreases-climb-loop-found l = l.end - l.level
 
-abbrev pub invariant-comparisons-loop-link : goal.invariant-comparisons-loop-link
-invariant-comparisons-loop-link l =
-    (comparisons_from (operand (inside l.depth) l.level) l.level l.comparisons).reads l.self ≡
-    (comparisons_from (operand (inside l.depth) l.level) l.level []).reads l.fn.self
+abbrev pub invariant-operators-turns : goal.invariant-operators-turns
+invariant-operators-turns l =
+    ((reached_from (inside l.depth) l.waiting l.reached).reads l.self ≡
+    (levels (inside l.depth) l.fn.from l.fn.end l.fn.operand).reads l.fn.self) × AllAbove l.waiting
 
-abbrev pub decreases-comparisons-loop-link : goal.decreases-comparisons-loop-link
-decreases-comparisons-loop-link l = length l.self
+abbrev pub decreases-operators-turns : goal.decreases-operators-turns
+decreases-operators-turns l = size l.self l.waiting l.reached.level
 
 abbrev pub invariant-steps-loop-link : goal.invariant-steps-loop-link
 invariant-steps-loop-link l =
-    (steps_from (inside l.depth) (operand (inside l.depth) l.level) l.level l.steps).reads l.self ≡
-    (steps_from (inside l.depth) (operand (inside l.depth) l.level) l.level []).reads l.fn.self
+    (steps_from (inside l.depth) (operand (inside l.depth) postfix_level) postfix_level l.steps).reads l.self ≡
+    (steps_from (inside l.depth) (operand (inside l.depth) postfix_level) postfix_level []).reads l.fn.self
 
 abbrev pub decreases-steps-loop-link : goal.decreases-steps-loop-link
 decreases-steps-loop-link l = length l.self
 
 abbrev pub invariant-more_passed-loop-alloc : goal.invariant-more_passed-loop-alloc
 invariant-more_passed-loop-alloc l =
-    (more_passed (inside l.depth) l.given).reads l.self ≡ (more_passed (inside l.depth) l.fn.first).reads l.fn.self
+    (more_passed (inside l.depth) l.given).reads l.self ≡ (more_passed (inside l.depth) l.fn.given).reads l.fn.self
 
 abbrev pub decreases-more_passed-loop-alloc : goal.decreases-more_passed-loop-alloc
 decreases-more_passed-loop-alloc l = length l.self

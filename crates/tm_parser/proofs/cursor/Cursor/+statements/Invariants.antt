@@ -76,17 +76,14 @@ decreases-else_or_end l = nesting_room * l.depth + 4
 abbrev pub decreases-rest : goal.decreases-rest
 decreases-rest l = nesting_room * l.depth + 5
 
-abbrev pub decreases-statement : goal.decreases-statement
-decreases-statement l = nesting_room * l.depth + 6
-
 abbrev pub decreases-other_statement : goal.decreases-other_statement
-decreases-other_statement l = nesting_room * l.depth + 7
+decreases-other_statement l = nesting_room * l.depth + 6
 
 abbrev pub decreases-one_statement : goal.decreases-one_statement
-decreases-one_statement l = nesting_room * l.depth + 8
+decreases-one_statement l = nesting_room * l.depth + 7
 
 abbrev pub decreases-body : goal.decreases-body
-decreases-body l = nesting_room * l.depth + 9
+decreases-body l = nesting_room * l.depth + 8
 
 abbrev pub invariant-body-loop-body : goal.invariant-body-loop-body
 invariant-body-loop-body l = (more_statements (inside l.depth) (inner l.depth) l.looping l.body).reads l.self ≡
