@@ -1,5 +1,5 @@
 -- What the arguments of macros are bound to.
-use Rattle.std.proofs.Common.{◌≡◌, ◌<◌, ◌≤◌, ◌+◌, ◌&&◌, ◌||◌, ℕ, zero, suc, List, [], ◌∷◌, ◌++◌, length, get_or, drop, map as each, Option}
+use Rattle.std.proofs.Common.{◌≡◌, ◌<◌, ◌≤◌, ◌+◌, ◌-◌, ◌&&◌, ◌||◌, ℕ, zero, suc, List, [], ◌∷◌, ◌++◌, length, get_or, drop, map as each, Option}
 use Rattle.std.proofs.Common.{Some, None, Bool, true, false, refl, sym, ap, ◌∙◌, arith, append_assoc}
 use Rattle.std.proofs.Math.Seq.{drop-cons}
 use Rattle.std.proofs.lemmas.List.{append-nil}
@@ -8,7 +8,7 @@ use Rattle.std.specs.Rc.{rc_str_bytes}
 use Rattle.std.specs.declared.rc.RcStr.{RcStr}
 use Rattle.std.specs.declared.alloc.Global.{Global}
 use Rattle.tm_values.specs.Map.{find as find_key}
-use Rattle.tm_values.specs.Val.{MacroData, Val, text, text_in}
+use Rattle.tm_values.specs.Val.{MacroData, Val, text, text_in, undefined}
 use Rattle.tm_syntax.specs.Named.{same_name}
 use Rattle.tm_meaning.specs.World.{choose}
 use Rattle.tm_meaning.specs.Calls.{all_used, behind_first, bound, is_argument, is_used}
@@ -72,13 +72,13 @@ too_many (x ∷ xs) (v ∷ vs) given h = by (is_none (find_key (text x false) gi
     by true e = ap (behind_first v) e
     by false e = refl
 
+as_many : (rs : List (RcStr Global)) → length (each rc_str_bytes rs) ≡ length rs
+as_many [] = refl
+as_many (r ∷ rs) = ap suc (as_many rs)
+
 pub too_many_for : (names : List (RcStr Global)) (vs : List Val) (given : List (Val × Val)) → length names < length vs →
     bound (each rc_str_bytes names) vs given ≡ None
 too_many_for names vs given h = too_many (each rc_str_bytes names) vs given (omega (arith, h, as_many names))
-  where
-    as_many : (rs : List (RcStr Global)) → length (each rc_str_bytes rs) ≡ length rs
-    as_many [] = refl
-    as_many (r ∷ rs) = ap suc (as_many rs)
 
 one_by_one : (x : List ℕ) (xs : List (List ℕ)) (vs : List Val) (given : List (Val × Val)) →
     bound (x ∷ xs) vs given ≡ before_all (argument_of (slice_get vs 0) (find_key (text x false) given)) (bound xs (drop 1 vs) given)
@@ -97,6 +97,48 @@ none_before (Some vs) = refl
 one_more : (before : List Val) (v : Val) (o : Option (List Val)) → behind_all before (behind_first v o) ≡ behind_all (before ++ v ∷ []) o
 one_more before v None = refl
 one_more before v (Some vs) = ap Some (sym (append_assoc before (v ∷ []) vs))
+
+-- ---------------------------------------------------------------- values by their places alone
+-- so many times no value
+abbrev pub undefineds : ℕ → List Val
+undefineds zero = []
+undefineds (suc n) = undefined false ∷ undefineds n
+
+-- one value more is taken over
+pub taken_over : (k : ℕ) (xs before : List Val) (x : Val) → k < length xs → x ≡ get_or xs k x → before ++ drop k xs ≡ xs →
+    (before ++ x ∷ []) ++ drop (k + 1) xs ≡ xs
+taken_over k xs before x h e so_far =
+    append_assoc before (x ∷ []) (drop (k + 1) xs) ∙ ap (λ l. before ++ l) (sym (left_at k xs x h e)) ∙ so_far
+
+-- one more has no value
+pub one_undefined : (n k : ℕ) (before all : List Val) → k < n → before ++ undefineds (n - k) ≡ all →
+    (before ++ undefined false ∷ []) ++ undefineds (n - (k + 1)) ≡ all
+one_undefined n k before all h so_far =
+    let next : n - k ≡ suc (n - (k + 1)) = omega (arith, h) in
+    append_assoc before (undefined false ∷ []) (undefineds (n - (k + 1)))
+    ∙ ap (λ m. before ++ undefineds m) (sym next) ∙ so_far
+
+-- what is left without a value
+bound_to_rest : (xs : List (List ℕ)) (vs : List Val) → length vs ≤ length xs →
+    bound xs vs [] ≡ Some (vs ++ undefineds (length xs - length vs))
+bound_to_rest [] [] h = refl
+bound_to_rest [] (v ∷ vs) h = absurd (omega (arith, h))
+bound_to_rest (x ∷ xs) [] h =
+    let none : length xs - 0 ≡ length xs = omega arith in
+    let more : suc (length xs) - 0 ≡ suc (length xs) = omega arith in
+    ap (behind_first (undefined false)) (bound_to_rest xs [] (omega arith))
+    ∙ ap (λ n. Some (undefined false ∷ undefineds n)) none ∙ ap (λ n. Some (undefineds n)) (sym more)
+bound_to_rest (x ∷ xs) (v ∷ vs) h =
+    let same : length xs - length vs ≡ suc (length xs) - suc (length vs) = omega arith in
+    ap (behind_first v) (bound_to_rest xs vs (omega (arith, h))) ∙ ap (λ n. Some (v ∷ (vs ++ undefineds n))) same
+
+pub bound_plainly : (names : List (RcStr Global)) (vs given : List Val) (k : ℕ) → length vs ≤ length names → length names ≤ k → k ≤ length names →
+    given ++ undefineds (length names - k) ≡ vs ++ undefineds (length names - length vs) → bound (each rc_str_bytes names) vs [] ≡ Some given
+bound_plainly names vs given k fits all within is =
+    let none : length names - k ≡ 0 = omega (arith, all) in
+    bound_to_rest (each rc_str_bytes names) vs (omega (arith, fits, as_many names))
+    ∙ ap (λ n. Some (vs ++ undefineds (n - length vs))) (as_many names)
+    ∙ ap Some (sym is ∙ ap (λ n. given ++ undefineds n) none ∙ append-nil given)
 
 module _ (names : List (RcStr Global)) (plain : List Val) (given : List (Val × Val)) where
   -- what is bound from a place on

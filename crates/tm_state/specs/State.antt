@@ -6,9 +6,9 @@ use Rattle.tm_values.specs.Val.{MacroData, Val, undefined}
 use Rattle.tm_values.specs.declared.escape.AutoEscape.{AutoEscape}
 use Rattle.tm_values.specs.declared.escape.AutoEscape.TheVariants as auto_escape
 use Rattle.tm_meaning.specs.World.{World, Loop, loop_scope, new_loop, root_of, block_of, plain_scope, with_frames}
-use Rattle.tm_meaning.specs.World.{own_closure, owning}
+use Rattle.tm_meaning.specs.World.{depth, own_closure, owning}
 use Rattle.tm_meaning.specs.Calls.{Asked, runs, cut_to, block_call, macro_call, Undo, of_block, of_super, of_macro, of_include, Callee, whole}
-use Rattle.tm_meaning.specs.Calls.{macro_of, outermost}
+use Rattle.tm_meaning.specs.Calls.{macro_depth, macro_of, outermost, root_context}
 use Rattle.tm_meaning.specs.Inheritance.{place_in}
 use Rattle.tm_meaning.specs.Runs.{first_fuel}
 use Rattle.tm_meaning.specs.declared.stream.TemplateId.{TemplateId}
@@ -155,6 +155,17 @@ runs_block s b w = runs (block_call s b) w
 -- the run of a macro of a stream with its arguments, from a world; the world before it was b
 abbrev pub runs_macro : StreamId → MacroData → List Val → World → World → Asked
 runs_macro s m given b w = runs (macro_call s m given b) w
+
+-- a world in which a macro of a stream runs that isn't given `caller`
+abbrev pub in_macro : StreamId → MacroData → World → World
+in_macro s m w = record w {
+  scopes = record {
+    frames = record (plain_scope (undefined false)) { reads = m.closure } ∷ plain_scope (root_context w.scopes.frames) ∷ [];
+    outer = 0 + depth w.scopes + macro_depth;
+  };
+  stream = s;
+  block = None;
+}
 
 -- The stream is the block of this name at its list's place, and whether no other template has it.
 abbrev pub IsBlockOf : StreamId → Bool → List ℕ → World → Type 0

@@ -31,7 +31,32 @@ pub(crate) fn bind(
     if !all_used(alloc, declared, keywords)? {
         return Err(Error::from(ErrorKind::TooManyArguments));
     }
-    bind_each(declared.arguments(), plain, keywords, room)
+    match keywords {
+        Some(keywords) => bind_each(declared.arguments(), plain, Some(keywords), room),
+        None => bind_plain(declared.arguments(), plain, room),
+    }
+}
+
+/// What each of these names is bound to, of which none is given by its name, in this room.
+fn bind_plain(names: &[RcStr], plain: &[Value], room: Vec<Value>) -> Result<Vec<Value>, Error>
+    requires { room.items ≡ [] }
+    ensures { BindsTo result (bound (each rc_str_bytes names.now) plain.now []) }
+{
+    if plain.len() > names.len() {
+        return Err(Error::from(ErrorKind::TooManyArguments));
+    }
+    let mut given = room;
+    given.reserve(names.len())?;
+    let mut place = 0;
+    while place < plain.len() {
+        given.push(plain[place].share()?)?;
+        place += 1;
+    }
+    while place < names.len() {
+        given.push(Value::undefined())?;
+        place += 1;
+    }
+    Ok(given)
 }
 
 /// What each of these names is bound to, in this room.

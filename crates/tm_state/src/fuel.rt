@@ -1,5 +1,5 @@
 //! The fuel of a state.
-ghost use Rattle.std.specs.Prelude.{◌≡◌, ◌+◌, ◌-◌, ◌<◌, [], ◌∷◌, Some, IfSome, OnOk, OnErr, nat_lt};
+ghost use Rattle.std.specs.Prelude.{◌≡◌, ◌+◌, ◌-◌, ◌<◌, ◌≤◌, [], ◌∷◌, Some, IfSome, OnOk, OnErr, nat_lt};
 ghost use Rattle.tm_values.specs.declared.error.ErrorKind.TheVariants.{OutOfFuel};
 ghost use Rattle.tm_meaning.specs.World.{fuel_levels, Good, Bad};
 ghost use Rattle.tm_meaning.specs.Steps.{charge_of, pay};
@@ -42,6 +42,23 @@ impl StateData {
         ensures { result ≡ nat_lt 1 self.now.fuel }
     {
         self.fuel.can_pay()
+    }
+
+    /// The fuel that is left.
+    #[inline(always)]
+    pub fn fuel_left(&self) -> u64
+        ensures { result ≡ self.now.fuel }
+    {
+        self.fuel.remaining()
+    }
+
+    /// Pays so much that this is left.
+    #[inline(always)]
+    pub fn pay_down_to(&mut self, left: u64)
+        requires { left ≤ self.old.fuel }
+        ensures { self.new ≡ record self.old { fuel = left } }
+    {
+        self.fuel.pay_down_to(left);
     }
 
     /// Pays a charge of one.

@@ -1,12 +1,13 @@
 //! Macros: closures, values and the arguments that calls give.
-ghost use Rattle.std.specs.Prelude.{◌≡◌, ◌+◌, ◌≤◌, ◌<◌, ◌∷◌, [], IfErr, IfOk, None, OnErr, OnOk, Some, false, length, map as each};
+ghost use Rattle.std.specs.Prelude.{◌≡◌, ◌+◌, ◌≤◌, ◌<◌, ◌∷◌, [], IfErr, IfOk, IfSome, None, Ok, OnErr, OnOk, Some, false, length, map as each};
 ghost use Rattle.std.specs.Rc.{rc_str_bytes};
 ghost use Rattle.tm_meaning.specs.Calls.{enter_macro, known_stream, macro_scopes, refused};
 ghost use Rattle.tm_meaning.specs.Memory.{is_want_of_memory};
-ghost use Rattle.tm_meaning.specs.World.{Bad, Good, closing_over, depth, enclose, make_macro, own_closure, put_enclosed};
+ghost use Rattle.tm_meaning.specs.World.{Bad, Good, HostValue, closing_over, depth, enclose, find_name, make_macro, own_closure, put_enclosed, view_of};
 ghost use Rattle.tm_state.specs.Answers.{CallDeeper, KeepsFixedAndNames, NeedsMacro};
-ghost use Rattle.tm_state.specs.State.{runs_macro, saved_scopes};
-ghost use Rattle.tm_values.specs.Answer.{OkOrOutOfMemory};
+ghost use Rattle.tm_state.specs.State.{in_macro, runs_macro, saved_scopes};
+ghost use Rattle.tm_values.specs.Val.{macro};
+ghost use Rattle.tm_values.specs.Answer.{IsLent, OkOrOutOfMemory};
 
 use crate::bound::{bind, given_caller, takes_caller};
 use crate::nested::{NestedRun, RunOf};
@@ -15,8 +16,8 @@ use std::alloc::Global;
 use std::rc::RcStr;
 use tm_meaning::{RunText, StreamId};
 use tm_syntax::Name;
-use tm_tables::{Context, Host};
-use tm_values::{Error, ErrorKind, Macro, Value};
+use tm_tables::{Context, Found, Host};
+use tm_values::{Error, ErrorKind, Macro, Node, Value};
 
 /// How deep the outer scope of a macro lies above the call.
 const MACRO_DEPTH: usize = 4;
@@ -178,7 +179,10 @@ impl StateData {
         }
         let room = self.rooms.take_operands(alloc);
         let given = bind(alloc, declared, args, room)?;
-        let stream = self.macro_stream(declared)?;
+        let Some(stream) = self.known_stream(declared) else {
+            return Err(Error::from(ErrorKind::InvalidOperation));
+        };
+        let stream = stream.share()?;
         let outer = levels
             .saturating_add(self.context.depth())
             .saturating_add(MACRO_DEPTH);
@@ -194,22 +198,58 @@ impl StateData {
         Ok(())
     }
 
-    /// The stream of a macro, where that and the macro's closure are there. InvalidOperation where they aren't;
-    /// OutOfMemory.
-    fn macro_stream(&self, declared: &Macro) -> Result<StreamId, Error>
-        ensures ok { IfOk result (λ stream. known_stream declared.now self.now ≡ Some stream) }
-        ensures err { IfErr result (λ e. is_want_of_memory e ≡ false →
-            (e ≡ ErrorKind.InvalidOperation ∷ []) × (known_stream declared.now self.now ≡ None)) }
+    /// The stream of a macro, where that and the macro's closure are there.
+    fn known_stream(&self, declared: &Macro) -> Option<&StreamId>
+        ensures { IsLent result (known_stream declared.now self.now) }
     {
         if let Some(number) = declared.closure() {
             if number >= self.closures.len() {
-                return Err(Error::from(ErrorKind::InvalidOperation));
+                return None;
             }
         }
-        match self.streams.get(declared.stream()) {
-            Some(stream) => Ok(stream.share()?),
-            None => Err(Error::from(ErrorKind::InvalidOperation)),
+        self.streams.get(declared.stream())
+    }
+
+    /// The macro that a name stands for in the scopes, where it stands for one.
+    #[inline(always)]
+    pub fn macro_named(&self, name: &Name) -> Option<&Macro>
+        ensures { IfSome result (λ m. (host : HostValue) →
+            find_name (view_of host self.now) name.now ≡ Ok (Some (macro m.now))) }
+    {
+        match self.context.find(name, &self.closures, self) {
+            Ok(Some(Found::Value(value))) => match &value.node {
+                Node::Macro(declared) => Some(declared.as_ref()),
+                _ => None,
+            },
+            _ => None,
         }
+    }
+
+    /// The stream and the arguments of a macro that is called with these values, in this room, where it can be entered.
+    /// None where the call is refused, where the macro takes `caller`, and where there is no memory.
+    pub fn plain_call<H: Host>(
+        &self,
+        alloc: Global,
+        host: &H,
+        declared: &Macro,
+        args: &[Value],
+        room: Vec<Value>,
+    ) -> Option<(&StreamId, Vec<Value>)>
+        requires { room.items ≡ [] }
+        ensures { IfSome result (λ r. enter_macro 0 (H.meaning host.now) declared.now args.now self.now
+            ≡ runs_macro r.0.now declared.now r.1.items self.now
+            (in_macro r.0.now declared.now self.now)) }
+    {
+        if declared.state() != self.id() || declared.takes_caller() {
+            return None;
+        }
+        let given = bind(alloc, declared, args, room).ok()?;
+        let stream = self.known_stream(declared)?;
+        let inner = self.context.depth().saturating_add(MACRO_DEPTH + 1);
+        if inner >= host.recursion_limit() {
+            return None;
+        }
+        Some((stream, given))
     }
 
     /// The scopes in which a macro runs that is called with these values, which stand at a depth. Fails by OutOfMemory

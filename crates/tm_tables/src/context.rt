@@ -290,7 +290,7 @@ impl Context {
         self.frames.last()?.locals.get(name)
     }
 
-    /// Lets the innermost scope have a name for a second owner of a value, where there is room. Else all stays as
+    /// Lets the innermost scope have a name for a second owner of a value, where there is memory. Else all stays as
     /// it was, and the answer is false.
     #[inline(always)]
     pub fn store_at_once(&mut self, name: &Name, value: &Value) -> bool

@@ -200,7 +200,7 @@ impl Frame {
         Ok(())
     }
 
-    /// Has a name for a second owner of a value, where there is room. Else it stays as it was, and the answer is
+    /// Has a name for a second owner of a value, where there is memory. Else it stays as it was, and the answer is
     /// false.
     #[inline(always)]
     pub(crate) fn store_at_once(&mut self, name: &Name, value: &Value) -> bool

@@ -176,6 +176,15 @@ impl FuelTracker {
         self.remaining -= 1;
     }
 
+    /// Pays so much that this is left.
+    #[inline(always)]
+    pub fn pay_down_to(&mut self, left: u64)
+        requires { left ≤ self.old.left }
+        ensures { self.new ≡ record self.old { left = left } }
+    {
+        self.remaining = left;
+    }
+
     /// The fuel that is left.
     pub fn remaining(&self) -> u64
         ensures { result ≡ self.now.left }

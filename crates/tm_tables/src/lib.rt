@@ -39,6 +39,7 @@ pub use fuel::{Exhausted, FuelTracker};
 pub use host::Host;
 pub use language::language_globals;
 pub use lists::Lists;
+pub use locals::Locals;
 pub use loops::{LoopState, following_at, position_at, previous_at};
 pub use name_table::{NO_PLACE, NameTable};
 pub use objects::{Objects, Parties};

@@ -80,7 +80,7 @@ fn add_exported(
 /// Names with what they stand for, found by the hashes of the names first. The room of the first ones stays
 /// when they are cleared. A contract sees the pairs, in the order of the names.
 #[derive(Drop)]
-pub(crate) struct Locals {
+pub struct Locals {
     first: Vec<(Name, Value)>,
     others: BTreeMap<Name, Value>,
 }
@@ -102,7 +102,7 @@ impl Model for Locals {
 
 impl Locals {
     /// No names; this takes no memory.
-    pub(crate) fn new(alloc: Global) -> Locals
+    pub fn new(alloc: Global) -> Locals
         ensures { result ≡ [] }
     {
         Locals {
@@ -113,7 +113,7 @@ impl Locals {
 
     /// What a name stands for.
     #[inline(always)]
-    pub(crate) fn get(&self, name: &Name) -> Option<&Value>
+    pub fn get(&self, name: &Name) -> Option<&Value>
         ensures { MatchOption result (find name.now self.now ≡ None)
             (λ x. find name.now self.now ≡ Some x.now) }
     {
@@ -164,23 +164,24 @@ impl Locals {
         let _value = self.others.remove(name);
     }
 
-    /// Lets a name stand for a second owner of a value, where there is room among the first. Else all stays as it
-    /// was, and the answer is false.
+    /// Lets a name stand for a second owner of a value. Where there is no memory all stays as it was, and the answer is
+    /// false.
     #[inline(always)]
     pub(crate) fn insert_at_once(&mut self, name: &Name, value: &Value) -> bool
         ensures { OrStays result self.old self.new (self.new ≡ put name.now value.now self.old) }
     {
         if let Node::Number(whole) = &value.node {
-            return self.put_at_once(name, Value::number(*whole));
+            return self.put(name, Value::number(*whole));
         }
         match value.share() {
-            Ok(value) => self.put_at_once(name, value),
+            Ok(value) => self.put(name, value),
             Err(_) => false,
         }
     }
 
+    /// Lets a name stand for a value. Where there is no memory all stays as it was, and the answer is false.
     #[inline(always)]
-    fn put_at_once(&mut self, name: &Name, value: Value) -> bool
+    pub fn put(&mut self, name: &Name, value: Value) -> bool
         ensures { OrStays result self.old self.new (self.new ≡ put name.now value self.old) }
     {
         match place_of(&self.first, name) {
@@ -190,7 +191,7 @@ impl Locals {
             }
             None => {
                 if self.first.len() >= SCANNED || self.first.len() >= self.first.capacity() {
-                    return false;
+                    return self.insert_shared(name, value);
                 }
                 let Ok(name) = name.share() else {
                     return false;
@@ -198,6 +199,17 @@ impl Locals {
                 self.first.push_reserved((name, value));
                 true
             }
+        }
+    }
+
+    /// The same, where there may be no room among the first.
+    #[inline(never)]
+    fn insert_shared(&mut self, name: &Name, value: Value) -> bool
+        ensures { OrStays result self.old self.new (self.new ≡ put name.now value self.old) }
+    {
+        match name.share() {
+            Ok(name) => self.insert(name, value).is_ok(),
+            Err(_) => false,
         }
     }
 
@@ -234,7 +246,7 @@ impl Locals {
 
     /// No name stands for anything from here on.
     #[inline(always)]
-    pub(crate) fn clear(&mut self)
+    pub fn clear(&mut self)
         ensures { self.new ≡ [] }
     {
         while !self.first.is_empty() {

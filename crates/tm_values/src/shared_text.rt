@@ -1,5 +1,6 @@
 //! Texts that values share.
-ghost use Rattle.std.specs.Prelude.{◌≡◌, ◌++◌, IfOk, OnErr, OnOk, string_bytes};
+ghost use Rattle.std.specs.Prelude.{◌≡◌, ◌++◌, [], IfOk, OnErr, OnOk, string_bytes};
+ghost use Rattle.tm_values.specs.Answer.{OrStays};
 
 use std::alloc::{AllocError, Global};
 use std::marker::Model;
@@ -52,6 +53,20 @@ impl SharedText {
     {
         let content = self.content.clone()?;
         Ok(SharedText { content })
+    }
+
+    /// Takes its bytes away and keeps their room, where it has no other owner. Else it stays as it was, and the answer is
+    /// false.
+    pub fn clear(&mut self) -> bool
+        ensures { OrStays result self.old self.new (self.new ≡ []) }
+    {
+        match Rc::get_mut(&mut self.content) {
+            Some(own) => {
+                own.clear();
+                true
+            }
+            None => false,
+        }
     }
 
     /// Adds a text behind it: in place where it has no other owner, and else to a copy, since the

@@ -29,7 +29,7 @@ no_formatter None e = refl
 no_formatter (Some f) e = absurd (cc e)
 
 -- no formatter is asked, and nothing refuses
-emitted_known : (host : HostValue) (v : Val) (w : World) → host.formatter ≡ None → refusal_of host.undefined Emission v ≡ None →
+pub emitted_known : (host : HostValue) (v : Val) (w : World) → host.formatter ≡ None → refusal_of host.undefined Emission v ≡ None →
     emission_verdict w.escape (records_of w) v ≡ Ok tt → emitted host v w ≡ Good (emitted_text w.escape (records_of w) v) w
 emitted_known host v w none defined fine = rw (defined, none, fine) refl
 

@@ -1,5 +1,6 @@
 pub mod Ground
 pub mod Shift
+pub mod Leaves
 pub mod Left
 pub mod Loop
 pub mod Used

@@ -183,6 +183,40 @@ stands_behind {p = p} {f = f} {c = c} {told = told} {now = now} entry mid d at n
           (more_only goes (nest_only p entry.heard mid.captures mid.world back (first_of p entry mid) ran.leads (subst (λ n. Leads p f s.text n o) enters.2 (s.back o l))));
     }
 
+-- what a run that is needed leads to, and what follows it
+nest_parts : {p : Program} {f g : Base} {t : List ℕ} {n : Next} {c : Config} {back : Back} {o : Final} → n ≡ Nest g c back →
+    Leads p f t n o → (e : Final) × Leads p g t (step p g c) e × Leads p f e.text (back_to back e.end) o
+nest_parts at (over x y) = absurd (cc (at, x))
+nest_parts at (more x y) = absurd (cc (at, x))
+nest_parts at (restart x y) = absurd (cc (at, x))
+nest_parts {p = p} {f = f} {g = g} {t = t} {c = c} {back = back} {o = o} at (nest {g = g2} {c = c2} {back = b2} {e = e2} x y z) =
+    let kg : g2 ≡ g = cc (at, x) in
+    let kc : c2 ≡ c = cc (at, x) in
+    let kb : b2 ≡ back = cc (at, x) in (
+      e2,
+      subst (λ d. Leads p g t (step p g d) e2) kc (subst (λ h. Leads p h t (step p h c2) e2) kg y),
+      subst (λ b. Leads p f e2.text (back_to b e2.end) o) kb z,
+    )
+
+-- a nested run that is over and wrote nothing
+pub stands_called : {p : Program} {f : Base} {a c : Config} {told now : Option (List ℕ)} (d : Config) (new : Option (List ℕ)) →
+    RunsUpTo p f a told now c →
+    Did p (Ok flow.Called) now new d (step p f c) → RunsUpTo p f a told new d
+stands_called {p = p} {f = f} {c = c} {told = told} d new s did =
+    let ran = did.0 in
+    let inner = behind_text s.text ran.leads in
+    let same = append-nil s.text in
+    record {
+      text = s.text;
+      appended = subst (λ t. Appends told t s.text) (sym did.1) s.appended;
+      onward = λ o l. s.onward o (nest ran.needs inner (more ran.goes
+          (subst (λ u. Leads p f u (step p f d) o) (sym (append-nil (s.text ++ []) ∙ same)) l)));
+      back = λ o l.
+          let parts = nest_parts ran.needs (s.back o l) in
+          subst (λ u. Leads p f u (step p f d) o) (append-nil (s.text ++ []) ∙ same)
+          (more_only ran.goes (subst (λ (e : Final). Leads p f e.text (back_to ran.back e.end) o) (one_end parts.1 inner) parts.2));
+    }
+
 -- ---------------------------------------------------------------- ends
 -- what the writer has got at an answer that stopped the loop is a beginning of what it gets at the end
 output_first : {p : Program} {f : Base} {t : List ℕ} {n : Next} {o : Final} → Leads p f t n o →

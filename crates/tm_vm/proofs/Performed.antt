@@ -63,6 +63,7 @@ silent {p = p} {f = f} {n = n} {old = old} {new = new} {told = told} (Ok flow.Go
       same_stream = s.same_stream;
     }
 silent {p = p} (Ok flow.Done) s = absurd s.did
+silent {p = p} (Ok flow.Called) s = absurd s.did
 silent {p = p} (Ok flow.Restart) s = absurd s.did
 silent {p = p} (Ok (flow.Enter e)) s = absurd s.did
 silent {p = p} (Err halt.Writer) s = absurd s.did
@@ -101,6 +102,7 @@ opened {p = p} {f = f} {n = n} {old = old} {new = new} {told = told} (Ok flow.Go
       same_stream = s.same_stream;
     }
 opened {p = p} (Ok flow.Done) s = absurd s.did
+opened {p = p} (Ok flow.Called) s = absurd s.did
 opened {p = p} (Ok flow.Restart) s = absurd s.did
 opened {p = p} (Ok (flow.Enter e)) s = absurd s.did
 opened {p = p} (Err halt.Writer) s = absurd s.did
@@ -134,6 +136,7 @@ shifted {p = p} {n = n} {told = told} (Ok flow.GoOn) s =
       same_stream = s.same_stream;
     }
 shifted {p = p} (Ok flow.Done) s = absurd s.did
+shifted {p = p} (Ok flow.Called) s = absurd s.did
 shifted {p = p} (Ok flow.Restart) s = absurd s.did
 shifted {p = p} (Ok (flow.Enter e)) s = absurd s.did
 shifted {p = p} (Err halt.Writer) s = absurd s.did
@@ -168,6 +171,7 @@ wrote {p = p} {f = f} {old = old} {new = new}
       same_stream = s.same_stream;
     }
 wrote {p = p} (Ok flow.Done) s = absurd s.did
+wrote {p = p} (Ok flow.Called) s = absurd s.did
 wrote {p = p} (Ok flow.Restart) s = absurd s.did
 wrote {p = p} (Ok (flow.Enter e)) s = absurd s.did
 wrote {p = p} {f = f} {old = old} {new = new}
@@ -193,6 +197,14 @@ needed {p = p} {f = f} {old = old} {new = new} {told = told} (Ok flow.GoOn) s =
       same_stream = s.same_stream;
     }
 needed {p = p} (Ok flow.Done) s = absurd s.did
+needed {p = p} {f = f} {old = old} {new = new} (Ok flow.Called) s = record {
+  did = (s.did, refl);
+  counted = refl;
+  kept = fixed_of s.kept;
+  names = same_names p.host s.kept;
+  depths = stays_over f old.world new.world s.deepens;
+  same_stream = s.same_stream;
+}
 needed {p = p} (Ok flow.Restart) s = absurd s.did
 needed {p = p} {f = f} {old = old} {new = new}
     (Ok (flow.Enter e)) s = record { did = (s.did, refl); counted = refl; kept = fixed_of s.kept; names = s.kept.same_loaded; depths = s.deepens; same_stream = s.same_stream }
@@ -229,6 +241,7 @@ loads {f = f} {n = n} {old = old} {new = new} {told = told} (Ok flow.GoOn) s = r
   same_stream = s.same_stream;
 }
 loads (Ok flow.Done) s = absurd s.did
+loads (Ok flow.Called) s = absurd s.did
 loads (Ok flow.Restart) s = absurd s.did
 loads (Ok (flow.Enter e)) s = absurd s.did
 loads (Err halt.Writer) s = absurd s.did
@@ -374,6 +387,7 @@ finished {p = p} {f = f} {old = old} {new = new} (Ok flow.Restart) s =
       same_stream = tt;
     }
 finished (Ok flow.GoOn) s = absurd s
+finished (Ok flow.Called) s = absurd s
 finished (Ok (flow.Enter e)) s = absurd s
 finished (Err halt.Writer) s = absurd s
 finished {p = p} {f = f} {n = n} {old = old} {new = new} {told = told} {failures = failures} (Err halt.Stuck) s =
@@ -408,6 +422,7 @@ deep_paid limit (saved.Include s) left old new h = h
 depths_paid : (limit : ℕ) (f : Base) (result : Result Flow Halt) (left : ℕ) (old new : World) →
     Depths limit f result (record old { fuel = left }) new → Depths limit f result old new
 depths_paid limit f (Ok flow.GoOn) left old new h = h
+depths_paid limit f (Ok flow.Called) left old new h = h
 depths_paid limit f (Ok flow.Done) left old new h = h
 depths_paid limit f (Ok flow.Restart) left old new h = h
 depths_paid limit f (Ok (flow.Enter e)) left old new h = deep_paid limit e.value.saved left old new h
@@ -416,6 +431,7 @@ depths_paid limit f (Err why) left old new h = h
 names_paid : (host : HostValue) (result : Result Flow Halt) (left : ℕ) (old new : World) →
     Names host result (record old { fuel = left }) new → Names host result old new
 names_paid host (Ok flow.GoOn) left old new h = h
+names_paid host (Ok flow.Called) left old new h = h
 names_paid host (Ok flow.Done) left old new h = h
 names_paid host (Ok flow.Restart) left old new h = h
 names_paid host (Ok (flow.Enter e)) left old new h = h
@@ -461,7 +477,7 @@ read_at (y ∷ ys) zero x within read = ap (λ z. Some z) (sym (read y))
 read_at (y ∷ ys) (suc n) x within read = read_at ys n x (omega (arith, within)) read
 
 -- ---------------------------------------------------------------- at once
-pays_one : (x : Instruction) (w : World) → charge_of x ≡ 1 → 1 < w.fuel → pay x w ≡ Good tt (record w { fuel = w.fuel - 1 })
+pub pays_one : (x : Instruction) (w : World) → charge_of x ≡ 1 → 1 < w.fuel → pay x w ≡ Good tt (record w { fuel = w.fuel - 1 })
 pays_one x w one more = let enough : nat_lt 1 w.fuel ≡ true = grind (arith, nat_tests) in rw (one, enough) refl
 
 paid_keeps : (w : World) → KeepsFixedAndNames w (record w { fuel = w.fuel - 1 })
@@ -476,7 +492,7 @@ pub done_at_once : {told now : Option (List ℕ)} {failures count : ℕ} (p : Pr
 done_at_once p f x old new result found one more h =
     step_done p f x old (paid old) new result found (pays_one x old.world one more) (paid_keeps old.world) refl h
 
-pays_nothing : (x : Instruction) (w : World) → charge_of x ≡ 0 → pay x w ≡ Good tt w
+pub pays_nothing : (x : Instruction) (w : World) → charge_of x ≡ 0 → pay x w ≡ Good tt w
 pays_nothing x w free = rw free refl
 
 -- the instruction at the place is free and did its part at once

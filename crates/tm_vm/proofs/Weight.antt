@@ -22,7 +22,7 @@ use Rattle.tm_meaning.specs.Instructions.{pop_auto_escape_with, is_no_loop, on_l
 use Rattle.tm_meaning.specs.Machine.{Caches}
 use Rattle.tm_meaning.specs.Machine.{Activation, Capture, Return, Config, Program, End, Failed, Stuck, Next, More, Over, Nest, Back, after}
 use Rattle.tm_meaning.specs.Machine.{on_top, on_taken, taken, on, with_world, writes, audible, new_capture, recursion, place_of_loop, asked}
-use Rattle.tm_meaning.specs.Machine.{asked_in_place, first_run, goes, nested}
+use Rattle.tm_meaning.specs.Machine.{Finished, Stuck, asked_in_place, back_to, back_with, first_run, goes, nested}
 use Rattle.tm_meaning.specs.Instructions.{closure_in, names_in, on_parts, on_text}
 use Rattle.tm_meaning.specs.Steps.{charge_of, closed, effect}
 use Rattle.tm_state.specs.Answers.{call_of}
@@ -39,7 +39,8 @@ use Rattle.tm_syntax.specs.Names.{is_among}
 use Rattle.tm_meaning.specs.World.{bind, need, check, find, name_of}
 use Rattle.tm_meaning.specs.Inheritance.{count_left, load, names_left}
 use Rattle.tm_meaning.specs.Instructions.{awaiting}
-use Rattle.tm_meaning.specs.Calls.{enter_include, enter_super}
+use Rattle.tm_meaning.specs.Calls.{enter_include, enter_super, undone}
+use Rattle.tm_meaning.specs.declared.run_text.RunText.{RunText}
 use Rattle.tm_meaning.specs.Machine.{Restart}
 use Rattle.tm_state.proofs.Blocks.{count_loaded}
 use Rattle.tm_vm.specs.declared.flow.Flow.{Flow}
@@ -534,6 +535,23 @@ no_more_parents host old mid new same names less (inr (one_more, fewer)) =
     let left : names_left host mid.world ≡ names_left host old.world = ap (count_left host.templates) names in
     omega (arith, from, left, one_more, fewer)
 
+-- where a step goes on, the stream, the loops and the parent are these
+abbrev Goes : Activation → Next → Type 0
+Goes r (More t c) = StaysRun r c.run
+Goes r _ = Unit {0}
+
+-- a run that goes on behind another one has the loops open that it had
+back_as : (value : Bool) (t : RunText) (r : Activation) (ks : List Capture) (w : World) (new : Config) → back_with value t r ks w ≡ More [] new →
+    StaysRun r new.run
+back_as false t r ks w new e = subst (λ (n : Next). Goes r n) e (refl, refl, refl)
+back_as true t r [] w new e = absurd (cc e)
+back_as true t r (k ∷ ks) w new e = subst (λ (n : Next). Goes r n) e (refl, refl, refl)
+
+back_runs : (back : Back) (e : End) (new : Config) → back_to back e ≡ More [] new → StaysRun back.run new.run
+back_runs back (Finished vs ks w) new e = back_as back.value back.call.text back.run ks (undone back.call.undo w) new e
+back_runs back (Failed chain w) new e = absurd (cc e)
+back_runs back (Stuck w) new e = absurd (cc e)
+
 pub paid_for : {f : Base} {told now : Option (List ℕ)} {failures count : ℕ} (size : ℕ) (p : Program) (x : Instruction)
     (old mid new : Config) (result : Result Flow Halt) →
     mid.world.fuel + charge_of x ≡ old.world.fuel → mid.run ≡ old.run → mid.world.loaded ≡ old.world.loaded → old.run.place < size →
@@ -547,6 +565,14 @@ paid_for {f = f} size p x old mid new (Ok (flow.Enter e)) paid same names within
     let back : Back = record { run = new.run; call = call_of e.value enters.0; value = e.value.value } in
     let needs = enters.2 ∙ ap (λ a. nested a e.value.heard new.captures new.world back) there in
     entered (charge_of x) p f _ x old mid new _ back refl paid same did.kept.no_more_fuel needs refl
+paid_for {f = f} size p x old mid new (Ok flow.Called) paid same names within did =
+    let ran = did.did.0 in
+    let waiting : Config = record mid { run = ran.back.run } in
+    let stays = back_runs ran.back ran.end new ran.goes in
+    let less = entered (charge_of x) p f ran.base x old mid waiting ran.first ran.back refl paid same (omega arith) ran.needs refl in (
+      less_behind size old waiting new less.0 did.kept.no_more_fuel stays.1,
+      parents_behind p.host old waiting new less.1 names did.names stays,
+    )
 paid_for {f = f} size p x old mid new (Ok flow.Restart) paid same names within did =
     absurd (subst (λ n. Adds p.host (charge_of x) mid n) did.did.0 (adds p f x mid))
 paid_for size p x old mid new (Ok flow.Done) paid same names within did = tt
@@ -561,6 +587,7 @@ restart_paid f n p size old new (Ok flow.Restart) s =
     let behind : parents_left p.host new ≡ 0 + names_left p.host old.world = ap (parents_left p.host) s.1.3 in
     omega (arith, before, behind)
 restart_paid f n p size old new (Ok flow.GoOn) s = absurd s
+restart_paid f n p size old new (Ok flow.Called) s = absurd s
 restart_paid f n p size old new (Ok (flow.Enter e)) s = absurd s
 restart_paid f n p size old new (Ok flow.Done) s = tt
 restart_paid f n p size old new (Err why) s = tt

@@ -12,7 +12,7 @@ use Rattle.tm_meaning.specs.Calls.{Asked, outermost}
 use Rattle.tm_values.specs.declared.error.ErrorKind.TheVariants.{OutOfMemory}
 use Rattle.tm_meaning.specs.Machine.{Caches, take_n, stuck}
 use Rattle.tm_meaning.specs.Machine.{Return, Activation, Capture, Config, End, Finished, Failed, Stuck, Next, More, Over, Restart, Nest, Program}
-use Rattle.tm_meaning.specs.Machine.{first_run, nested, running, recursion, place_of_loop, asked, waiting, new_capture, restarted}
+use Rattle.tm_meaning.specs.Machine.{Back, back_to, first_run, nested, running, recursion, place_of_loop, asked, waiting, new_capture, restarted}
 use Rattle.tm_values.specs.Val.{Val}
 use Rattle.tm_state.specs.declared.calls.Recursion.{Recursion}
 use Rattle.tm_meaning.specs.Instructions.{jump_if_true_or_pop_of, jump_if_false_or_pop_of, take_counted}
@@ -77,12 +77,23 @@ entered p e b c =
 abbrev pub Enters : Program → NestedRun → Config → Next → Type 0
 Enters p e c n = (b : World) × IsSaved e.saved b × (n ≡ entered p e b c)
 
--- A step was done, of which the writer got the text; or the run restarts; or it first needs a run of its own; or it is over by that; or it
--- halted, and the writer got a beginning.
+-- A step needed a run of its own first, which came to its end and wrote nothing, and the run that waited goes on.
+pub record Ran (p : Program) (n : Next) (c : Config) : Type 0 where
+  pub base : Base
+  pub first : Config
+  pub back : Back
+  pub end : End
+  pub needs : n ≡ Nest base first back
+  pub leads : Leads p base [] (step p base first) (final [] end)
+  pub goes : back_to back end ≡ More [] c
+
+-- A step was done, of which the writer got the text; or the run restarts; or it first needs a run of its own, which is over or is to come;
+-- or it is over by that; or it halted, and the writer got a beginning.
 abbrev pub Did : Program → Result Flow Halt → Option (List ℕ) → Option (List ℕ) → Config → Next → Type 0
 Did p (Ok flow.GoOn) told now c n = (n ≡ More (output n) c) × Appends told now (output n)
 Did p (Ok flow.Done) told now c n = (n ≡ Over (finished_at c)) × (now ≡ told)
 Did p (Ok flow.Restart) told now c n = (n ≡ Restart c) × (now ≡ told)
+Did p (Ok flow.Called) told now c n = Ran p n c × (now ≡ told)
 Did p (Ok (flow.Enter e)) told now c n = Enters p e.value c n × (now ≡ told)
 Did p (Err why) told now c n = HaltsAs why c.world (λ e. n ≡ Over e) × AppendsBeginning told now (output n)
 
@@ -111,6 +122,7 @@ KeepsBaseScopes f old new =
 -- run that is over has closed what it opened.
 abbrev pub Depths : ℕ → Base → Result Flow Halt → World → World → Type 0
 Depths limit f (Ok flow.GoOn) old new = KeepsBaseScopes f old new
+Depths limit f (Ok flow.Called) old new = KeepsBaseScopes f old new
 Depths limit f (Ok flow.Restart) old new = KeepsBaseScopes f old new
 Depths limit f (Ok flow.Done) old new = KeepsBaseScopes f old new × (f.scopes ≡ length new.scopes.frames)
 Depths limit f (Ok (flow.Enter e)) old new = OneDeeper limit e.value.saved old new
@@ -173,6 +185,7 @@ parents_left host c = waits c.run + names_left host c.world
 -- restart leaves a parent fewer. Before a run of its own it is paid for, where that run can begin.
 abbrev pub Paid : Program → ℕ → Result Flow Halt → Config → Config → Type 0
 Paid p size (Ok flow.GoOn) old new = (weight size new < weight size old) × (parents_left p.host new ≤ parents_left p.host old)
+Paid p size (Ok flow.Called) old new = (weight size new < weight size old) × (parents_left p.host new ≤ parents_left p.host old)
 Paid p size (Ok flow.Restart) old new = parents_left p.host new < parents_left p.host old
 Paid p size (Ok (flow.Enter e)) old new =
     (first : Activation) → first_run p (callee_of e.value.run) (length new.captures) ≡ Some first →
@@ -183,6 +196,7 @@ Paid p size _ old new = Unit {0}
 abbrev pub Wrote : Result Flow Halt → Option (List ℕ) → Option (List ℕ) → Config → Next → Type 0
 Wrote (Ok flow.GoOn) told now c n = (n ≡ More (output n) c) × Appends told now (output n)
 Wrote (Ok flow.Done) told now c n = ⊥
+Wrote (Ok flow.Called) told now c n = ⊥
 Wrote (Ok flow.Restart) told now c n = ⊥
 Wrote (Ok (flow.Enter e)) told now c n = ⊥
 Wrote (Err why) told now c n = HaltsAs why c.world (λ e. n ≡ Over e) × AppendsBeginning told now (output n)
@@ -198,6 +212,7 @@ pub record WritesNext (n : Next) (old new : Config) (told now : Option (List ℕ
 abbrev pub Quietly : Result Flow Halt → Config → Next → Type 0
 Quietly (Ok flow.GoOn) c n = n ≡ More [] c
 Quietly (Ok flow.Done) c n = ⊥
+Quietly (Ok flow.Called) c n = ⊥
 Quietly (Ok flow.Restart) c n = ⊥
 Quietly (Ok (flow.Enter e)) c n = ⊥
 Quietly (Err halt.Writer) c n = ⊥
@@ -236,6 +251,7 @@ pub record Loads (host : HostValue) (n : Next) (old new : Config) (result : Resu
 abbrev pub Needed : Program → Result Flow Halt → Config → Next → Type 0
 Needed p (Ok flow.GoOn) c n = n ≡ More [] c
 Needed p (Ok flow.Done) c n = ⊥
+Needed p (Ok flow.Called) c n = Ran p n c
 Needed p (Ok flow.Restart) c n = ⊥
 Needed p (Ok (flow.Enter e)) c n = Enters p e.value c n
 Needed p (Err halt.Writer) c n = ⊥

@@ -1,3 +1,4 @@
 pub mod Answers
 pub mod AtOnce
+pub mod Leaves
 pub mod Nested

@@ -18,9 +18,34 @@ use tm_tables::Host;
 use tm_values::{Error, ErrorKind, Value};
 
 impl Machine {
-    /// Replaces so many values by what the function of a name answers to them, or by the text of the loop that it calls.
-    #[inline(never)]
+    /// Replaces so many values by what the function of a name answers to them, or by the text of the loop or macro that it
+    /// calls.
     pub(crate) fn do_call_function<H: Host>(
+        &mut self,
+        alloc: Global,
+        host: &H,
+        code: &Code,
+        name: &Name,
+        count: Option<usize>,
+    ) -> Result<Flow, Halt>
+        requires in_place { CanGoOn self.old.run }
+        requires its_code { code.now ≡ H.code host.now self.old.run.stream }
+        ensures { Needs (program (H.meaning host.now) (H.code host.now))
+            (call_function_of
+            (program (H.meaning host.now) (H.code host.now)) name.now count self.old)
+            self.old self.new result }
+    {
+        if let Some(count) = count {
+            if self.call_leaf(alloc, host, name, count)? {
+                return Ok(Flow::Called);
+            }
+        }
+        self.call_counted(alloc, host, code, name, count)
+    }
+
+    /// The same, where no leaf is called.
+    #[inline(never)]
+    fn call_counted<H: Host>(
         &mut self,
         alloc: Global,
         host: &H,

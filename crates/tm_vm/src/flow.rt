@@ -6,6 +6,8 @@ use tm_state::NestedRun;
 pub enum Flow {
     /// At its place.
     GoOn,
+    /// Behind a run that was needed first and is over.
+    Called,
     /// Behind a run that is needed first. Boxed, since each step hands its answer on.
     Enter(Box<NestedRun>),
     /// In the root of a parent, which has begun.

@@ -10,6 +10,7 @@ mod flow;
 mod includes;
 mod inheritance;
 mod jumps;
+mod leaf;
 mod loops;
 mod machine;
 mod macros;

@@ -12,6 +12,7 @@ ghost use Rattle.tm_vm.specs.Nested.{RanNested, StandsOn, WroteBeginning, IsBack
 use crate::activation::Activation;
 use crate::captures::run_value;
 use crate::flow::Flow;
+use crate::leaf::Leaf;
 use std::alloc::Global;
 use std::marker::Model;
 use std::mem;
@@ -47,6 +48,7 @@ pub struct Machine {
     pub(crate) run: Activation,
     pub(crate) captures: Captures,
     pub(crate) state: StateData,
+    pub(crate) leaf: Leaf,
 }
 
 impl Model for Machine {
@@ -70,6 +72,7 @@ impl Machine {
             run: Activation::new(alloc, stream, captures.depth()),
             captures,
             state,
+            leaf: Leaf::new(alloc),
         }
     }
 
@@ -301,6 +304,7 @@ impl Machine {
             'steps: loop {
                 match self.step(alloc, host, &base, code, writer) {
                     Ok(Flow::GoOn) => {}
+                    Ok(Flow::Called) => {}
                     Ok(Flow::Enter(entry)) => {
                         if let Err(halt) = self.run_nested(alloc, host, entry, writer) {
                             return Err(halt);

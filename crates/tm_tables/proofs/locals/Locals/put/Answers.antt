@@ -2,7 +2,7 @@ use Rattle.std.proofs.Common.{◌≡◌, ◌∙◌, ◌++◌, [], ◌∷◌, ap,
 use Rattle.tm_syntax.specs.Named.{find, put}
 use Rattle.tm_tables.specs.Locals.{IsPlace, in_order}
 use Rattle.tm_tables.proofs.Ordered.{put_at, put_behind, the_name}
-use Rattle.tm_tables.proofs.locals.Locals.put_at_once.Goals as goal
+use Rattle.tm_tables.proofs.locals.Locals.put.Goals as goal
 
 pub returns-in-Some : goal.returns-in-Some
 returns-in-Some c =

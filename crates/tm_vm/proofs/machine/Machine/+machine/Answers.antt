@@ -6,7 +6,7 @@ use Rattle.tm_state.specs.State.{put_back}
 use Rattle.tm_parts.specs.Halts.{failures_after}
 use Rattle.tm_vm.specs.Answers.{HaltsAs, program}
 use Rattle.tm_vm.specs.declared.flow.Flow.TheVariants as flow
-use Rattle.tm_vm.proofs.Loop.{at_base, fixed_same, fixed_then, stands_first, stands_next, stands_again, stands_behind, beginning_at, beginning_in}
+use Rattle.tm_vm.proofs.Loop.{at_base, fixed_same, fixed_then, stands_first, stands_next, stands_again, stands_behind, stands_called, beginning_at, beginning_in}
 use Rattle.tm_parts.specs.declared.halt.Halt.TheVariants as halt
 use Rattle.tm_state.specs.declared.nested.NestedRun.{NestedRun}
 use Rattle.tm_vm.specs.Nested.{EndsNested, IsWrapped, RanNested, Went, WroteBeginning, base_in, begins_in}
@@ -64,6 +64,29 @@ run-steps-preserved-in-Ok-GoOn g t c =
       same_stream = step.same_stream ∙ c.steps.invariant.same_stream;
       parents = omega (arith, parents, c.steps.invariant.parents);
       stands = stands_next c.step.new.self new c.steps.invariant.stands did;
+    }
+
+pub run-steps-preserved-in-Ok-Called : goal.run-steps-preserved-in-Ok-Called
+run-steps-preserved-in-Ok-Called g t c =
+    let p = program (g.H.Host.meaning c.args.host.now) (g.H.Host.code c.args.host.now) in
+    let a = c.args.self.now in
+    let now = g.W.Sink.written c.steps.writer in
+    let new = g.W.Sink.written c.step.new.writer in
+    let step = rw c.in-Ok-Called.field-0-is at c.in-Ok-Called.ensures.performs in
+    let paid = rw c.in-Ok-Called.field-0-is at c.in-Ok-Called.ensures.paid in
+    let did = at_base p c.steps.self c.step.new.self now new (Ok flow.Called) c.base-base.result
+    (base_of c.args.heard a.captures a.world) c.base-base.ensures step.did in
+    let names = step.names in
+    let parents = paid.1 in
+    record {
+      failures = step.counted ∙ c.steps.invariant.failures;
+      kept = fixed_then c.steps.invariant.kept step.kept;
+      names = omega (arith, names, c.steps.invariant.names);
+      no_fewer = above_base c.args.heard a.captures a.world c.base-base.result c.steps.self.world c.step.new.self.world
+          c.base-base.ensures c.steps.invariant.no_fewer step.depths;
+      same_stream = step.same_stream ∙ c.steps.invariant.same_stream;
+      parents = omega (arith, parents, c.steps.invariant.parents);
+      stands = stands_called c.step.new.self new c.steps.invariant.stands did;
     }
 
 pub run-run_nested-requires : goal.run-run_nested-requires

@@ -2,7 +2,7 @@ use Rattle.tm_meaning.specs.Calls.{call_named}
 use Rattle.tm_meaning.specs.Machine.{Config}
 use Rattle.tm_vm.specs.Answers.{program}
 use Rattle.tm_vm.proofs.Counted.{counted_needs}
-use Rattle.tm_vm.proofs.machine.Machine.do_call_function.Goals as goal
+use Rattle.tm_vm.proofs.machine.Machine.call_counted.Goals as goal
 
 pub returns-in-Some : goal.returns-in-Some
 returns-in-Some g c =
