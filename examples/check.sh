@@ -1,6 +1,7 @@
 #!/usr/bin/env bash
 # Renders each example by ./mj, with the JSON file, the names and the other templates that it has (.json, .names, .others), and compares the
-# output with its .expected file. The code in README.md and in docs/LIBRARY.md must be that of their tests.
+# output with its .expected file. The code in README.md and in docs/LIBRARY.md must be that of their tests. No nesting may take more of the
+# stack than bench/stack says.
 set -euo pipefail
 cd "$(dirname "${BASH_SOURCE[0]}")"
 
@@ -47,5 +48,9 @@ for input in hello.txt mail.txt server.conf page.html notice.txt table.html menu
         failed=$((failed + 1))
     fi
 done
+if ! nestings=$(../bench/stack); then
+    echo "$nestings" >&2
+    failed=$((failed + 1))
+fi
 echo "examples: $passed rendered as expected, $failed not"
 ((failed == 0))
