@@ -71,11 +71,9 @@ pub made-listed : (b m1 m2 : Builder) (n : ℕ) (x : Expr) → m1 ≡ put (strai
     m2 ≡ put (listed_code n (a.Spread x)) b
 made-listed b m1 m2 n x p q = q ∙ ap {B = Builder} (λ m. put (expr_code x) m) p ∙ sym (put-listed-spread b n x)
 
-pub made-named : (b m1 m2 : Builder) (n : ℕ) (f g : List ℕ) (v : _) (x : Expr) → g ≡ f → v ≡ text g false →
-    m1 ≡ with_one (i.LoadConst v) b → m2 ≡ put (expr_code x) m1 → m2 ≡ put (keyword_code n (k.Named f x)) b
-made-named b m1 m2 n f g v x h is p q = q
-    ∙ ap {B = Builder} (λ m. put (expr_code x) m) (p
-    ∙ ap {B = Builder} (λ u. with_one (i.LoadConst u) b) (is ∙ ap (λ n. text n false) h)) ∙ sym (put-keyword-named b n f x)
+pub made-named : (b m1 m2 : Builder) (n : ℕ) (f : List ℕ) (x : Expr) → m1 ≡ with_one (i.LoadConst (text f false)) b →
+    m2 ≡ put (expr_code x) m1 → m2 ≡ put (keyword_code n (k.Named f x)) b
+made-named b m1 m2 n f x p q = q ∙ ap {B = Builder} (λ m. put (expr_code x) m) p ∙ sym (put-keyword-named b n f x)
 
 pub made-mapped : (b m1 m2 : Builder) (n : ℕ) (x : Expr) → m1 ≡ put (straight (map_of_row n)) b → m2 ≡ put (expr_code x) m1 →
     m2 ≡ put (keyword_code n (k.Spread x)) b

@@ -1,19 +1,17 @@
 //! Code that is being made, with jumps that lead nowhere yet.
 #![tactic(auto, unfolding(crate::proofs::Steps::steps))]
 
-ghost use Rattle.std.specs.Prelude.{◌≡◌, ◌++◌, [], ◌∷◌, OnOk, IfOk, IfErr, length, slice_set};
+ghost use Rattle.std.specs.Prelude.{◌≡◌, ◌++◌, [], ◌∷◌, OnOk, IfOk, length, slice_set};
 ghost use Rattle.tm_generator.specs.Building.{with_one, jumped, left, continued, begun, bound, joined};
 ghost use Rattle.tm_generator.specs.Building.{place_of, outs_of, outer_of, loop_begun, rounds_ended};
 ghost use Rattle.tm_generator.specs.Building.{settled, led, finished};
 ghost use Rattle.tm_generator.specs.Building.{around_of, body_begun, body_ended};
 ghost use Rattle.tm_syntax.specs.declared.instruction.Instruction.TheVariants.{Jump};
-ghost use Rattle.tm_values.specs.declared.error.ErrorKind.TheVariants.{OutOfMemory};
 
-use sqlite_items::Items;
-use std::alloc::Global;
+use tm_items::Items;
+use std::alloc::{AllocError, Global};
 use std::mem;
 use tm_syntax::{Instruction, JumpKind, LoopFlags};
-use tm_values::Error;
 
 /// A jump out of a part of code.
 #[derive(Clone, Copy)]
@@ -76,44 +74,36 @@ impl Builder {
         self.alloc
     }
 
-    /// Adds an instruction; OutOfMemory.
-    pub(crate) fn emit(&mut self, instruction: Instruction) -> Result<(), Error>
-        ensures ok { OnOk result (self.new ≡ with_one instruction self.old) }
-        ensures err { IfErr result (λ e. e ≡ OutOfMemory ∷ []) }
+    /// Adds an instruction; AllocError.
+    pub(crate) fn emit(&mut self, instruction: Instruction) -> Result<(), AllocError>
+        ensures { OnOk result (self.new ≡ with_one instruction self.old) }
     {
-        self.code.push(instruction)?;
-        Ok(())
+        self.code.push(instruction)
     }
 
-    /// Adds a jump out; OutOfMemory.
-    pub(crate) fn jump_out(&mut self, kind: JumpKind) -> Result<(), Error>
-        ensures ok { OnOk result (self.new ≡ jumped kind self.old) }
-        ensures err { IfErr result (λ e. e ≡ OutOfMemory ∷ []) }
+    /// Adds a jump out; AllocError.
+    pub(crate) fn jump_out(&mut self, kind: JumpKind) -> Result<(), AllocError>
+        ensures { OnOk result (self.new ≡ jumped kind self.old) }
     {
         let place = self.code.len();
         self.outs.push(Out { kind, place })?;
-        self.code.push(kind.to(0))?;
-        Ok(())
+        self.code.push(kind.to(0))
     }
 
-    /// Adds a jump that leaves the innermost loop; OutOfMemory.
-    pub(crate) fn break_loop(&mut self) -> Result<(), Error>
-        ensures ok { OnOk result (self.new ≡ left self.old) }
-        ensures err { IfErr result (λ e. e ≡ OutOfMemory ∷ []) }
+    /// Adds a jump that leaves the innermost loop; AllocError.
+    pub(crate) fn break_loop(&mut self) -> Result<(), AllocError>
+        ensures { OnOk result (self.new ≡ left self.old) }
     {
         self.exits.push(Exit::Leave(self.code.len()))?;
-        self.code.push(Instruction::Jump(0))?;
-        Ok(())
+        self.code.push(Instruction::Jump(0))
     }
 
-    /// Adds a jump to the next round of the innermost loop; OutOfMemory.
-    pub(crate) fn next_round(&mut self) -> Result<(), Error>
-        ensures ok { OnOk result (self.new ≡ continued self.old) }
-        ensures err { IfErr result (λ e. e ≡ OutOfMemory ∷ []) }
+    /// Adds a jump to the next round of the innermost loop; AllocError.
+    pub(crate) fn next_round(&mut self) -> Result<(), AllocError>
+        ensures { OnOk result (self.new ≡ continued self.old) }
     {
         self.exits.push(Exit::Next(self.code.len()))?;
-        self.code.push(Instruction::Jump(0))?;
-        Ok(())
+        self.code.push(Instruction::Jump(0))
     }
 
     /// Begins a part out of which jumps lead. Gives the jumps out of what is around it.
@@ -134,11 +124,10 @@ impl Builder {
     }
 
     /// Ends the first of two parts with a jump over the second, to which the jumps out of the first
-    /// lead. Gives the place of that jump; OutOfMemory.
-    pub(crate) fn second(&mut self, outer: Items<Out>) -> Result<usize, Error>
+    /// lead. Gives the place of that jump; AllocError.
+    pub(crate) fn second(&mut self, outer: Items<Out>) -> Result<usize, AllocError>
         ensures place { IfOk result (λ place. place ≡ place_of self.old) }
         ensures ok { OnOk result (self.new ≡ bound outer (with_one (Jump 0) self.old)) }
-        ensures err { IfErr result (λ e. e ≡ OutOfMemory ∷ []) }
     {
         let place = self.code.len();
         self.emit(Instruction::Jump(0))?;
@@ -154,11 +143,10 @@ impl Builder {
         patch(&mut self.code, place, Instruction::Jump(here));
     }
 
-    /// Begins a loop with its first round; OutOfMemory.
-    pub(crate) fn begin_loop(&mut self, flags: LoopFlags) -> Result<Outer, Error>
+    /// Begins a loop with its first round; AllocError.
+    pub(crate) fn begin_loop(&mut self, flags: LoopFlags) -> Result<Outer, AllocError>
         ensures outer { IfOk result (λ outer. outer ≡ outer_of self.old) }
         ensures ok { OnOk result (self.new ≡ loop_begun flags self.old) }
-        ensures err { IfErr result (λ e. e ≡ OutOfMemory ∷ []) }
     {
         self.code.push(Instruction::PushLoop(flags))?;
         let again = self.code.len();
@@ -167,10 +155,9 @@ impl Builder {
         Ok(Outer { exits, again })
     }
 
-    /// Ends the rounds of a loop; OutOfMemory.
-    pub(crate) fn end_rounds(&mut self, outer: Outer) -> Result<(), Error>
-        ensures ok { OnOk result (self.new ≡ rounds_ended outer self.old) }
-        ensures err { IfErr result (λ e. e ≡ OutOfMemory ∷ []) }
+    /// Ends the rounds of a loop; AllocError.
+    pub(crate) fn end_rounds(&mut self, outer: Outer) -> Result<(), AllocError>
+        ensures { OnOk result (self.new ≡ rounds_ended outer self.old) }
     {
         let Outer { exits, again } = outer;
         self.code.push(Instruction::Jump(again))?;
@@ -181,11 +168,10 @@ impl Builder {
         Ok(())
     }
 
-    /// Begins a macro's body with a jump over it; OutOfMemory.
-    pub(crate) fn begin_body(&mut self) -> Result<Around, Error>
+    /// Begins a macro's body with a jump over it; AllocError.
+    pub(crate) fn begin_body(&mut self) -> Result<Around, AllocError>
         ensures around { IfOk result (λ around. around ≡ around_of self.old) }
         ensures ok { OnOk result (self.new ≡ body_begun self.old) }
-        ensures err { IfErr result (λ e. e ≡ OutOfMemory ∷ []) }
     {
         let place = self.code.len();
         self.code.push(Instruction::Jump(0))?;
@@ -198,11 +184,10 @@ impl Builder {
     }
 
     /// Ends a macro's body: jumps out of it lead to its end, where it returns. Gives where it is
-    /// entered; OutOfMemory.
-    pub(crate) fn end_body(&mut self, around: Around) -> Result<usize, Error>
+    /// entered; AllocError.
+    pub(crate) fn end_body(&mut self, around: Around) -> Result<usize, AllocError>
         ensures entry { IfOk result (λ entry. entry ≡ around.entry) }
         ensures ok { OnOk result (self.new ≡ body_ended around self.old) }
-        ensures err { IfErr result (λ e. e ≡ OutOfMemory ∷ []) }
     {
         let Around {
             outs,

@@ -1,13 +1,11 @@
 //! Cache numbers of names in code.
-ghost use Rattle.std.specs.Prelude.{◌≡◌, ◌≤◌, ◌<◌, [], ◌∷◌, OnOk, OnSome, IfOk, IfErr, IfSome, length};
+ghost use Rattle.std.specs.Prelude.{◌≡◌, ◌≤◌, ◌<◌, [], ◌∷◌, OnOk, OnSome, IfOk, IfSome, length};
 ghost use Rattle.tm_generator.specs.Caches.{HasRoom, IsNumberedOne};
 ghost use Rattle.tm_syntax.specs.CacheNumbers.{cache_count, joined, number_in, numbered, place_from};
-ghost use Rattle.tm_values.specs.declared.error.ErrorKind.TheVariants.{OutOfMemory};
 
-use sqlite_items::Items;
-use std::alloc::Global;
+use tm_items::Items;
+use std::alloc::{AllocError, Global};
 use tm_syntax::{CACHES, Instruction, NO_CACHE, Name};
-use tm_values::Error;
 
 /// The names that have cache numbers, each at its number.
 #[derive(Drop)]
@@ -29,13 +27,12 @@ fn place_of(names: &[Name], name: &Name) -> Option<usize>
     None
 }
 
-/// The number of a name, which joins those that have one where there is a number left; OutOfMemory.
-fn number_of(names: &mut Items<Name>, name: &Name) -> Result<u8, Error>
+/// The number of a name, which joins those that have one where there is a number left; AllocError.
+fn number_of(names: &mut Items<Name>, name: &Name) -> Result<u8, AllocError>
     requires { length names.old ≤ cache_count }
     ensures number { IfOk result (λ number. number ≡ number_in name.now names.old) }
     ensures names { OnOk result (names.new ≡ joined name.now names.old) }
     ensures room { OnOk result (length names.new ≤ cache_count) }
-    ensures err { IfErr result (λ e. e ≡ OutOfMemory ∷ []) }
 {
     if let Some(place) = place_of(names.as_slice(), name) {
         return Ok(place as u8);
@@ -49,12 +46,11 @@ fn number_of(names: &mut Items<Name>, name: &Name) -> Result<u8, Error>
 }
 
 impl CacheNames {
-    /// What stands in an instruction's place with its number, where it has one; OutOfMemory.
-    fn number(&mut self, instruction: &Instruction) -> Result<Option<Instruction>, Error>
+    /// What stands in an instruction's place with its number, where it has one; AllocError.
+    fn number(&mut self, instruction: &Instruction) -> Result<Option<Instruction>, AllocError>
         requires { HasRoom self.old }
         ensures ok { IfOk result (λ made. IsNumberedOne self.old self.new instruction.now made) }
         ensures room { OnOk result (HasRoom self.new) }
-        ensures err { IfErr result (λ e. e ≡ OutOfMemory ∷ []) }
     {
         let made = match instruction {
             Instruction::ApplyFilter(name, count, _) => {
@@ -71,10 +67,9 @@ impl CacheNames {
     }
 }
 
-/// Gives the names of filters and of tests in a stream's code their cache numbers; OutOfMemory.
-pub(crate) fn number_caches(alloc: Global, code: &mut Items<Instruction>) -> Result<(), Error>
-    ensures ok { OnOk result (code.new ≡ numbered code.old) }
-    ensures err { IfErr result (λ e. e ≡ OutOfMemory ∷ []) }
+/// Gives the names of filters and of tests in a stream's code their cache numbers; AllocError.
+pub(crate) fn number_caches(alloc: Global, code: &mut Items<Instruction>) -> Result<(), AllocError>
+    ensures { OnOk result (code.new ≡ numbered code.old) }
 {
     let mut names = CacheNames {
         filters: Items::new(alloc),

@@ -1,6 +1,6 @@
 //! The code of calls whose last keyword is pushed between two parts: what they are passed before,
 //! and the ends of it with the call itself.
-ghost use Rattle.std.specs.Prelude.{◌≡◌, [], ◌∷◌, OnOk, IfOk, IfErr};
+ghost use Rattle.std.specs.Prelude.{◌≡◌, [], ◌∷◌, OnOk, IfOk};
 ghost use Rattle.tm_generator.specs.Building.{put};
 ghost use Rattle.tm_generator.specs.Opened.{call_end, call_of, call_open, ending, ending_count};
 ghost use Rattle.tm_generator.specs.Opened.{step_call, step_end, step_open, steps_call, steps_end};
@@ -8,20 +8,18 @@ ghost use Rattle.tm_generator.specs.Opened.{steps_open};
 ghost use Rattle.tm_syntax.specs.Code.{row_end};
 ghost use Rattle.tm_syntax.specs.Fragments.{◌⨾◌, straight};
 ghost use Rattle.tm_syntax.specs.declared.tree.Argument.TheBlock.{hidden-the_row-Step-5 as steps};
-ghost use Rattle.tm_values.specs.declared.error.ErrorKind.TheVariants.{OutOfMemory};
 
 use crate::builder::Builder;
 use crate::expressions::{push_application, push_expr, push_open, push_step, push_steps};
 use crate::passing::OpenCall;
+use std::alloc::AllocError;
 use tm_syntax::{Expr, Instruction, Step};
-use tm_values::Error;
 
-/// Adds the code of a call up to its last keywords, which stay open; OutOfMemory.
+/// Adds the code of a call up to its last keywords, which stay open; AllocError.
 #[inline(never)]
-pub(crate) fn push_call_open(code: &mut Builder, call: &Expr) -> Result<OpenCall, Error>
+pub(crate) fn push_call_open(code: &mut Builder, call: &Expr) -> Result<OpenCall, AllocError>
     ensures ok { OnOk result (code.new ≡ put (call_open call.now) code.old) }
     ensures call { IfOk result (λ passed. passed ≡ call_of call.now) }
-    ensures err { IfErr result (λ e. e ≡ OutOfMemory ∷ []) }
 {
     match call {
         Expr::Call(_, given, named) => push_open(code, 0, given.as_slice(), named.as_slice()),
@@ -36,11 +34,10 @@ pub(crate) fn push_call_open(code: &mut Builder, call: &Expr) -> Result<OpenCall
     }
 }
 
-/// Adds the code of steps, the last of which is the call; OutOfMemory.
-fn push_steps_open(code: &mut Builder, after: &[Step]) -> Result<OpenCall, Error>
+/// Adds the code of steps, the last of which is the call; AllocError.
+fn push_steps_open(code: &mut Builder, after: &[Step]) -> Result<OpenCall, AllocError>
     ensures ok { OnOk result (code.new ≡ put (steps_open (steps after.now)) code.old) }
     ensures call { IfOk result (λ passed. passed ≡ steps_call (steps after.now)) }
-    ensures err { IfErr result (λ e. e ≡ OutOfMemory ∷ []) }
 {
     let Some((last, before)) = after.split_last() else {
         return Ok(OpenCall::with_none());
@@ -49,11 +46,10 @@ fn push_steps_open(code: &mut Builder, after: &[Step]) -> Result<OpenCall, Error
     push_step_open(code, last)
 }
 
-/// Adds the code of a step that is the call; OutOfMemory.
-fn push_step_open(code: &mut Builder, step: &Step) -> Result<OpenCall, Error>
+/// Adds the code of a step that is the call; AllocError.
+fn push_step_open(code: &mut Builder, step: &Step) -> Result<OpenCall, AllocError>
     ensures ok { OnOk result (code.new ≡ put (step_open step.now) code.old) }
     ensures call { IfOk result (λ passed. passed ≡ step_call step.now) }
-    ensures err { IfErr result (λ e. e ≡ OutOfMemory ∷ []) }
 {
     match step {
         Step::Apply(_, _, given, named) => push_open(code, 1, given.as_slice(), named.as_slice()),
@@ -65,13 +61,12 @@ fn push_step_open(code: &mut Builder, step: &Step) -> Result<OpenCall, Error>
     }
 }
 
-/// Adds the code that ends what a call is passed, and the call; OutOfMemory.
+/// Adds the code that ends what a call is passed, and the call; AllocError.
 #[inline(never)]
-pub(crate) fn push_call_end(code: &mut Builder, call: &Expr, passed: &OpenCall) -> Result<(), Error>
-    ensures ok { OnOk result
+pub(crate) fn push_call_end(code: &mut Builder, call: &Expr, passed: &OpenCall) -> Result<(), AllocError>
+    ensures { OnOk result
         (code.new ≡ put (ending row_end passed.now ⨾
         straight (call_end call.now (ending_count row_end passed.now))) code.old) }
-    ensures err { IfErr result (λ e. e ≡ OutOfMemory ∷ []) }
 {
     let count = passed.end(code)?;
     match call {
@@ -81,11 +76,10 @@ pub(crate) fn push_call_end(code: &mut Builder, call: &Expr, passed: &OpenCall) 
     }
 }
 
-/// Adds the call that the last of these steps is, with so many values; OutOfMemory.
-fn push_steps_end(code: &mut Builder, after: &[Step], count: Option<usize>) -> Result<(), Error>
-    ensures ok { OnOk result
+/// Adds the call that the last of these steps is, with so many values; AllocError.
+fn push_steps_end(code: &mut Builder, after: &[Step], count: Option<usize>) -> Result<(), AllocError>
+    ensures { OnOk result
         (code.new ≡ put (straight (steps_end (steps after.now) count)) code.old) }
-    ensures err { IfErr result (λ e. e ≡ OutOfMemory ∷ []) }
 {
     let Some((last, _before)) = after.split_last() else {
         return code.emit(Instruction::CallObject(count));
@@ -93,10 +87,9 @@ fn push_steps_end(code: &mut Builder, after: &[Step], count: Option<usize>) -> R
     push_step_end(code, last, count)
 }
 
-/// Adds the call that a step is, with so many values; OutOfMemory.
-fn push_step_end(code: &mut Builder, step: &Step, count: Option<usize>) -> Result<(), Error>
-    ensures ok { OnOk result (code.new ≡ put (straight (step_end step.now count)) code.old) }
-    ensures err { IfErr result (λ e. e ≡ OutOfMemory ∷ []) }
+/// Adds the call that a step is, with so many values; AllocError.
+fn push_step_end(code: &mut Builder, step: &Step, count: Option<usize>) -> Result<(), AllocError>
+    ensures { OnOk result (code.new ≡ put (straight (step_end step.now count)) code.old) }
 {
     match step {
         Step::Apply(application, name, _, _) => push_application(code, *application, name, count),

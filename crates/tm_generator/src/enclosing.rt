@@ -1,15 +1,13 @@
 //! What is open around code in a loop's round, or in a stream outside of loops.
-ghost use Rattle.std.specs.Prelude.{◌≡◌, [], ◌∷◌, OnOk, IfErr, reverse};
+ghost use Rattle.std.specs.Prelude.{◌≡◌, [], ◌∷◌, OnOk, reverse};
 ghost use Rattle.tm_generator.specs.Building.{with_all, rest_of};
 ghost use Rattle.tm_syntax.specs.Code.{close, close_all as close_each};
-ghost use Rattle.tm_values.specs.declared.error.ErrorKind.TheVariants.{OutOfMemory};
 
 use crate::builder::Builder;
-use sqlite_items::Items;
-use std::alloc::Global;
+use tm_items::Items;
+use std::alloc::{AllocError, Global};
 use std::marker::Model;
 use tm_syntax::{Instruction, Opened};
-use tm_values::Error;
 
 /// What was opened and is not closed yet. A contract sees it innermost first.
 #[derive(Drop)]
@@ -36,13 +34,11 @@ impl Enclosing {
         }
     }
 
-    /// Something more is open; OutOfMemory.
-    pub(crate) fn begin(&mut self, opened: Opened) -> Result<(), Error>
-        ensures ok { OnOk result (self.new ≡ opened ∷ self.old) }
-        ensures err { IfErr result (λ e. e ≡ OutOfMemory ∷ []) }
+    /// Something more is open; AllocError.
+    pub(crate) fn begin(&mut self, opened: Opened) -> Result<(), AllocError>
+        ensures { OnOk result (self.new ≡ opened ∷ self.old) }
     {
-        self.opened.push(opened)?;
-        Ok(())
+        self.opened.push(opened)
     }
 
     /// What was opened last is closed.
@@ -52,19 +48,17 @@ impl Enclosing {
         let _closed = self.opened.pop();
     }
 
-    /// Adds what closes all that is open, the last first; OutOfMemory.
-    pub(crate) fn close_all(&self, code: &mut Builder) -> Result<(), Error>
-        ensures ok { OnOk result (code.new ≡ with_all (close_each self.now) code.old) }
-        ensures err { IfErr result (λ e. e ≡ OutOfMemory ∷ []) }
+    /// Adds what closes all that is open, the last first; AllocError.
+    pub(crate) fn close_all(&self, code: &mut Builder) -> Result<(), AllocError>
+        ensures { OnOk result (code.new ≡ with_all (close_each self.now) code.old) }
     {
         push_closed(code, self.opened.as_slice())
     }
 }
 
-/// Adds what closes each of these, the last first; OutOfMemory.
-fn push_closed(code: &mut Builder, opened: &[Opened]) -> Result<(), Error>
-    ensures ok { OnOk result (code.new ≡ with_all (close_each (reverse opened.now)) code.old) }
-    ensures err { IfErr result (λ e. e ≡ OutOfMemory ∷ []) }
+/// Adds what closes each of these, the last first; AllocError.
+fn push_closed(code: &mut Builder, opened: &[Opened]) -> Result<(), AllocError>
+    ensures { OnOk result (code.new ≡ with_all (close_each (reverse opened.now)) code.old) }
 {
     let mut left = opened.len();
     while left > 0 {
@@ -74,10 +68,9 @@ fn push_closed(code: &mut Builder, opened: &[Opened]) -> Result<(), Error>
     Ok(())
 }
 
-/// Adds what closes something; OutOfMemory.
-fn push_close(code: &mut Builder, opened: Opened) -> Result<(), Error>
-    ensures ok { OnOk result (code.new ≡ with_all (close opened) code.old) }
-    ensures err { IfErr result (λ e. e ≡ OutOfMemory ∷ []) }
+/// Adds what closes something; AllocError.
+fn push_close(code: &mut Builder, opened: Opened) -> Result<(), AllocError>
+    ensures { OnOk result (code.new ≡ with_all (close opened) code.old) }
 {
     match opened {
         Opened::Scope => code.emit(Instruction::PopFrame),

@@ -1,8 +1,9 @@
 //! The code of expressions.
 #![tactic(auto, using(crate::proofs::PutExpressions::expressions))]
 
-ghost use Rattle.std.specs.Prelude.{◌≡◌, ◌++◌, ◌+◌, [], ◌∷◌, OnOk, IfOk, IfErr, reverse};
-ghost use Rattle.tm_generator.specs.Building.{put, asked, kept, answered};
+ghost use Rattle.std.specs.Prelude.{◌≡◌, ◌++◌, OnOk, IfOk, Some, false, reverse};
+ghost use Rattle.tm_generator.specs.Building.{put, asked, kept, answered, with_one};
+ghost use Rattle.tm_values.specs.Val.{text};
 ghost use Rattle.tm_syntax.specs.Code.{unary_code, binary_code, application_code, expr_code};
 ghost use Rattle.tm_syntax.specs.Code.{exprs_code, pairs_code};
 ghost use Rattle.tm_generator.specs.Opened.{listing_code, lists_of, maps_of, no_end, open_code};
@@ -12,44 +13,38 @@ ghost use Rattle.tm_syntax.specs.Code.{passing_code, passed_count, row_end};
 ghost use Rattle.tm_syntax.specs.Code.{filters_code, step_code, steps_code, row_code, links_code};
 ghost use Rattle.tm_syntax.specs.Fragments.{straight, over};
 ghost use Rattle.tm_syntax.specs.declared.tree.Argument.TheBlock.{hidden-the_row-Expr-1 as exprs};
-ghost use Rattle.tm_syntax.specs.declared.tree.Expr.TheVariants.{SelfBlock};
+ghost use Rattle.tm_syntax.specs.declared.instruction.Instruction.TheVariants.{BuildList, BuildMap};
+ghost use Rattle.tm_syntax.specs.declared.instruction.Instruction.TheVariants.{BuildTuple, GetAttr};
+ghost use Rattle.tm_syntax.specs.declared.instruction.Instruction.TheVariants.{GetItem, LoadConst};
+ghost use Rattle.tm_syntax.specs.declared.instruction.Instruction.TheVariants.{Lookup, Slice};
+ghost use Rattle.tm_syntax.specs.declared.tree.Expr.TheVariants.{Call, Conditional, SelfBlock};
+ghost use Rattle.tm_syntax.specs.declared.tree.Step.TheVariants.{Apply, Call as Called};
 ghost use Rattle.tm_syntax.specs.declared.tree.Argument.TheBlock.{hidden-the_row-Pair-2 as pairs};
 ghost use Rattle.tm_syntax.specs.declared.tree.Argument.TheBlock.{hidden-the_row-Argument-3 as arguments};
 ghost use Rattle.tm_syntax.specs.declared.tree.Argument.TheBlock.{hidden-the_row-Keyword-4 as keywords};
 ghost use Rattle.tm_syntax.specs.declared.tree.Argument.TheBlock.{hidden-the_row-Step-5 as steps};
 ghost use Rattle.tm_syntax.specs.declared.tree.Argument.TheBlock.{hidden-the_row-Comparison-7 as comparisons};
-ghost use Rattle.tm_values.specs.declared.error.ErrorKind.TheVariants.{OutOfMemory};
 
 use crate::builder::{Builder, Out};
 use crate::passing::{
     OpenCall, Rows, has_spread, has_spread_keyword, keywords_behind, lists_at, maps_at,
     push_list_of_row, push_map_of_row, row_behind, sum,
 };
-use sqlite_items::Items;
+use tm_items::Items;
+use std::alloc::AllocError;
 use tm_syntax::{
     Application, Argument, BinaryOperator, CaptureMode, Comparison, Condition, Expr, Instruction,
     JumpKind, Keyword, NO_CACHE, Name, Pair, Step, UnaryOperator,
 };
-use tm_values::{Error, Value};
+use tm_values::{SharedText, Value};
 
 // A frame has room for the locals of all that is inlined, so deep trees take less stack where the
 // rarer functions are not.
 
-/// The instruction of a prefix operator.
-fn unary(operator: UnaryOperator) -> Instruction
-    ensures { result ≡ unary_code operator }
-{
-    match operator {
-        UnaryOperator::Not => Instruction::Not,
-        UnaryOperator::Negate => Instruction::Neg,
-    }
-}
-
-/// Adds the code of an operator; OutOfMemory.
+/// Adds the code of an operator; AllocError.
 #[inline(never)]
-fn push_binary(code: &mut Builder, operator: BinaryOperator) -> Result<(), Error>
-    ensures ok { OnOk result (code.new ≡ put (straight (binary_code operator)) code.old) }
-    ensures err { IfErr result (λ e. e ≡ OutOfMemory ∷ []) }
+fn push_binary(code: &mut Builder, operator: BinaryOperator) -> Result<(), AllocError>
+    ensures { OnOk result (code.new ≡ put (straight (binary_code operator)) code.old) }
 {
     let instruction = match operator {
         BinaryOperator::Equal => Instruction::Eq,
@@ -75,17 +70,16 @@ fn push_binary(code: &mut Builder, operator: BinaryOperator) -> Result<(), Error
     code.emit(instruction)
 }
 
-/// Adds the code that passes so many values to what a name stands for; OutOfMemory.
+/// Adds the code that passes so many values to what a name stands for; AllocError.
 #[inline(never)]
 pub(crate) fn push_application(
     code: &mut Builder,
     application: Application,
     name: &Name,
     count: Option<usize>,
-) -> Result<(), Error>
-    ensures ok { OnOk result
+) -> Result<(), AllocError>
+    ensures { OnOk result
         (code.new ≡ put (straight (application_code application name.now count)) code.old) }
-    ensures err { IfErr result (λ e. e ≡ OutOfMemory ∷ []) }
 {
     let instruction = match application {
         Application::Method => Instruction::CallMethod(name.share()?, count),
@@ -99,67 +93,164 @@ pub(crate) fn push_application(
     code.emit(instruction)
 }
 
-/// Adds the code that captures what a block writes; OutOfMemory.
+/// Adds the code of a literal; AllocError.
 #[inline(never)]
-fn push_self_block(code: &mut Builder, name: &Name) -> Result<(), Error>
-    ensures ok { OnOk result (code.new ≡ put (expr_code (SelfBlock name.now)) code.old) }
-    ensures err { IfErr result (λ e. e ≡ OutOfMemory ∷ []) }
+fn push_const(code: &mut Builder, value: &Value) -> Result<(), AllocError>
+    ensures { OnOk result (code.new ≡ with_one (LoadConst value.now) code.old) }
+{
+    match value.share() {
+        Ok(value) => code.emit(Instruction::LoadConst(value)),
+        Err(_) => Err(AllocError),
+    }
+}
+
+/// Adds the code of a name as a text; AllocError.
+#[inline(never)]
+pub(crate) fn push_text(code: &mut Builder, name: &Name) -> Result<(), AllocError>
+    ensures { OnOk result (code.new ≡ with_one (LoadConst (text name.now false)) code.old) }
+{
+    let content = SharedText::from_str(code.alloc(), name.as_str())?;
+    code.emit(Instruction::LoadConst(Value::shared_text(content, false)))
+}
+
+/// Adds the code that captures what a block writes; AllocError.
+#[inline(never)]
+fn push_self_block(code: &mut Builder, name: &Name) -> Result<(), AllocError>
+    ensures { OnOk result (code.new ≡ put (expr_code (SelfBlock name.now)) code.old) }
 {
     code.emit(Instruction::BeginCapture(CaptureMode::Capture))?;
     code.emit(Instruction::CallBlock(name.share()?))?;
     code.emit(Instruction::EndCapture)
 }
 
-/// Adds the code of an expression; OutOfMemory.
+/// Adds the code of a name; AllocError.
+#[inline(never)]
+fn push_lookup(code: &mut Builder, name: &Name) -> Result<(), AllocError>
+    ensures { OnOk result (code.new ≡ with_one (Lookup name.now) code.old) }
+{
+    code.emit(Instruction::Lookup(name.share()?))
+}
+
+/// Adds what makes a list of so many values; AllocError.
+#[inline(never)]
+fn push_list_end(code: &mut Builder, count: usize) -> Result<(), AllocError>
+    ensures { OnOk result (code.new ≡ with_one (BuildList (Some count)) code.old) }
+{
+    code.emit(Instruction::BuildList(Some(count)))
+}
+
+/// Adds what makes a tuple of so many values; AllocError.
+#[inline(never)]
+fn push_tuple_end(code: &mut Builder, count: usize) -> Result<(), AllocError>
+    ensures { OnOk result (code.new ≡ with_one (BuildTuple count) code.old) }
+{
+    code.emit(Instruction::BuildTuple(count))
+}
+
+/// Adds what makes a map of so many pairs; AllocError.
+#[inline(never)]
+fn push_map_end(code: &mut Builder, count: usize) -> Result<(), AllocError>
+    ensures { OnOk result (code.new ≡ with_one (BuildMap count) code.old) }
+{
+    code.emit(Instruction::BuildMap(count))
+}
+
+/// Adds a prefix operator; AllocError.
+#[inline(never)]
+fn push_unary(code: &mut Builder, operator: UnaryOperator) -> Result<(), AllocError>
+    ensures { OnOk result (code.new ≡ with_one (unary_code operator) code.old) }
+{
+    let instruction = match operator {
+        UnaryOperator::Not => Instruction::Not,
+        UnaryOperator::Negate => Instruction::Neg,
+    };
+    code.emit(instruction)
+}
+
+/// Adds the attribute of a name; AllocError.
+#[inline(never)]
+fn push_attribute(code: &mut Builder, name: &Name) -> Result<(), AllocError>
+    ensures { OnOk result (code.new ≡ with_one (GetAttr name.now) code.old) }
+{
+    code.emit(Instruction::GetAttr(name.share()?))
+}
+
+/// Adds what takes the item at a key; AllocError.
+#[inline(never)]
+fn push_get_item(code: &mut Builder) -> Result<(), AllocError>
+    ensures { OnOk result (code.new ≡ with_one GetItem code.old) }
+{
+    code.emit(Instruction::GetItem)
+}
+
+/// Adds what takes a slice; AllocError.
+#[inline(never)]
+fn push_slice_end(code: &mut Builder) -> Result<(), AllocError>
+    ensures { OnOk result (code.new ≡ with_one Slice code.old) }
+{
+    code.emit(Instruction::Slice)
+}
+
+/// Adds the code of an expression; AllocError.
 #[cycle(expressions)]
-pub(crate) fn push_expr(code: &mut Builder, expr: &Expr) -> Result<(), Error>
-    ensures ok { OnOk result (code.new ≡ put (expr_code expr.now) code.old) }
-    ensures err { IfErr result (λ e. e ≡ OutOfMemory ∷ []) }
+pub(crate) fn push_expr(code: &mut Builder, expr: &Expr) -> Result<(), AllocError>
+    ensures { OnOk result (code.new ≡ put (expr_code expr.now) code.old) }
 {
     match expr {
-        Expr::Var(name) => code.emit(Instruction::Lookup(name.share()?)),
-        Expr::Const(value) => code.emit(Instruction::LoadConst(value.share()?)),
+        Expr::Var(name) => push_lookup(code, name),
+        Expr::Const(value) => push_const(code, value),
         Expr::List(items) => {
             push_exprs(code, items.as_slice())?;
-            code.emit(Instruction::BuildList(Some(items.len())))
+            push_list_end(code, items.len())
         }
         Expr::Tuple(items) => {
             push_exprs(code, items.as_slice())?;
-            code.emit(Instruction::BuildTuple(items.len()))
+            push_tuple_end(code, items.len())
         }
         Expr::Map(entries) => {
             push_pairs(code, entries.as_slice())?;
-            code.emit(Instruction::BuildMap(entries.len()))
+            push_map_end(code, entries.len())
         }
         Expr::Call(name, given, named) => {
-            let count = push_passed(code, 0, given.as_slice(), named.as_slice())?;
-            code.emit(Instruction::CallFunction(name.share()?, count))
+            push_call(code, name, given.as_slice(), named.as_slice())
         }
         Expr::SelfBlock(name) => push_self_block(code, name),
         Expr::Unary(operator, operand) => {
             push_expr(code, operand.get())?;
-            code.emit(unary(*operator))
+            push_unary(code, *operator)
         }
         Expr::Chain(first, after) => {
             push_expr(code, first.get())?;
             push_steps(code, after.as_slice())
         }
         Expr::Conditional(value, conditions) => {
-            let conditions = conditions.as_slice();
-            let mut outers = Items::new(code.alloc());
-            push_tests(code, conditions, &mut outers)?;
-            push_expr(code, value.get())?;
-            push_otherwise(code, conditions, outers)
+            push_conditional(code, value.get(), conditions.as_slice())
         }
     }
 }
 
-/// Adds the code of expressions; OutOfMemory.
+/// Adds the code of a value under conditions; AllocError.
 #[cycle(expressions)]
 #[inline(never)]
-fn push_exprs(code: &mut Builder, items: &[Expr]) -> Result<(), Error>
-    ensures ok { OnOk result (code.new ≡ put (exprs_code (exprs items.now)) code.old) }
-    ensures err { IfErr result (λ e. e ≡ OutOfMemory ∷ []) }
+fn push_conditional(
+    code: &mut Builder,
+    value: &Expr,
+    conditions: &[Condition],
+) -> Result<(), AllocError>
+    ensures { OnOk result
+        (code.new ≡ put (expr_code (Conditional value.now conditions.now)) code.old) }
+{
+    let mut outers = Items::new(code.alloc());
+    push_tests(code, conditions, &mut outers)?;
+    push_expr(code, value)?;
+    push_otherwise(code, conditions, outers)
+}
+
+/// Adds the code of expressions; AllocError.
+#[cycle(expressions)]
+#[inline(never)]
+fn push_exprs(code: &mut Builder, items: &[Expr]) -> Result<(), AllocError>
+    ensures { OnOk result (code.new ≡ put (exprs_code (exprs items.now)) code.old) }
 {
     for item in items {
         push_expr(code, item)?;
@@ -167,12 +258,11 @@ fn push_exprs(code: &mut Builder, items: &[Expr]) -> Result<(), Error>
     Ok(())
 }
 
-/// Adds the code of pairs; OutOfMemory.
+/// Adds the code of pairs; AllocError.
 #[cycle(expressions)]
 #[inline(never)]
-fn push_pairs(code: &mut Builder, entries: &[Pair]) -> Result<(), Error>
-    ensures ok { OnOk result (code.new ≡ put (pairs_code (pairs entries.now)) code.old) }
-    ensures err { IfErr result (λ e. e ≡ OutOfMemory ∷ []) }
+fn push_pairs(code: &mut Builder, entries: &[Pair]) -> Result<(), AllocError>
+    ensures { OnOk result (code.new ≡ put (pairs_code (pairs entries.now)) code.old) }
 {
     for entry in entries {
         push_expr(code, entry.key.get())?;
@@ -181,11 +271,10 @@ fn push_pairs(code: &mut Builder, entries: &[Pair]) -> Result<(), Error>
     Ok(())
 }
 
-/// Adds the code of an argument behind a row of so many, which a spread one ends; OutOfMemory.
+/// Adds the code of an argument behind a row of so many, which a spread one ends; AllocError.
 #[cycle(expressions)]
-fn push_listed(code: &mut Builder, row: usize, argument: &Argument) -> Result<(), Error>
-    ensures ok { OnOk result (code.new ≡ put (listed_code row argument.now) code.old) }
-    ensures err { IfErr result (λ e. e ≡ OutOfMemory ∷ []) }
+fn push_listed(code: &mut Builder, row: usize, argument: &Argument) -> Result<(), AllocError>
+    ensures { OnOk result (code.new ≡ put (listed_code row argument.now) code.old) }
 {
     match argument {
         Argument::Plain(expr) => push_expr(code, expr.get()),
@@ -197,14 +286,13 @@ fn push_listed(code: &mut Builder, row: usize, argument: &Argument) -> Result<()
 }
 
 /// Adds the code of arguments behind a row of so many, without that of the last row's end, and
-/// gives their rows; OutOfMemory.
+/// gives their rows; AllocError.
 #[cycle(expressions)]
 #[inline(never)]
-fn push_arguments(code: &mut Builder, before: usize, given: &[Argument]) -> Result<Rows, Error>
+fn push_arguments(code: &mut Builder, before: usize, given: &[Argument]) -> Result<Rows, AllocError>
     ensures ok { OnOk result
         (code.new ≡ put (listing_code before (arguments given.now)) code.old) }
     ensures rows { IfOk result (λ rows. rows ≡ lists_of before (arguments given.now)) }
-    ensures err { IfErr result (λ e. e ≡ OutOfMemory ∷ []) }
 {
     let mut pending = before;
     let mut ended = 0;
@@ -216,16 +304,14 @@ fn push_arguments(code: &mut Builder, before: usize, given: &[Argument]) -> Resu
     Ok(Rows { ended, pending })
 }
 
-/// Adds the code of a keyword behind a row of so many, which a spread one ends; OutOfMemory.
+/// Adds the code of a keyword behind a row of so many, which a spread one ends; AllocError.
 #[cycle(expressions)]
-fn push_keyword(code: &mut Builder, row: usize, keyword: &Keyword) -> Result<(), Error>
-    ensures ok { OnOk result (code.new ≡ put (keyword_code row keyword.now) code.old) }
-    ensures err { IfErr result (λ e. e ≡ OutOfMemory ∷ []) }
+fn push_keyword(code: &mut Builder, row: usize, keyword: &Keyword) -> Result<(), AllocError>
+    ensures { OnOk result (code.new ≡ put (keyword_code row keyword.now) code.old) }
 {
     match keyword {
         Keyword::Named(name, value) => {
-            let name = Value::text(code.alloc(), name.as_str())?;
-            code.emit(Instruction::LoadConst(name))?;
+            push_text(code, name)?;
             push_expr(code, value.get())
         }
         Keyword::Spread(value) => {
@@ -236,14 +322,13 @@ fn push_keyword(code: &mut Builder, row: usize, keyword: &Keyword) -> Result<(),
 }
 
 /// Adds the code of keywords, without that of the last row's end, and gives their rows;
-/// OutOfMemory.
+/// AllocError.
 #[cycle(expressions)]
 #[inline(never)]
-fn push_keywords(code: &mut Builder, named: &[Keyword]) -> Result<Rows, Error>
+fn push_keywords(code: &mut Builder, named: &[Keyword]) -> Result<Rows, AllocError>
     ensures ok { OnOk result
         (code.new ≡ put (keywords_code no_end 0 (keywords named.now)) code.old) }
     ensures rows { IfOk result (λ rows. rows ≡ maps_of 0 (keywords named.now)) }
-    ensures err { IfErr result (λ e. e ≡ OutOfMemory ∷ []) }
 {
     let mut pending = 0;
     let mut ended = 0;
@@ -256,7 +341,7 @@ fn push_keywords(code: &mut Builder, named: &[Keyword]) -> Result<Rows, Error>
 }
 
 /// Adds the code of what a call is passed, with so many values before the arguments, without that
-/// of the last rows' ends; OutOfMemory.
+/// of the last rows' ends; AllocError.
 #[cycle(expressions)]
 #[inline(never)]
 pub(crate) fn push_open(
@@ -264,12 +349,11 @@ pub(crate) fn push_open(
     before: usize,
     given: &[Argument],
     named: &[Keyword],
-) -> Result<OpenCall, Error>
+) -> Result<OpenCall, AllocError>
     ensures ok { OnOk result (code.new ≡
         put (open_code before (arguments given.now) (keywords named.now)) code.old) }
     ensures call { IfOk result (λ call. call ≡
         opened_call before (arguments given.now) (keywords named.now)) }
-    ensures err { IfErr result (λ e. e ≡ OutOfMemory ∷ []) }
 {
     let lists = push_arguments(code, before, given)?;
     let maps = push_keywords(code, named)?;
@@ -282,37 +366,83 @@ pub(crate) fn push_open(
 }
 
 /// Adds the code of what a call is passed, with so many values before the arguments. Gives how
-/// many values it is passed; none where their number is on top. OutOfMemory.
+/// many values it is passed; none where their number is on top. AllocError.
 #[cycle(expressions)]
 fn push_passed(
     code: &mut Builder,
     before: usize,
     given: &[Argument],
     named: &[Keyword],
-) -> Result<Option<usize>, Error>
+) -> Result<Option<usize>, AllocError>
     ensures ok { OnOk result (code.new ≡
         put (passing_code row_end before (arguments given.now) (keywords named.now)) code.old) }
     ensures count { IfOk result (λ count. count ≡
         passed_count row_end before (arguments given.now) (keywords named.now)) }
-    ensures err { IfErr result (λ e. e ≡ OutOfMemory ∷ []) }
 {
     let call = push_open(code, before, given, named)?;
     call.end(code)
 }
 
+/// Adds the code of the call of a name; AllocError.
+#[cycle(expressions)]
+#[inline(never)]
+fn push_call(
+    code: &mut Builder,
+    name: &Name,
+    given: &[Argument],
+    named: &[Keyword],
+) -> Result<(), AllocError>
+    ensures { OnOk result
+        (code.new ≡ put (expr_code (Call name.now given.now named.now)) code.old) }
+{
+    let count = push_passed(code, 0, given, named)?;
+    code.emit(Instruction::CallFunction(name.share()?, count))
+}
+
+/// Adds the code of a method, a filter or a test with its arguments; AllocError.
+#[cycle(expressions)]
+#[inline(never)]
+fn push_applied(
+    code: &mut Builder,
+    application: Application,
+    name: &Name,
+    given: &[Argument],
+    named: &[Keyword],
+) -> Result<(), AllocError>
+    ensures { OnOk result (code.new
+        ≡ put (step_code (Apply application name.now given.now named.now)) code.old) }
+{
+    let count = push_passed(code, 1, given, named)?;
+    push_application(code, application, name, count)
+}
+
+/// Adds the code of the call of a value; AllocError.
+#[cycle(expressions)]
+#[inline(never)]
+fn push_called(
+    code: &mut Builder,
+    given: &[Argument],
+    named: &[Keyword],
+) -> Result<(), AllocError>
+    ensures { OnOk result
+        (code.new ≡ put (step_code (Called given.now named.now)) code.old) }
+{
+    let count = push_passed(code, 1, given, named)?;
+    code.emit(Instruction::CallObject(count))
+}
+
 /// Adds the tests of conditions, the last first, each with a jump out of what comes after it. Adds
-/// to `outers` the jumps out of what is around each; OutOfMemory.
+/// to `outers` the jumps out of what is around each; AllocError.
 #[cycle(expressions)]
 #[inline(never)]
 fn push_tests(
     code: &mut Builder,
     conditions: &[Condition],
     outers: &mut Items<Items<Out>>,
-) -> Result<(), Error>
+) -> Result<(), AllocError>
     ensures ok { OnOk result (code.new ≡ asked conditions.now code.old) }
     ensures outers { OnOk result
         (outers.new ≡ outers.old ++ reverse (kept conditions.now code.old)) }
-    ensures err { IfErr result (λ e. e ≡ OutOfMemory ∷ []) }
 {
     let mut left = conditions.len();
     while left > 0 {
@@ -325,16 +455,15 @@ fn push_tests(
 }
 
 /// Adds what stands for a value where its conditions are false, the first first. Takes from
-/// `outers` the jumps out of what is around each; OutOfMemory.
+/// `outers` the jumps out of what is around each; AllocError.
 #[cycle(expressions)]
 #[inline(never)]
 fn push_otherwise(
     code: &mut Builder,
     conditions: &[Condition],
     mut outers: Items<Items<Out>>,
-) -> Result<(), Error>
-    ensures ok { OnOk result (code.new ≡ answered (reverse outers) conditions.now code.old) }
-    ensures err { IfErr result (λ e. e ≡ OutOfMemory ∷ []) }
+) -> Result<(), AllocError>
+    ensures { OnOk result (code.new ≡ answered (reverse outers) conditions.now code.old) }
 {
     for condition in conditions {
         let Some(outer) = outers.pop() else {
@@ -347,32 +476,27 @@ fn push_otherwise(
     Ok(())
 }
 
-/// Adds the code of a step; OutOfMemory.
+/// Adds the code of a step; AllocError.
 #[cycle(expressions)]
 #[inline(never)]
-pub(crate) fn push_step(code: &mut Builder, step: &Step) -> Result<(), Error>
-    ensures ok { OnOk result (code.new ≡ put (step_code step.now) code.old) }
-    ensures err { IfErr result (λ e. e ≡ OutOfMemory ∷ []) }
+pub(crate) fn push_step(code: &mut Builder, step: &Step) -> Result<(), AllocError>
+    ensures { OnOk result (code.new ≡ put (step_code step.now) code.old) }
 {
     match step {
-        Step::Attribute(name) => code.emit(Instruction::GetAttr(name.share()?)),
+        Step::Attribute(name) => push_attribute(code, name),
         Step::Apply(application, name, given, named) => {
-            let count = push_passed(code, 1, given.as_slice(), named.as_slice())?;
-            push_application(code, *application, name, count)
+            push_applied(code, *application, name, given.as_slice(), named.as_slice())
         }
-        Step::Call(given, named) => {
-            let count = push_passed(code, 1, given.as_slice(), named.as_slice())?;
-            code.emit(Instruction::CallObject(count))
-        }
+        Step::Call(given, named) => push_called(code, given.as_slice(), named.as_slice()),
         Step::Item(key) => {
             push_expr(code, key.get())?;
-            code.emit(Instruction::GetItem)
+            push_get_item(code)
         }
         Step::Slice(start, stop, step) => {
             push_expr(code, start.get())?;
             push_expr(code, stop.get())?;
             push_expr(code, step.get())?;
-            code.emit(Instruction::Slice)
+            push_slice_end(code)
         }
         Step::Binary(operator, operand) => {
             push_expr(code, operand.get())?;
@@ -387,12 +511,11 @@ pub(crate) fn push_step(code: &mut Builder, step: &Step) -> Result<(), Error>
     }
 }
 
-/// Adds the code of an expression, and a jump over it; OutOfMemory.
+/// Adds the code of an expression, and a jump over it; AllocError.
 #[cycle(expressions)]
 #[inline(never)]
-fn push_over(code: &mut Builder, kind: JumpKind, expr: &Expr) -> Result<(), Error>
-    ensures ok { OnOk result (code.new ≡ put (over kind (expr_code expr.now)) code.old) }
-    ensures err { IfErr result (λ e. e ≡ OutOfMemory ∷ []) }
+fn push_over(code: &mut Builder, kind: JumpKind, expr: &Expr) -> Result<(), AllocError>
+    ensures { OnOk result (code.new ≡ put (over kind (expr_code expr.now)) code.old) }
 {
     let outer = code.begin();
     code.jump_out(kind)?;
@@ -401,16 +524,15 @@ fn push_over(code: &mut Builder, kind: JumpKind, expr: &Expr) -> Result<(), Erro
     Ok(())
 }
 
-/// Adds the code of a comparison and those after it; OutOfMemory.
+/// Adds the code of a comparison and those after it; AllocError.
 #[cycle(expressions)]
 #[inline(never)]
 fn push_comparisons(
     code: &mut Builder,
     operator: BinaryOperator,
     after: &[Comparison],
-) -> Result<(), Error>
-    ensures ok { OnOk result (code.new ≡ put (row_code operator (comparisons after.now)) code.old) }
-    ensures err { IfErr result (λ e. e ≡ OutOfMemory ∷ []) }
+) -> Result<(), AllocError>
+    ensures { OnOk result (code.new ≡ put (row_code operator (comparisons after.now)) code.old) }
 {
     let outer = code.begin();
     push_links(code, operator, after)?;
@@ -421,11 +543,10 @@ fn push_comparisons(
     Ok(())
 }
 
-/// Adds comparisons, out of each of which but the last a jump leads; OutOfMemory.
+/// Adds comparisons, out of each of which but the last a jump leads; AllocError.
 #[cycle(expressions)]
-fn push_links(code: &mut Builder, first: BinaryOperator, after: &[Comparison]) -> Result<(), Error>
-    ensures ok { OnOk result (code.new ≡ put (links_code first (comparisons after.now)) code.old) }
-    ensures err { IfErr result (λ e. e ≡ OutOfMemory ∷ []) }
+fn push_links(code: &mut Builder, first: BinaryOperator, after: &[Comparison]) -> Result<(), AllocError>
+    ensures { OnOk result (code.new ≡ put (links_code first (comparisons after.now)) code.old) }
 {
     let mut operator = first;
     for comparison in after {
@@ -437,11 +558,10 @@ fn push_links(code: &mut Builder, first: BinaryOperator, after: &[Comparison]) -
     push_binary(code, operator)
 }
 
-/// Adds the code of steps; OutOfMemory.
+/// Adds the code of steps; AllocError.
 #[cycle(expressions)]
-pub(crate) fn push_steps(code: &mut Builder, after: &[Step]) -> Result<(), Error>
-    ensures ok { OnOk result (code.new ≡ put (steps_code (steps after.now)) code.old) }
-    ensures err { IfErr result (λ e. e ≡ OutOfMemory ∷ []) }
+pub(crate) fn push_steps(code: &mut Builder, after: &[Step]) -> Result<(), AllocError>
+    ensures { OnOk result (code.new ≡ put (steps_code (steps after.now)) code.old) }
 {
     for step in after {
         push_step(code, step)?;
@@ -449,10 +569,9 @@ pub(crate) fn push_steps(code: &mut Builder, after: &[Step]) -> Result<(), Error
     Ok(())
 }
 
-/// Adds the code of filters of the topmost value, from the left; OutOfMemory.
-pub(crate) fn push_filters(code: &mut Builder, filters: &[Step]) -> Result<(), Error>
-    ensures ok { OnOk result (code.new ≡ put (filters_code filters.now) code.old) }
-    ensures err { IfErr result (λ e. e ≡ OutOfMemory ∷ []) }
+/// Adds the code of filters of the topmost value, from the left; AllocError.
+pub(crate) fn push_filters(code: &mut Builder, filters: &[Step]) -> Result<(), AllocError>
+    ensures { OnOk result (code.new ≡ put (filters_code filters.now) code.old) }
 {
     for filter in filters {
         push_step(code, filter)?;

@@ -1,37 +1,34 @@
 //! The code of templates that are included, and of what is imported from them.
-ghost use Rattle.std.specs.Prelude.{◌≡◌, [], ◌∷◌, OnOk, IfErr};
+ghost use Rattle.std.specs.Prelude.{◌≡◌, [], ◌∷◌, OnOk};
 ghost use Rattle.tm_generator.specs.Building.{put};
 ghost use Rattle.tm_syntax.specs.Code.{included_code, lookups_code, statement_code, stores_code};
 ghost use Rattle.tm_syntax.specs.declared.tree.Stmt.TheVariants.{FromImport, Import, Include};
-ghost use Rattle.tm_values.specs.declared.error.ErrorKind.TheVariants.{OutOfMemory};
 
 use crate::builder::Builder;
 use crate::expressions::push_expr;
 use crate::targets::push_target;
+use std::alloc::AllocError;
 use tm_syntax::{AssignmentTarget, CaptureMode, Expr, Imported, Instruction};
-use tm_values::Error;
 
-/// Adds the code of an `include`; OutOfMemory.
+/// Adds the code of an `include`; AllocError.
 #[inline(never)]
-pub(crate) fn push_include(code: &mut Builder, template: &Expr, missing: bool) -> Result<(), Error>
-    ensures ok { OnOk result
+pub(crate) fn push_include(code: &mut Builder, template: &Expr, missing: bool) -> Result<(), AllocError>
+    ensures { OnOk result
         (code.new ≡ put (statement_code [] (Include template.now missing)) code.old) }
-    ensures err { IfErr result (λ e. e ≡ OutOfMemory ∷ []) }
 {
     push_expr(code, template)?;
     code.emit(Instruction::Include(missing))
 }
 
-/// Adds the code of an `import`; OutOfMemory.
+/// Adds the code of an `import`; AllocError.
 #[inline(never)]
 pub(crate) fn push_import(
     code: &mut Builder,
     template: &Expr,
     target: &AssignmentTarget,
-) -> Result<(), Error>
-    ensures ok { OnOk result
+) -> Result<(), AllocError>
+    ensures { OnOk result
         (code.new ≡ put (statement_code [] (Import template.now target.now)) code.old) }
-    ensures err { IfErr result (λ e. e ≡ OutOfMemory ∷ []) }
 {
     code.emit(Instruction::BeginCapture(CaptureMode::Capture))?;
     push_included(code, template)?;
@@ -41,16 +38,15 @@ pub(crate) fn push_import(
     push_target(code, target)
 }
 
-/// Adds the code of a `from`; OutOfMemory.
+/// Adds the code of a `from`; AllocError.
 #[inline(never)]
 pub(crate) fn push_from_import(
     code: &mut Builder,
     template: &Expr,
     imports: &[Imported],
-) -> Result<(), Error>
-    ensures ok { OnOk result
+) -> Result<(), AllocError>
+    ensures { OnOk result
         (code.new ≡ put (statement_code [] (FromImport template.now imports.now)) code.old) }
-    ensures err { IfErr result (λ e. e ≡ OutOfMemory ∷ []) }
 {
     code.emit(Instruction::BeginCapture(CaptureMode::Discard))?;
     push_included(code, template)?;
@@ -61,20 +57,18 @@ pub(crate) fn push_from_import(
     code.emit(Instruction::DiscardTop)
 }
 
-/// Adds the code that opens a scope and runs a template in it; OutOfMemory.
-fn push_included(code: &mut Builder, template: &Expr) -> Result<(), Error>
-    ensures ok { OnOk result (code.new ≡ put (included_code template.now) code.old) }
-    ensures err { IfErr result (λ e. e ≡ OutOfMemory ∷ []) }
+/// Adds the code that opens a scope and runs a template in it; AllocError.
+fn push_included(code: &mut Builder, template: &Expr) -> Result<(), AllocError>
+    ensures { OnOk result (code.new ≡ put (included_code template.now) code.old) }
 {
     code.emit(Instruction::PushWith)?;
     push_expr(code, template)?;
     code.emit(Instruction::Include(false))
 }
 
-/// Adds the code that looks up names which a template leaves; OutOfMemory.
-fn push_lookups(code: &mut Builder, imports: &[Imported]) -> Result<(), Error>
-    ensures ok { OnOk result (code.new ≡ put (lookups_code imports.now) code.old) }
-    ensures err { IfErr result (λ e. e ≡ OutOfMemory ∷ []) }
+/// Adds the code that looks up names which a template leaves; AllocError.
+fn push_lookups(code: &mut Builder, imports: &[Imported]) -> Result<(), AllocError>
+    ensures { OnOk result (code.new ≡ put (lookups_code imports.now) code.old) }
 {
     for imported in imports {
         code.emit(Instruction::Lookup(imported.name.share()?))?;
@@ -82,10 +76,9 @@ fn push_lookups(code: &mut Builder, imports: &[Imported]) -> Result<(), Error>
     Ok(())
 }
 
-/// Adds the code that gives their values to names, from the last to the first; OutOfMemory.
-fn push_stores(code: &mut Builder, imports: &[Imported]) -> Result<(), Error>
-    ensures ok { OnOk result (code.new ≡ put (stores_code imports.now) code.old) }
-    ensures err { IfErr result (λ e. e ≡ OutOfMemory ∷ []) }
+/// Adds the code that gives their values to names, from the last to the first; AllocError.
+fn push_stores(code: &mut Builder, imports: &[Imported]) -> Result<(), AllocError>
+    ensures { OnOk result (code.new ≡ put (stores_code imports.now) code.old) }
 {
     let mut left = imports.len();
     while left > 0 {

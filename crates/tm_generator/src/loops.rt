@@ -1,28 +1,27 @@
 //! The code of what loops go over.
-ghost use Rattle.std.specs.Prelude.{◌≡◌, [], ◌∷◌, OnOk, IfErr};
+ghost use Rattle.std.specs.Prelude.{◌≡◌, [], ◌∷◌, OnOk};
 ghost use Rattle.tm_generator.specs.Building.{put};
 ghost use Rattle.tm_syntax.specs.Code.{iterable_code, pass_round, take_item};
-ghost use Rattle.tm_values.specs.declared.error.ErrorKind.TheVariants.{OutOfMemory};
 
 use crate::builder::Builder;
 use crate::expressions::push_expr;
 use crate::targets::push_target;
-use sqlite_items::Boxed;
+use tm_items::Boxed;
+use std::alloc::AllocError;
 use tm_syntax::{AssignmentTarget, Expr, Instruction, JumpKind, LoopFlags};
-use tm_values::{Error, Value};
+use tm_values::Value;
 
 /// Adds the code of what a loop goes over: with a condition the items for which that is true. A
-/// loop of its own leaves these on the stack below their count; OutOfMemory.
+/// loop of its own leaves these on the stack below their count; AllocError.
 #[inline(never)]
 pub(crate) fn push_iterable(
     code: &mut Builder,
     target: &AssignmentTarget,
     iterable: &Expr,
     condition: &Option<Boxed<Expr>>,
-) -> Result<(), Error>
-    ensures ok { OnOk result
+) -> Result<(), AllocError>
+    ensures { OnOk result
         (code.new ≡ put (iterable_code target.now iterable.now condition.now) code.old) }
-    ensures err { IfErr result (λ e. e ≡ OutOfMemory ∷ []) }
 {
     let Some(condition) = condition else {
         return push_expr(code, iterable);
@@ -40,14 +39,13 @@ pub(crate) fn push_iterable(
     code.emit(Instruction::BuildList(None))
 }
 
-/// Adds the round that takes its item where a condition is true, and drops it else; OutOfMemory.
+/// Adds the round that takes its item where a condition is true, and drops it else; AllocError.
 fn push_pass_round(
     code: &mut Builder,
     target: &AssignmentTarget,
     condition: &Expr,
-) -> Result<(), Error>
-    ensures ok { OnOk result (code.new ≡ put (pass_round target.now condition.now) code.old) }
-    ensures err { IfErr result (λ e. e ≡ OutOfMemory ∷ []) }
+) -> Result<(), AllocError>
+    ensures { OnOk result (code.new ≡ put (pass_round target.now condition.now) code.old) }
 {
     code.emit(Instruction::DupTop)?;
     push_target(code, target)?;
@@ -57,10 +55,9 @@ fn push_pass_round(
 }
 
 /// Adds what takes an item where the topmost value is true: it stays below the count, which is one
-/// more then, and the next round begins; OutOfMemory.
-fn push_take_item(code: &mut Builder) -> Result<(), Error>
-    ensures ok { OnOk result (code.new ≡ put take_item code.old) }
-    ensures err { IfErr result (λ e. e ≡ OutOfMemory ∷ []) }
+/// more then, and the next round begins; AllocError.
+fn push_take_item(code: &mut Builder) -> Result<(), AllocError>
+    ensures { OnOk result (code.new ≡ put take_item code.old) }
 {
     let outer = code.begin();
     code.jump_out(JumpKind::IfFalse)?;

@@ -1,27 +1,25 @@
 //! The code around the bodies of macros.
-ghost use Rattle.std.specs.Prelude.{◌≡◌, [], ◌∷◌, OnOk, IfOk, IfErr, codes, false};
+ghost use Rattle.std.specs.Prelude.{◌≡◌, [], ◌∷◌, OnOk, IfOk, codes, false};
 ghost use Rattle.tm_generator.specs.Building.{put, put_building, with_one};
 ghost use Rattle.tm_syntax.specs.Code.{default_code, parameter_code, parameters_code};
 ghost use Rattle.tm_syntax.specs.Fragments.{name_list};
 ghost use Rattle.tm_syntax.specs.Names.{parameter_names};
 ghost use Rattle.tm_syntax.specs.declared.instruction.Instruction.TheVariants.{LoadConst};
 ghost use Rattle.tm_values.specs.Val.{text};
-ghost use Rattle.tm_values.specs.declared.error.ErrorKind.TheVariants.{OutOfMemory};
 
 use crate::builder::Builder;
-use crate::expressions::push_expr;
-use sqlite_items::Boxed;
-use std::alloc::Global;
+use crate::expressions::{push_expr, push_text};
+use tm_items::Boxed;
+use std::alloc::{AllocError, Global};
 use tm_names::MacroNames;
 use tm_syntax::{Expr, Instruction, JumpKind, Name, Parameter};
-use tm_values::{Error, Value};
+use tm_values::{SharedText, Value};
 
 /// Adds the code that binds the values of arguments to parameters, from the last to the first;
-/// OutOfMemory.
+/// AllocError.
 #[inline(never)]
-pub(crate) fn push_parameters(code: &mut Builder, parameters: &[Parameter]) -> Result<(), Error>
-    ensures ok { OnOk result (code.new ≡ put (parameters_code parameters.now) code.old) }
-    ensures err { IfErr result (λ e. e ≡ OutOfMemory ∷ []) }
+pub(crate) fn push_parameters(code: &mut Builder, parameters: &[Parameter]) -> Result<(), AllocError>
+    ensures { OnOk result (code.new ≡ put (parameters_code parameters.now) code.old) }
 {
     let mut left = parameters.len();
     while left > 0 {
@@ -31,19 +29,17 @@ pub(crate) fn push_parameters(code: &mut Builder, parameters: &[Parameter]) -> R
     Ok(())
 }
 
-/// Adds the code that binds the topmost value, or the default in its place; OutOfMemory.
-fn push_parameter(code: &mut Builder, parameter: &Parameter) -> Result<(), Error>
-    ensures ok { OnOk result (code.new ≡ put (parameter_code parameter.now) code.old) }
-    ensures err { IfErr result (λ e. e ≡ OutOfMemory ∷ []) }
+/// Adds the code that binds the topmost value, or the default in its place; AllocError.
+fn push_parameter(code: &mut Builder, parameter: &Parameter) -> Result<(), AllocError>
+    ensures { OnOk result (code.new ≡ put (parameter_code parameter.now) code.old) }
 {
     push_default(code, &parameter.default)?;
     code.emit(Instruction::StoreLocal(parameter.name.share()?))
 }
 
-/// Adds the code that puts a default in the place of an undefined value on top; OutOfMemory.
-fn push_default(code: &mut Builder, default: &Option<Boxed<Expr>>) -> Result<(), Error>
-    ensures ok { OnOk result (code.new ≡ put (default_code default.now) code.old) }
-    ensures err { IfErr result (λ e. e ≡ OutOfMemory ∷ []) }
+/// Adds the code that puts a default in the place of an undefined value on top; AllocError.
+fn push_default(code: &mut Builder, default: &Option<Boxed<Expr>>) -> Result<(), AllocError>
+    ensures { OnOk result (code.new ≡ put (default_code default.now) code.old) }
 {
     let Some(default) = default else {
         return Ok(());
@@ -59,7 +55,7 @@ fn push_default(code: &mut Builder, default: &Option<Boxed<Expr>>) -> Result<(),
 }
 
 /// Adds the code of a closure with the names that a macro reads, and of the macro, which is entered
-/// at a place; OutOfMemory.
+/// at a place; AllocError.
 #[inline(never)]
 pub(crate) fn push_building(
     code: &mut Builder,
@@ -67,10 +63,9 @@ pub(crate) fn push_building(
     parameters: &[Parameter],
     names: &MacroNames,
     entry: usize,
-) -> Result<(), Error>
-    ensures ok { OnOk result
+) -> Result<(), AllocError>
+    ensures { OnOk result
         (code.new ≡ put_building name.now parameters.now names.now entry code.old) }
-    ensures err { IfErr result (λ e. e ≡ OutOfMemory ∷ []) }
 {
     for free in names.free.as_slice() {
         code.emit(Instruction::Enclose(free.share()?))?;
@@ -81,27 +76,28 @@ pub(crate) fn push_building(
     code.emit(Instruction::BuildMacro(name.share()?, entry, names.takes_caller))
 }
 
-/// Adds the code of the keyword `caller`, and gives that name; OutOfMemory.
-pub(crate) fn push_caller(code: &mut Builder) -> Result<Name, Error>
+/// Adds the code of the keyword `caller`, and gives that name; AllocError.
+pub(crate) fn push_caller(code: &mut Builder) -> Result<Name, AllocError>
     ensures ok { OnOk result
         (code.new ≡ with_one (LoadConst (text (codes "caller") false)) code.old) }
     ensures name { IfOk result (λ name. name ≡ codes "caller") }
-    ensures err { IfErr result (λ e. e ≡ OutOfMemory ∷ []) }
 {
     let name = Name::new(code.alloc(), "caller")?;
-    let keyword = Value::text(code.alloc(), name.as_str())?;
-    code.emit(Instruction::LoadConst(keyword))?;
+    push_text(code, &name)?;
     Ok(name)
 }
 
-/// The names of parameters as a list of texts; OutOfMemory.
-fn names_of(alloc: Global, parameters: &[Parameter]) -> Result<Value, Error>
-    ensures ok { IfOk result (λ names. names ≡ name_list (parameter_names parameters.now)) }
-    ensures err { IfErr result (λ e. e ≡ OutOfMemory ∷ []) }
+/// The names of parameters as a list of texts; AllocError.
+fn names_of(alloc: Global, parameters: &[Parameter]) -> Result<Value, AllocError>
+    ensures { IfOk result (λ names. names ≡ name_list (parameter_names parameters.now)) }
 {
     let mut names = Vec::new(alloc);
     for parameter in parameters {
-        names.push(Value::text(alloc, parameter.name.as_str())?)?;
+        let name = SharedText::from_str(alloc, parameter.name.as_str())?;
+        names.push(Value::shared_text(name, false))?;
     }
-    Value::list(alloc, names)
+    match Value::list(alloc, names) {
+        Ok(names) => Ok(names),
+        Err(_) => Err(AllocError),
+    }
 }

@@ -1,5 +1,5 @@
 //! How many values a call is passed, and how they lie in rows.
-ghost use Rattle.std.specs.Prelude.{◌≡◌, ◌+◌, [], ◌∷◌, OnOk, IfOk, IfErr};
+ghost use Rattle.std.specs.Prelude.{◌≡◌, ◌+◌, [], ◌∷◌, OnOk, IfOk};
 ghost use Rattle.tm_generator.specs.Building.{put};
 ghost use Rattle.tm_generator.specs.Opened.{called_with_none, ending, ending_count, unpacked_code};
 ghost use Rattle.tm_generator.specs.Opened.{with_name};
@@ -9,11 +9,10 @@ ghost use Rattle.tm_syntax.specs.Code.{row_end};
 ghost use Rattle.tm_syntax.specs.Fragments.{straight};
 ghost use Rattle.tm_syntax.specs.declared.tree.Argument.TheBlock.{hidden-the_row-Argument-3 as arguments};
 ghost use Rattle.tm_syntax.specs.declared.tree.Argument.TheBlock.{hidden-the_row-Keyword-4 as keywords};
-ghost use Rattle.tm_values.specs.declared.error.ErrorKind.TheVariants.{OutOfMemory};
 
 use crate::builder::Builder;
+use std::alloc::AllocError;
 use tm_syntax::{Argument, Instruction, Keyword};
-use tm_values::{Error, ErrorKind};
 
 /// Values in rows.
 #[derive(Clone, Copy)]
@@ -56,22 +55,20 @@ impl OpenCall {
         }
     }
 
-    /// Counts one keyword more; OutOfMemory where there is no such number.
-    pub(crate) fn add_name(&mut self) -> Result<(), Error>
-        ensures ok { OnOk result (self.new ≡ with_name self.old) }
-        ensures err { IfErr result (λ e. e ≡ OutOfMemory ∷ []) }
+    /// Counts one keyword more; AllocError where there is no such number.
+    pub(crate) fn add_name(&mut self) -> Result<(), AllocError>
+        ensures { OnOk result (self.new ≡ with_name self.old) }
     {
         self.maps.pending = sum(self.maps.pending, 1)?;
         Ok(())
     }
 
     /// Adds the code of the ends of the last rows. Gives how many values the call is passed; none
-    /// where their number is on top. OutOfMemory.
+    /// where their number is on top. AllocError.
     #[inline(never)]
-    pub(crate) fn end(&self, code: &mut Builder) -> Result<Option<usize>, Error>
+    pub(crate) fn end(&self, code: &mut Builder) -> Result<Option<usize>, AllocError>
         ensures ok { OnOk result (code.new ≡ put (ending row_end self.now) code.old) }
         ensures count { IfOk result (λ count. count ≡ ending_count row_end self.now) }
-        ensures err { IfErr result (λ e. e ≡ OutOfMemory ∷ []) }
     {
         push_map_of_row(code, self.maps.pending)?;
         let maps = sum(self.maps.ended, rows_of(self.maps.pending))?;
@@ -82,11 +79,10 @@ impl OpenCall {
 }
 
 /// Adds the code that merges so many maps where one is spread, and gives how many values they are
-/// then; OutOfMemory.
-fn push_merged(code: &mut Builder, merges: bool, maps: usize) -> Result<usize, Error>
+/// then; AllocError.
+fn push_merged(code: &mut Builder, merges: bool, maps: usize) -> Result<usize, AllocError>
     ensures ok { OnOk result (code.new ≡ put (straight (merged_code merges maps)) code.old) }
     ensures count { IfOk result (λ count. count ≡ merged_count merges maps) }
-    ensures err { IfErr result (λ e. e ≡ OutOfMemory ∷ []) }
 {
     if !merges {
         return Ok(maps);
@@ -96,16 +92,15 @@ fn push_merged(code: &mut Builder, merges: bool, maps: usize) -> Result<usize, E
 }
 
 /// Adds the code that unpacks so many lists and the values behind them where one is spread, and
-/// gives how many values there are; none where their number is on top. OutOfMemory.
+/// gives how many values there are; none where their number is on top. AllocError.
 fn push_unpacked(
     code: &mut Builder,
     spreads: bool,
     lists: usize,
     values: usize,
-) -> Result<Option<usize>, Error>
+) -> Result<Option<usize>, AllocError>
     ensures ok { OnOk result (code.new ≡ put (unpacked_code spreads lists values) code.old) }
     ensures count { IfOk result (λ count. count ≡ count_by spreads values) }
-    ensures err { IfErr result (λ e. e ≡ OutOfMemory ∷ []) }
 {
     if !spreads {
         return Ok(Some(values));
@@ -116,14 +111,13 @@ fn push_unpacked(
     Ok(None)
 }
 
-/// The sum of two numbers; OutOfMemory where it is none.
-pub(crate) fn sum(one: usize, other: usize) -> Result<usize, Error>
-    ensures ok { IfOk result (λ n. n ≡ one + other) }
-    ensures err { IfErr result (λ e. e ≡ OutOfMemory ∷ []) }
+/// The sum of two numbers; AllocError where it is none.
+pub(crate) fn sum(one: usize, other: usize) -> Result<usize, AllocError>
+    ensures { IfOk result (λ n. n ≡ one + other) }
 {
     match one.checked_add(other) {
         Some(count) => Ok(count),
-        None => Err(Error::from(ErrorKind::OutOfMemory)),
+        None => Err(AllocError),
     }
 }
 
@@ -135,11 +129,10 @@ pub(crate) fn rows_of(count: usize) -> usize
     if count == 0 { 0 } else { 1 }
 }
 
-/// Adds the code of a row of so many that becomes a list, where there are any; OutOfMemory.
+/// Adds the code of a row of so many that becomes a list, where there are any; AllocError.
 #[tactic(auto, using(crate::proofs::Spreading::rows))]
-pub(crate) fn push_list_of_row(code: &mut Builder, count: usize) -> Result<(), Error>
-    ensures ok { OnOk result (code.new ≡ put (straight (list_of_row count)) code.old) }
-    ensures err { IfErr result (λ e. e ≡ OutOfMemory ∷ []) }
+pub(crate) fn push_list_of_row(code: &mut Builder, count: usize) -> Result<(), AllocError>
+    ensures { OnOk result (code.new ≡ put (straight (list_of_row count)) code.old) }
 {
     if count == 0 {
         return Ok(());
@@ -148,11 +141,10 @@ pub(crate) fn push_list_of_row(code: &mut Builder, count: usize) -> Result<(), E
 }
 
 /// Adds the code of a row of so many names with their values that becomes a map, where there are
-/// any; OutOfMemory.
+/// any; AllocError.
 #[tactic(auto, using(crate::proofs::Spreading::rows))]
-pub(crate) fn push_map_of_row(code: &mut Builder, count: usize) -> Result<(), Error>
-    ensures ok { OnOk result (code.new ≡ put (straight (map_of_row count)) code.old) }
-    ensures err { IfErr result (λ e. e ≡ OutOfMemory ∷ []) }
+pub(crate) fn push_map_of_row(code: &mut Builder, count: usize) -> Result<(), AllocError>
+    ensures { OnOk result (code.new ≡ put (straight (map_of_row count)) code.old) }
 {
     if count == 0 {
         return Ok(());
@@ -182,10 +174,9 @@ pub(crate) fn has_spread(given: &[Argument]) -> bool
     false
 }
 
-/// How many values wait to be a list behind an argument, behind a row of so many; OutOfMemory.
-pub(crate) fn row_behind(row: usize, argument: &Argument) -> Result<usize, Error>
-    ensures ok { IfOk result (λ n. n ≡ code.row_behind row argument.now) }
-    ensures err { IfErr result (λ e. e ≡ OutOfMemory ∷ []) }
+/// How many values wait to be a list behind an argument, behind a row of so many; AllocError.
+pub(crate) fn row_behind(row: usize, argument: &Argument) -> Result<usize, AllocError>
+    ensures { IfOk result (λ n. n ≡ code.row_behind row argument.now) }
 {
     match argument {
         Argument::Plain(_) => sum(row, 1),
@@ -225,10 +216,9 @@ pub(crate) fn has_spread_keyword(named: &[Keyword]) -> bool
     false
 }
 
-/// How many names wait to be a map behind a keyword, behind a row of so many; OutOfMemory.
-pub(crate) fn keywords_behind(row: usize, keyword: &Keyword) -> Result<usize, Error>
-    ensures ok { IfOk result (λ n. n ≡ code.keywords_behind row keyword.now) }
-    ensures err { IfErr result (λ e. e ≡ OutOfMemory ∷ []) }
+/// How many names wait to be a map behind a keyword, behind a row of so many; AllocError.
+pub(crate) fn keywords_behind(row: usize, keyword: &Keyword) -> Result<usize, AllocError>
+    ensures { IfOk result (λ n. n ≡ code.keywords_behind row keyword.now) }
 {
     match keyword {
         Keyword::Named(_, _) => sum(row, 1),

@@ -1,5 +1,5 @@
 //! The code of statements.
-ghost use Rattle.std.specs.Prelude.{◌≡◌, [], ◌∷◌, OnOk, IfOk, IfErr};
+ghost use Rattle.std.specs.Prelude.{◌≡◌, [], ◌∷◌, OnOk, IfOk};
 ghost use Rattle.tm_generator.specs.Building.{macro_code, put_in, rounds};
 ghost use Rattle.tm_syntax.specs.Blocks.{blocks_of, blocks_in, body_of, found_block};
 ghost use Rattle.tm_syntax.specs.BlockCodes.{block_code, compiled_blocks};
@@ -12,7 +12,6 @@ ghost use Rattle.tm_syntax.specs.declared.tree.Stmt.TheBlock.{hidden-the_row-Stm
 ghost use Rattle.tm_syntax.specs.declared.tree.Stmt.TheVariants.{AutoEscape, Block, Break};
 ghost use Rattle.tm_syntax.specs.declared.tree.Stmt.TheVariants.{CallBlock as CallTag, CaptureBlock};
 ghost use Rattle.tm_syntax.specs.declared.tree.Stmt.TheVariants.{Continue, Do, Extends, For, If, Macro as Declare, With};
-ghost use Rattle.tm_values.specs.declared.error.ErrorKind.TheVariants.{OutOfMemory};
 
 use crate::builder::Builder;
 use crate::caches::number_caches;
@@ -23,15 +22,14 @@ use crate::imports::{push_from_import, push_import, push_include};
 use crate::loops::push_iterable;
 use crate::macros::{push_building, push_caller, push_parameters};
 use crate::targets::{push_assignments, push_set, push_target, push_use};
-use sqlite_items::Items;
-use std::alloc::Global;
+use tm_items::Items;
+use std::alloc::{AllocError, Global};
 use std::mem;
 use tm_names::macro_names;
 use tm_syntax::{
     Assignment, BlockCode, CallBlock, CaptureMode, CaptureUse, Code, Expr, ForLoop, Instruction,
     JumpKind, LoopFlags, Macro, Name, NameMap, Opened, Parameter, Step, Stmt,
 };
-use tm_values::Error;
 
 // A frame has room for the locals of all that is inlined, and clears them at its start: so what is
 // seldom is not.
@@ -43,18 +41,17 @@ pub(crate) struct StreamBuilder {
     enclosing: Enclosing,
 }
 
-/// Adds the code of a statement, and that of its blocks; OutOfMemory.
+/// Adds the code of a statement, and that of its blocks; AllocError.
 #[cycle(statements)]
 fn push_statement(
     stream: &mut StreamBuilder,
     blocks: &mut NameMap<BlockCode>,
     statement: &Stmt,
-) -> Result<(), Error>
+) -> Result<(), AllocError>
     ensures code { OnOk result
         (stream.new ≡ put_in (statement_code stream.old.enclosing statement.now) stream.old) }
     ensures blocks { OnOk result
         (blocks.new ≡ put_each (compiled_blocks (blocks_of statement.now)) blocks.old) }
-    ensures err { IfErr result (λ e. e ≡ OutOfMemory ∷ []) }
 {
     match statement {
         Stmt::EmitRaw(text) => stream.code.emit(Instruction::EmitRaw(text.share()?)),
@@ -97,51 +94,47 @@ fn push_statement(
     }
 }
 
-/// Adds the code of a `break`; OutOfMemory.
+/// Adds the code of a `break`; AllocError.
 #[inline(never)]
-fn push_break(stream: &mut StreamBuilder) -> Result<(), Error>
-    ensures code { OnOk result (stream.new ≡ put_in
+fn push_break(stream: &mut StreamBuilder) -> Result<(), AllocError>
+    ensures { OnOk result (stream.new ≡ put_in
         (statement_code stream.old.enclosing Break) stream.old) }
-    ensures err { IfErr result (λ e. e ≡ OutOfMemory ∷ []) }
 {
     stream.enclosing.close_all(&mut stream.code)?;
     stream.code.break_loop()
 }
 
-/// Adds the code of a `continue`; OutOfMemory.
+/// Adds the code of a `continue`; AllocError.
 #[inline(never)]
-fn push_continue(stream: &mut StreamBuilder) -> Result<(), Error>
-    ensures code { OnOk result (stream.new ≡ put_in
+fn push_continue(stream: &mut StreamBuilder) -> Result<(), AllocError>
+    ensures { OnOk result (stream.new ≡ put_in
         (statement_code stream.old.enclosing Continue) stream.old) }
-    ensures err { IfErr result (λ e. e ≡ OutOfMemory ∷ []) }
 {
     stream.enclosing.close_all(&mut stream.code)?;
     stream.code.next_round()
 }
 
-/// Adds the code of an `extends`; OutOfMemory.
+/// Adds the code of an `extends`; AllocError.
 #[inline(never)]
-fn push_extends(stream: &mut StreamBuilder, parent: &Expr) -> Result<(), Error>
-    ensures code { OnOk result (stream.new ≡ put_in
+fn push_extends(stream: &mut StreamBuilder, parent: &Expr) -> Result<(), AllocError>
+    ensures { OnOk result (stream.new ≡ put_in
         (statement_code stream.old.enclosing (Extends parent.now)) stream.old) }
-    ensures err { IfErr result (λ e. e ≡ OutOfMemory ∷ []) }
 {
     push_expr(&mut stream.code, parent)?;
     stream.code.emit(Instruction::LoadBlocks)
 }
 
-/// Adds the code of a `do`; OutOfMemory.
+/// Adds the code of a `do`; AllocError.
 #[inline(never)]
-fn push_do(stream: &mut StreamBuilder, call: &Expr) -> Result<(), Error>
-    ensures code { OnOk result (stream.new ≡ put_in
+fn push_do(stream: &mut StreamBuilder, call: &Expr) -> Result<(), AllocError>
+    ensures { OnOk result (stream.new ≡ put_in
         (statement_code stream.old.enclosing (Do call.now)) stream.old) }
-    ensures err { IfErr result (λ e. e ≡ OutOfMemory ∷ []) }
 {
     push_expr(&mut stream.code, call)?;
     stream.code.emit(Instruction::DiscardTop)
 }
 
-/// Adds the call of a block, and the block's own stream, like that of a statement; OutOfMemory.
+/// Adds the call of a block, and the block's own stream, like that of a statement; AllocError.
 #[cycle(statements)]
 #[inline(never)]
 fn push_call_of_block(
@@ -150,18 +143,17 @@ fn push_call_of_block(
     name: &Name,
     required: bool,
     body: &[Stmt],
-) -> Result<(), Error>
+) -> Result<(), AllocError>
     ensures code { OnOk result (stream.new ≡ put_in
         (statement_code stream.old.enclosing (Block name.now required body.now)) stream.old) }
     ensures blocks { OnOk result (blocks.new
         ≡ put_each (compiled_blocks (blocks_of (Block name.now required body.now))) blocks.old) }
-    ensures err { IfErr result (λ e. e ≡ OutOfMemory ∷ []) }
 {
     push_block(stream.code.alloc(), blocks, name, required, body)?;
     stream.code.emit(Instruction::CallBlock(name.share()?))
 }
 
-/// Adds the code of a set block or a filter block, like that of a statement; OutOfMemory.
+/// Adds the code of a set block or a filter block, like that of a statement; AllocError.
 #[cycle(statements)]
 #[inline(never)]
 fn push_capture(
@@ -170,12 +162,11 @@ fn push_capture(
     becomes: &CaptureUse,
     filters: &[Step],
     body: &[Stmt],
-) -> Result<(), Error>
+) -> Result<(), AllocError>
     ensures code { OnOk result (stream.new ≡ put_in (statement_code stream.old.enclosing
         (CaptureBlock becomes.now filters.now body.now)) stream.old) }
     ensures blocks { OnOk result (blocks.new ≡ put_each
         (compiled_blocks (blocks_of (CaptureBlock becomes.now filters.now body.now))) blocks.old) }
-    ensures err { IfErr result (λ e. e ≡ OutOfMemory ∷ []) }
 {
     let capture = Instruction::BeginCapture(CaptureMode::Capture);
     stream.code.emit(capture)?;
@@ -185,7 +176,7 @@ fn push_capture(
     push_use(&mut stream.code, becomes)
 }
 
-/// Adds the code of a `with`, like that of a statement; OutOfMemory.
+/// Adds the code of a `with`, like that of a statement; AllocError.
 #[cycle(statements)]
 #[inline(never)]
 fn push_with(
@@ -193,12 +184,11 @@ fn push_with(
     blocks: &mut NameMap<BlockCode>,
     given: &[Assignment],
     body: &[Stmt],
-) -> Result<(), Error>
+) -> Result<(), AllocError>
     ensures code { OnOk result (stream.new ≡ put_in
         (statement_code stream.old.enclosing (With given.now body.now)) stream.old) }
     ensures blocks { OnOk result
         (blocks.new ≡ put_each (compiled_blocks (blocks_of (With given.now body.now))) blocks.old) }
-    ensures err { IfErr result (λ e. e ≡ OutOfMemory ∷ []) }
 {
     stream.code.emit(Instruction::PushWith)?;
     push_assignments(&mut stream.code, given)?;
@@ -206,7 +196,7 @@ fn push_with(
     stream.code.emit(Instruction::PopFrame)
 }
 
-/// Adds the code of an `autoescape`, like that of a statement; OutOfMemory.
+/// Adds the code of an `autoescape`, like that of a statement; AllocError.
 #[cycle(statements)]
 #[inline(never)]
 fn push_escaped(
@@ -214,12 +204,11 @@ fn push_escaped(
     blocks: &mut NameMap<BlockCode>,
     value: &Expr,
     body: &[Stmt],
-) -> Result<(), Error>
+) -> Result<(), AllocError>
     ensures code { OnOk result (stream.new ≡ put_in
         (statement_code stream.old.enclosing (AutoEscape value.now body.now)) stream.old) }
     ensures blocks { OnOk result
         (blocks.new ≡ put_each (compiled_blocks (blocks_of (AutoEscape value.now body.now))) blocks.old) }
-    ensures err { IfErr result (λ e. e ≡ OutOfMemory ∷ []) }
 {
     push_expr(&mut stream.code, value)?;
     stream.code.emit(Instruction::PushAutoEscape)?;
@@ -227,7 +216,7 @@ fn push_escaped(
     stream.code.emit(Instruction::PopAutoEscape)
 }
 
-/// Adds the code of a condition and its bodies, like that of a statement; OutOfMemory.
+/// Adds the code of a condition and its bodies, like that of a statement; AllocError.
 #[cycle(statements)]
 #[inline(never)]
 fn push_if(
@@ -236,12 +225,11 @@ fn push_if(
     condition: &Expr,
     body: &[Stmt],
     other: &Option<Items<Stmt>>,
-) -> Result<(), Error>
+) -> Result<(), AllocError>
     ensures code { OnOk result (stream.new ≡ put_in
         (statement_code stream.old.enclosing (If condition.now body.now other.now)) stream.old) }
     ensures blocks { OnOk result (blocks.new
         ≡ put_each (compiled_blocks (blocks_of (If condition.now body.now other.now))) blocks.old) }
-    ensures err { IfErr result (λ e. e ≡ OutOfMemory ∷ []) }
 {
     push_expr(&mut stream.code, condition)?;
     let Some(other) = other else {
@@ -257,18 +245,17 @@ fn push_if(
 }
 
 /// Adds the code of statements that run where the topmost value is true, and that of their blocks;
-/// OutOfMemory.
+/// AllocError.
 #[cycle(statements)]
 fn push_if_true(
     stream: &mut StreamBuilder,
     blocks: &mut NameMap<BlockCode>,
     body: &[Stmt],
-) -> Result<(), Error>
+) -> Result<(), AllocError>
     ensures code { OnOk result (stream.new ≡ put_in
         (over IfFalse (statements_code stream.old.enclosing (statements body.now))) stream.old) }
     ensures blocks { OnOk result
         (blocks.new ≡ put_each (compiled_blocks (blocks_in (statements body.now))) blocks.old) }
-    ensures err { IfErr result (λ e. e ≡ OutOfMemory ∷ []) }
 {
     let outer = stream.code.begin();
     stream.code.jump_out(JumpKind::IfFalse)?;
@@ -277,19 +264,18 @@ fn push_if_true(
     Ok(())
 }
 
-/// Adds the code of a loop, like that of a statement; OutOfMemory.
+/// Adds the code of a loop, like that of a statement; AllocError.
 #[cycle(statements)]
 #[inline(never)]
 fn push_for(
     stream: &mut StreamBuilder,
     blocks: &mut NameMap<BlockCode>,
     for_loop: &ForLoop,
-) -> Result<(), Error>
+) -> Result<(), AllocError>
     ensures code { OnOk result (stream.new
         ≡ put_in (statement_code stream.old.enclosing (For for_loop.now)) stream.old) }
     ensures blocks { OnOk result
         (blocks.new ≡ put_each (compiled_blocks (blocks_of (For for_loop.now))) blocks.old) }
-    ensures err { IfErr result (λ e. e ≡ OutOfMemory ∷ []) }
 {
     let iterable = for_loop.iterable.get();
     push_iterable(
@@ -307,14 +293,14 @@ fn push_for(
     push_if_true(stream, blocks, other.as_slice())
 }
 
-/// Adds the code of a loop's rounds, and that of their blocks; OutOfMemory.
+/// Adds the code of a loop's rounds, and that of their blocks; AllocError.
 #[cycle(statements)]
 #[inline(never)]
 fn push_rounds(
     stream: &mut StreamBuilder,
     blocks: &mut NameMap<BlockCode>,
     for_loop: &ForLoop,
-) -> Result<(), Error>
+) -> Result<(), AllocError>
     ensures code { OnOk result (stream.new ≡ record stream.old {
       code = rounds (for_flags for_loop.now.recursive)
           (target_code for_loop.now.target ⨾ statements_code [] (statements for_loop.now.body))
@@ -322,7 +308,6 @@ fn push_rounds(
     }) }
     ensures blocks { OnOk result (blocks.new
         ≡ put_each (compiled_blocks (blocks_in (statements for_loop.now.body))) blocks.old) }
-    ensures err { IfErr result (λ e. e ≡ OutOfMemory ∷ []) }
 {
     let flags = LoopFlags {
         variable: true,
@@ -334,19 +319,18 @@ fn push_rounds(
     stream.code.end_rounds(outer)
 }
 
-/// Adds the code of a macro, like that of a statement; OutOfMemory.
+/// Adds the code of a macro, like that of a statement; AllocError.
 #[cycle(statements)]
 #[inline(never)]
 fn push_macro(
     stream: &mut StreamBuilder,
     blocks: &mut NameMap<BlockCode>,
     declared: &Macro,
-) -> Result<(), Error>
+) -> Result<(), AllocError>
     ensures code { OnOk result (stream.new
         ≡ put_in (statement_code stream.old.enclosing (Declare declared.now)) stream.old) }
     ensures blocks { OnOk result
         (blocks.new ≡ put_each (compiled_blocks (blocks_of (Declare declared.now))) blocks.old) }
-    ensures err { IfErr result (λ e. e ≡ OutOfMemory ∷ []) }
 {
     let parameters = declared.parameters.as_slice();
     push_declared(
@@ -360,19 +344,18 @@ fn push_macro(
     stream.code.emit(Instruction::StoreLocal(name))
 }
 
-/// Adds the code of a call that is emitted, like that of a statement; OutOfMemory.
+/// Adds the code of a call that is emitted, like that of a statement; AllocError.
 #[cycle(statements)]
 #[inline(never)]
 fn push_call_block(
     stream: &mut StreamBuilder,
     blocks: &mut NameMap<BlockCode>,
     tag: &CallBlock,
-) -> Result<(), Error>
+) -> Result<(), AllocError>
     ensures code { OnOk result (stream.new
         ≡ put_in (statement_code stream.old.enclosing (CallTag tag.now)) stream.old) }
     ensures blocks { OnOk result
         (blocks.new ≡ put_each (compiled_blocks (blocks_of (CallTag tag.now))) blocks.old) }
-    ensures err { IfErr result (λ e. e ≡ OutOfMemory ∷ []) }
 {
     let call = tag.call.get();
     let mut open = push_call_open(&mut stream.code, call)?;
@@ -384,7 +367,7 @@ fn push_call_block(
     stream.code.emit(Instruction::Emit)
 }
 
-/// Adds the code of the value of a macro, and that of the blocks in its body; OutOfMemory.
+/// Adds the code of the value of a macro, and that of the blocks in its body; AllocError.
 #[cycle(statements)]
 #[inline(never)]
 fn push_declared(
@@ -393,12 +376,11 @@ fn push_declared(
     name: &Name,
     parameters: &[Parameter],
     body: &[Stmt],
-) -> Result<(), Error>
+) -> Result<(), AllocError>
     ensures code { OnOk result (stream.new
         ≡ put_in (macro_code name.now parameters.now (statements body.now)) stream.old) }
     ensures blocks { OnOk result
         (blocks.new ≡ put_each (compiled_blocks (blocks_in (statements body.now))) blocks.old) }
-    ensures err { IfErr result (λ e. e ≡ OutOfMemory ∷ []) }
 {
     let names = macro_names(stream.code.alloc(), parameters, body)?;
     let around = stream.code.begin_body()?;
@@ -409,18 +391,17 @@ fn push_declared(
 }
 
 /// Adds the code of statements that see nothing of what is open around them, and that of their
-/// blocks; OutOfMemory.
+/// blocks; AllocError.
 #[cycle(statements)]
 fn push_alone(
     stream: &mut StreamBuilder,
     blocks: &mut NameMap<BlockCode>,
     body: &[Stmt],
-) -> Result<(), Error>
+) -> Result<(), AllocError>
     ensures code { OnOk result
         (stream.new ≡ put_in (statements_code [] (statements body.now)) stream.old) }
     ensures blocks { OnOk result
         (blocks.new ≡ put_each (compiled_blocks (blocks_in (statements body.now))) blocks.old) }
-    ensures err { IfErr result (λ e. e ≡ OutOfMemory ∷ []) }
 {
     let inner = Enclosing::new(stream.code.alloc());
     let enclosing = mem::replace(&mut stream.enclosing, inner);
@@ -430,7 +411,7 @@ fn push_alone(
 }
 
 /// Adds the code of statements within something that is open around them, and that of their blocks;
-/// OutOfMemory.
+/// AllocError.
 #[cycle(statements)]
 #[inline(never)]
 fn push_within(
@@ -438,12 +419,11 @@ fn push_within(
     blocks: &mut NameMap<BlockCode>,
     opened: Opened,
     body: &[Stmt],
-) -> Result<(), Error>
+) -> Result<(), AllocError>
     ensures code { OnOk result (stream.new ≡ put_in
         (statements_code (opened ∷ stream.old.enclosing) (statements body.now)) stream.old) }
     ensures blocks { OnOk result
         (blocks.new ≡ put_each (compiled_blocks (blocks_in (statements body.now))) blocks.old) }
-    ensures err { IfErr result (λ e. e ≡ OutOfMemory ∷ []) }
 {
     stream.enclosing.begin(opened)?;
     push_statements(stream, blocks, body)?;
@@ -451,18 +431,17 @@ fn push_within(
     Ok(())
 }
 
-/// Adds the code of statements, and that of their blocks; OutOfMemory.
+/// Adds the code of statements, and that of their blocks; AllocError.
 #[cycle(statements)]
 fn push_statements(
     stream: &mut StreamBuilder,
     blocks: &mut NameMap<BlockCode>,
     body: &[Stmt],
-) -> Result<(), Error>
+) -> Result<(), AllocError>
     ensures code { OnOk result (stream.new ≡ put_in
         (statements_code stream.old.enclosing (statements body.now)) stream.old) }
     ensures blocks { OnOk result
         (blocks.new ≡ put_each (compiled_blocks (blocks_in (statements body.now))) blocks.old) }
-    ensures err { IfErr result (λ e. e ≡ OutOfMemory ∷ []) }
 {
     for statement in body {
         push_statement(stream, blocks, statement)?;
@@ -470,7 +449,7 @@ fn push_statements(
     Ok(())
 }
 
-/// Adds a block's own stream to the blocks, after those of the blocks in it; OutOfMemory.
+/// Adds a block's own stream to the blocks, after those of the blocks in it; AllocError.
 #[cycle(statements)]
 #[inline(never)]
 fn push_block(
@@ -479,33 +458,30 @@ fn push_block(
     name: &Name,
     required: bool,
     body: &[Stmt],
-) -> Result<(), Error>
-    ensures blocks { OnOk result (blocks.new
+) -> Result<(), AllocError>
+    ensures { OnOk result (blocks.new
         ≡ put_named name.now (block_code (found_block required (body_of (statements body.now))))
         (put_each (compiled_blocks (blocks_in (statements body.now))) blocks.old)) }
-    ensures err { IfErr result (λ e. e ≡ OutOfMemory ∷ []) }
 {
     let code = stream(alloc, blocks, body)?;
     add_block(blocks, name, BlockCode { required, code })
 }
 
-/// Adds a block's own stream by the block's name; OutOfMemory.
+/// Adds a block's own stream by the block's name; AllocError.
 #[inline(never)]
-fn add_block(blocks: &mut NameMap<BlockCode>, name: &Name, block: BlockCode) -> Result<(), Error>
-    ensures blocks { OnOk result (blocks.new ≡ put_named name.now block blocks.old) }
-    ensures err { IfErr result (λ e. e ≡ OutOfMemory ∷ []) }
+fn add_block(blocks: &mut NameMap<BlockCode>, name: &Name, block: BlockCode) -> Result<(), AllocError>
+    ensures { OnOk result (blocks.new ≡ put_named name.now block blocks.old) }
 {
     blocks.insert(name.share()?, block)?;
     Ok(())
 }
 
-/// The code of statements on their own, and that of their blocks; OutOfMemory.
+/// The code of statements on their own, and that of their blocks; AllocError.
 #[cycle(statements)]
-pub fn stream(alloc: Global, blocks: &mut NameMap<BlockCode>, body: &[Stmt]) -> Result<Code, Error>
+pub fn stream(alloc: Global, blocks: &mut NameMap<BlockCode>, body: &[Stmt]) -> Result<Code, AllocError>
     ensures code { IfOk result (λ code. code ≡ stream_code (statements body.now)) }
     ensures blocks { OnOk result
         (blocks.new ≡ put_each (compiled_blocks (blocks_in (statements body.now))) blocks.old) }
-    ensures err { IfErr result (λ e. e ≡ OutOfMemory ∷ []) }
 {
     let mut stream = StreamBuilder {
         code: Builder::new(alloc),
@@ -515,5 +491,5 @@ pub fn stream(alloc: Global, blocks: &mut NameMap<BlockCode>, body: &[Stmt]) -> 
     let StreamBuilder { code, enclosing: _ } = stream;
     let mut instructions = code.finish();
     number_caches(alloc, &mut instructions)?;
-    Ok(Code::new(alloc, instructions)?)
+    Code::new(alloc, instructions)
 }

@@ -1,5 +1,5 @@
 //! How a call of an object of the caller ends.
-use sqlite_items::Items;
+use tm_items::Items;
 use tm_syntax::Name;
 use tm_values::{Error, Value};
 

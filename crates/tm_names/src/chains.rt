@@ -1,15 +1,13 @@
 //! Names with the attributes behind them.
 ghost use Rattle.std.specs.Option.{option_copied};
-ghost use Rattle.std.specs.Prelude.{◌≡◌, [], ◌∷◌, IfOk, IfErr, OnOk};
+ghost use Rattle.std.specs.Prelude.{◌≡◌, [], ◌∷◌, IfOk, OnOk};
 ghost use Rattle.std.specs.String.{string_bytes};
 ghost use Rattle.tm_syntax.specs.Names.{attribute_of, dot, dotted};
 ghost use Rattle.tm_syntax.specs.Names.{is_method, method_of, name_of, with_member};
 ghost use Rattle.tm_syntax.specs.declared.tree.Argument.TheBlock.{hidden-the_row-Step-5 as steps};
-ghost use Rattle.tm_values.specs.declared.error.ErrorKind.TheVariants.{OutOfMemory};
 
-use std::alloc::Global;
+use std::alloc::{AllocError, Global};
 use tm_syntax::{Application, Expr, Name, Step};
-use tm_values::Error;
 
 /// The name that an expression is; none of another expression.
 pub(crate) fn name_of(expr: &Expr) -> Option<&Name>
@@ -79,21 +77,18 @@ fn method_of(step: &Step) -> Option<&Name>
     }
 }
 
-/// Adds an attribute to a text; OutOfMemory.
-fn push_member(text: &mut String, member: &Name) -> Result<(), Error>
-    ensures ok { OnOk result (string_bytes text.new ≡ dot (string_bytes text.old) member.now) }
-    ensures err { IfErr result (λ e. e ≡ OutOfMemory ∷ []) }
+/// Adds an attribute to a text; AllocError.
+fn push_member(text: &mut String, member: &Name) -> Result<(), AllocError>
+    ensures { OnOk result (string_bytes text.new ≡ dot (string_bytes text.old) member.now) }
 {
     text.push_str(".")?;
-    text.push_str(member.as_str())?;
-    Ok(())
+    text.push_str(member.as_str())
 }
 
-/// Adds a method to a text; nothing of another step. OutOfMemory.
-fn push_last(text: &mut String, step: &Step) -> Result<(), Error>
-    ensures ok { OnOk result
+/// Adds a method to a text; nothing of another step. AllocError.
+fn push_last(text: &mut String, step: &Step) -> Result<(), AllocError>
+    ensures { OnOk result
         (string_bytes text.new ≡ with_member (method_of step.now) (string_bytes text.old)) }
-    ensures err { IfErr result (λ e. e ≡ OutOfMemory ∷ []) }
 {
     match method_of(step) {
         Some(member) => push_member(text, member),
@@ -102,10 +97,9 @@ fn push_last(text: &mut String, step: &Step) -> Result<(), Error>
 }
 
 /// A name with the attributes that stand first behind it, and a method directly behind these;
-/// OutOfMemory.
-pub(crate) fn dotted(alloc: Global, name: &Name, after: &[Step]) -> Result<String, Error>
-    ensures ok { IfOk result (λ text. string_bytes text ≡ dotted name.now (steps after.now)) }
-    ensures err { IfErr result (λ e. e ≡ OutOfMemory ∷ []) }
+/// AllocError.
+pub(crate) fn dotted(alloc: Global, name: &Name, after: &[Step]) -> Result<String, AllocError>
+    ensures { IfOk result (λ text. string_bytes text ≡ dotted name.now (steps after.now)) }
 {
     let mut text = String::from_str(alloc, name.as_str())?;
     for step in after {

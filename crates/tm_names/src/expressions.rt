@@ -1,5 +1,5 @@
 //! The names in expressions.
-ghost use Rattle.std.specs.Prelude.{◌≡◌, [], ◌∷◌, OnOk, IfErr};
+ghost use Rattle.std.specs.Prelude.{◌≡◌, [], ◌∷◌, OnOk};
 ghost use Rattle.tm_syntax.specs.Names.{name_of, read_chain, read_first, read_function};
 ghost use Rattle.tm_syntax.specs.Names.{walk_argument, walk_arguments, walk_comparisons};
 ghost use Rattle.tm_syntax.specs.Names.{walk_conditions, walk_expr, walk_exprs, walk_filters};
@@ -11,18 +11,16 @@ ghost use Rattle.tm_syntax.specs.declared.tree.Argument.TheBlock.{hidden-the_row
 ghost use Rattle.tm_syntax.specs.declared.tree.Argument.TheBlock.{hidden-the_row-Step-5 as steps};
 ghost use Rattle.tm_syntax.specs.declared.tree.Argument.TheBlock.{hidden-the_row-Condition-6 as conditions};
 ghost use Rattle.tm_syntax.specs.declared.tree.Argument.TheBlock.{hidden-the_row-Comparison-7 as comparisons};
-ghost use Rattle.tm_values.specs.declared.error.ErrorKind.TheVariants.{OutOfMemory};
 
 use crate::chains::{dotted, name_of};
 use crate::walker::Walker;
+use std::alloc::AllocError;
 use tm_syntax::{Argument, Comparison, Condition, Expr, Keyword, Name, Pair, Step};
-use tm_values::Error;
 
 impl Walker {
-    /// Reads the name that a call begins with; `super` is none. OutOfMemory.
-    fn read_function(&mut self, name: &Name) -> Result<(), Error>
-        ensures ok { OnOk result (self.new ≡ read_function name.now self.old) }
-        ensures err { IfErr result (λ e. e ≡ OutOfMemory ∷ []) }
+    /// Reads the name that a call begins with; `super` is none. AllocError.
+    fn read_function(&mut self, name: &Name) -> Result<(), AllocError>
+        ensures { OnOk result (self.new ≡ read_function name.now self.old) }
     {
         if name.is("super") {
             return Ok(());
@@ -30,11 +28,10 @@ impl Walker {
         self.read(name.as_str())
     }
 
-    /// Reads a name with steps behind it; OutOfMemory.
-    fn read_chain(&mut self, nested: bool, name: &Name, after: &[Step]) -> Result<(), Error>
-        ensures ok { OnOk result
+    /// Reads a name with steps behind it; AllocError.
+    fn read_chain(&mut self, nested: bool, name: &Name, after: &[Step]) -> Result<(), AllocError>
+        ensures { OnOk result
             (self.new ≡ read_chain nested name.now (steps after.now) self.old) }
-        ensures err { IfErr result (λ e. e ≡ OutOfMemory ∷ []) }
     {
         if nested {
             let text = dotted(self.alloc(), name, after)?;
@@ -43,11 +40,10 @@ impl Walker {
         self.read(name.as_str())
     }
 
-    /// Walks over an expression; OutOfMemory.
+    /// Walks over an expression; AllocError.
     #[cycle(expressions)]
-    pub(crate) fn walk_expr(&mut self, nested: bool, expr: &Expr) -> Result<(), Error>
-        ensures ok { OnOk result (self.new ≡ walk_expr nested expr.now self.old) }
-        ensures err { IfErr result (λ e. e ≡ OutOfMemory ∷ []) }
+    pub(crate) fn walk_expr(&mut self, nested: bool, expr: &Expr) -> Result<(), AllocError>
+        ensures { OnOk result (self.new ≡ walk_expr nested expr.now self.old) }
     {
         match expr {
             Expr::Var(name) => self.read(name.as_str()),
@@ -74,12 +70,11 @@ impl Walker {
         }
     }
 
-    /// Walks over what a chain begins with, of which these are the steps; OutOfMemory.
+    /// Walks over what a chain begins with, of which these are the steps; AllocError.
     #[cycle(expressions)]
-    fn walk_first(&mut self, nested: bool, first: &Expr, after: &[Step]) -> Result<(), Error>
-        ensures ok { OnOk result (self.new ≡ read_first nested (name_of first.now)
+    fn walk_first(&mut self, nested: bool, first: &Expr, after: &[Step]) -> Result<(), AllocError>
+        ensures { OnOk result (self.new ≡ read_first nested (name_of first.now)
             (steps after.now) self.old (walk_expr nested first.now self.old)) }
-        ensures err { IfErr result (λ e. e ≡ OutOfMemory ∷ []) }
     {
         match name_of(first) {
             Some(name) => self.read_chain(nested, name, after),
@@ -87,11 +82,10 @@ impl Walker {
         }
     }
 
-    /// Walks over expressions; OutOfMemory.
+    /// Walks over expressions; AllocError.
     #[cycle(expressions)]
-    fn walk_exprs(&mut self, nested: bool, items: &[Expr]) -> Result<(), Error>
-        ensures ok { OnOk result (self.new ≡ walk_exprs nested (exprs items.now) self.old) }
-        ensures err { IfErr result (λ e. e ≡ OutOfMemory ∷ []) }
+    fn walk_exprs(&mut self, nested: bool, items: &[Expr]) -> Result<(), AllocError>
+        ensures { OnOk result (self.new ≡ walk_exprs nested (exprs items.now) self.old) }
     {
         for item in items {
             self.walk_expr(nested, item)?;
@@ -99,11 +93,10 @@ impl Walker {
         Ok(())
     }
 
-    /// Walks over pairs; OutOfMemory.
+    /// Walks over pairs; AllocError.
     #[cycle(expressions)]
-    fn walk_pairs(&mut self, nested: bool, entries: &[Pair]) -> Result<(), Error>
-        ensures ok { OnOk result (self.new ≡ walk_pairs nested (pairs entries.now) self.old) }
-        ensures err { IfErr result (λ e. e ≡ OutOfMemory ∷ []) }
+    fn walk_pairs(&mut self, nested: bool, entries: &[Pair]) -> Result<(), AllocError>
+        ensures { OnOk result (self.new ≡ walk_pairs nested (pairs entries.now) self.old) }
     {
         for entry in entries {
             self.walk_expr(nested, entry.key.get())?;
@@ -112,11 +105,10 @@ impl Walker {
         Ok(())
     }
 
-    /// Walks over an argument; OutOfMemory.
+    /// Walks over an argument; AllocError.
     #[cycle(expressions)]
-    fn walk_argument(&mut self, nested: bool, argument: &Argument) -> Result<(), Error>
-        ensures ok { OnOk result (self.new ≡ walk_argument nested argument.now self.old) }
-        ensures err { IfErr result (λ e. e ≡ OutOfMemory ∷ []) }
+    fn walk_argument(&mut self, nested: bool, argument: &Argument) -> Result<(), AllocError>
+        ensures { OnOk result (self.new ≡ walk_argument nested argument.now self.old) }
     {
         match argument {
             Argument::Plain(value) => self.walk_expr(nested, value.get()),
@@ -124,12 +116,11 @@ impl Walker {
         }
     }
 
-    /// Walks over arguments by their places; OutOfMemory.
+    /// Walks over arguments by their places; AllocError.
     #[cycle(expressions)]
-    fn walk_arguments(&mut self, nested: bool, given: &[Argument]) -> Result<(), Error>
-        ensures ok { OnOk result
+    fn walk_arguments(&mut self, nested: bool, given: &[Argument]) -> Result<(), AllocError>
+        ensures { OnOk result
             (self.new ≡ walk_arguments nested (arguments given.now) self.old) }
-        ensures err { IfErr result (λ e. e ≡ OutOfMemory ∷ []) }
     {
         for argument in given {
             self.walk_argument(nested, argument)?;
@@ -137,11 +128,10 @@ impl Walker {
         Ok(())
     }
 
-    /// Walks over an argument by its name, which is not read; OutOfMemory.
+    /// Walks over an argument by its name, which is not read; AllocError.
     #[cycle(expressions)]
-    fn walk_keyword(&mut self, nested: bool, keyword: &Keyword) -> Result<(), Error>
-        ensures ok { OnOk result (self.new ≡ walk_keyword nested keyword.now self.old) }
-        ensures err { IfErr result (λ e. e ≡ OutOfMemory ∷ []) }
+    fn walk_keyword(&mut self, nested: bool, keyword: &Keyword) -> Result<(), AllocError>
+        ensures { OnOk result (self.new ≡ walk_keyword nested keyword.now self.old) }
     {
         match keyword {
             Keyword::Named(_, value) => self.walk_expr(nested, value.get()),
@@ -149,12 +139,11 @@ impl Walker {
         }
     }
 
-    /// Walks over arguments by their names; OutOfMemory.
+    /// Walks over arguments by their names; AllocError.
     #[cycle(expressions)]
-    fn walk_keywords(&mut self, nested: bool, named: &[Keyword]) -> Result<(), Error>
-        ensures ok { OnOk result
+    fn walk_keywords(&mut self, nested: bool, named: &[Keyword]) -> Result<(), AllocError>
+        ensures { OnOk result
             (self.new ≡ walk_keywords nested (keywords named.now) self.old) }
-        ensures err { IfErr result (λ e. e ≡ OutOfMemory ∷ []) }
     {
         for keyword in named {
             self.walk_keyword(nested, keyword)?;
@@ -162,12 +151,11 @@ impl Walker {
         Ok(())
     }
 
-    /// Walks over conditions, each with what stands for a value where it is false; OutOfMemory.
+    /// Walks over conditions, each with what stands for a value where it is false; AllocError.
     #[cycle(expressions)]
-    fn walk_conditions(&mut self, nested: bool, asked: &[Condition]) -> Result<(), Error>
-        ensures ok { OnOk result
+    fn walk_conditions(&mut self, nested: bool, asked: &[Condition]) -> Result<(), AllocError>
+        ensures { OnOk result
             (self.new ≡ walk_conditions nested (conditions asked.now) self.old) }
-        ensures err { IfErr result (λ e. e ≡ OutOfMemory ∷ []) }
     {
         for condition in asked {
             self.walk_expr(nested, condition.test.get())?;
@@ -176,11 +164,10 @@ impl Walker {
         Ok(())
     }
 
-    /// Walks over a step; OutOfMemory.
+    /// Walks over a step; AllocError.
     #[cycle(expressions)]
-    fn walk_step(&mut self, nested: bool, step: &Step) -> Result<(), Error>
-        ensures ok { OnOk result (self.new ≡ walk_step nested step.now self.old) }
-        ensures err { IfErr result (λ e. e ≡ OutOfMemory ∷ []) }
+    fn walk_step(&mut self, nested: bool, step: &Step) -> Result<(), AllocError>
+        ensures { OnOk result (self.new ≡ walk_step nested step.now self.old) }
     {
         match step {
             Step::Attribute(_) => Ok(()),
@@ -208,12 +195,11 @@ impl Walker {
         }
     }
 
-    /// Walks over comparisons; OutOfMemory.
+    /// Walks over comparisons; AllocError.
     #[cycle(expressions)]
-    fn walk_comparisons(&mut self, nested: bool, after: &[Comparison]) -> Result<(), Error>
-        ensures ok { OnOk result
+    fn walk_comparisons(&mut self, nested: bool, after: &[Comparison]) -> Result<(), AllocError>
+        ensures { OnOk result
             (self.new ≡ walk_comparisons nested (comparisons after.now) self.old) }
-        ensures err { IfErr result (λ e. e ≡ OutOfMemory ∷ []) }
     {
         for comparison in after {
             self.walk_expr(nested, comparison.right.get())?;
@@ -221,11 +207,10 @@ impl Walker {
         Ok(())
     }
 
-    /// Walks over steps; OutOfMemory.
+    /// Walks over steps; AllocError.
     #[cycle(expressions)]
-    fn walk_steps(&mut self, nested: bool, after: &[Step]) -> Result<(), Error>
-        ensures ok { OnOk result (self.new ≡ walk_steps nested (steps after.now) self.old) }
-        ensures err { IfErr result (λ e. e ≡ OutOfMemory ∷ []) }
+    fn walk_steps(&mut self, nested: bool, after: &[Step]) -> Result<(), AllocError>
+        ensures { OnOk result (self.new ≡ walk_steps nested (steps after.now) self.old) }
     {
         for step in after {
             self.walk_step(nested, step)?;
@@ -233,10 +218,9 @@ impl Walker {
         Ok(())
     }
 
-    /// Walks over the filters of a block; OutOfMemory.
-    pub(crate) fn walk_filters(&mut self, nested: bool, filters: &[Step]) -> Result<(), Error>
-        ensures ok { OnOk result (self.new ≡ walk_filters nested filters.now self.old) }
-        ensures err { IfErr result (λ e. e ≡ OutOfMemory ∷ []) }
+    /// Walks over the filters of a block; AllocError.
+    pub(crate) fn walk_filters(&mut self, nested: bool, filters: &[Step]) -> Result<(), AllocError>
+        ensures { OnOk result (self.new ≡ walk_filters nested filters.now self.old) }
     {
         for filter in filters {
             self.walk_step(nested, filter)?;

@@ -1,18 +1,16 @@
 //! The names of a macro.
 ghost use Rattle.std.specs.BTreeSet.{keys};
-ghost use Rattle.std.specs.Prelude.{◌≡◌, [], ◌∷◌, OnOk, IfOk, IfErr, codes, map};
+ghost use Rattle.std.specs.Prelude.{◌≡◌, [], ◌∷◌, OnOk, IfOk, codes, map};
 ghost use Rattle.std.specs.String.{string_bytes};
 ghost use Rattle.tm_syntax.specs.Names.{free_names, is_among, parameter_names, takes_caller};
 ghost use Rattle.tm_syntax.specs.Names.{walk_condition, walk_parameters, without};
 ghost use Rattle.tm_syntax.specs.declared.tree.Stmt.TheBlock.{hidden-the_row-Stmt-0 as statements};
-ghost use Rattle.tm_values.specs.declared.error.ErrorKind.TheVariants.{OutOfMemory};
 
 use crate::walker::Walker;
-use sqlite_items::{Boxed, Items};
-use std::alloc::Global;
+use tm_items::{Boxed, Items};
+use std::alloc::{AllocError, Global};
 use std::collections::BTreeSet;
 use tm_syntax::{Expr, Name, Parameter, Stmt};
-use tm_values::Error;
 
 /// What a macro reads.
 #[derive(Drop)]
@@ -23,17 +21,16 @@ pub struct MacroNames {
     pub takes_caller: bool,
 }
 
-/// The names that a macro with these parameters and this body reads; OutOfMemory.
+/// The names that a macro with these parameters and this body reads; AllocError.
 pub fn macro_names(
     alloc: Global,
     parameters: &[Parameter],
     body: &[Stmt],
-) -> Result<MacroNames, Error>
+) -> Result<MacroNames, AllocError>
     ensures free { IfOk result
         (λ names. names.free ≡ free_names parameters.now (statements body.now)) }
     ensures caller { IfOk result
         (λ names. names.takes_caller ≡ takes_caller parameters.now (statements body.now)) }
-    ensures err { IfErr result (λ e. e ≡ OutOfMemory ∷ []) }
 {
     let mut walker = Walker::new(alloc)?;
     walker.walk_parameters(false, parameters)?;
@@ -55,15 +52,14 @@ fn has_parameter(parameters: &[Parameter], name: &str) -> bool
     false
 }
 
-/// The names but for one, in their order; OutOfMemory.
+/// The names but for one, in their order; AllocError.
 fn names_without(
     alloc: Global,
     found: &BTreeSet<String>,
     left_out: &str,
-) -> Result<Items<Name>, Error>
-    ensures ok { IfOk result
+) -> Result<Items<Name>, AllocError>
+    ensures { IfOk result
         (λ names. names ≡ without left_out.now (map string_bytes (keys found.now))) }
-    ensures err { IfErr result (λ e. e ≡ OutOfMemory ∷ []) }
 {
     let mut names = Items::new(alloc);
     for text in found.iter() {
@@ -76,15 +72,14 @@ fn names_without(
 }
 
 impl Walker {
-    /// Walks over parameters, each before its default; OutOfMemory.
+    /// Walks over parameters, each before its default; AllocError.
     pub(crate) fn walk_parameters(
         &mut self,
         nested: bool,
         parameters: &[Parameter],
-    ) -> Result<(), Error>
-        ensures ok { OnOk result
+    ) -> Result<(), AllocError>
+        ensures { OnOk result
             (self.new ≡ walk_parameters nested parameters.now self.old) }
-        ensures err { IfErr result (λ e. e ≡ OutOfMemory ∷ []) }
     {
         for parameter in parameters {
             self.assign(parameter.name.share()?)?;
@@ -93,14 +88,13 @@ impl Walker {
         Ok(())
     }
 
-    /// Walks over an expression, where there is one; OutOfMemory.
+    /// Walks over an expression, where there is one; AllocError.
     pub(crate) fn walk_condition(
         &mut self,
         nested: bool,
         condition: &Option<Boxed<Expr>>,
-    ) -> Result<(), Error>
-        ensures ok { OnOk result (self.new ≡ walk_condition nested condition.now self.old) }
-        ensures err { IfErr result (λ e. e ≡ OutOfMemory ∷ []) }
+    ) -> Result<(), AllocError>
+        ensures { OnOk result (self.new ≡ walk_condition nested condition.now self.old) }
     {
         match condition {
             Some(condition) => self.walk_expr(nested, condition.get()),

@@ -1,6 +1,6 @@
 //! The names in statements.
 ghost use Rattle.std.specs.BTreeSet.{keys};
-ghost use Rattle.std.specs.Prelude.{◌≡◌, [], ◌∷◌, OnOk, IfOk, IfErr, codes, map};
+ghost use Rattle.std.specs.Prelude.{◌≡◌, [], ◌∷◌, OnOk, IfOk, codes, map};
 ghost use Rattle.std.specs.String.{string_bytes};
 ghost use Rattle.tm_syntax.specs.Names.{assign, close_scope, open_scope, undeclared_in};
 ghost use Rattle.tm_syntax.specs.Names.{walk, walk_all, walk_assignments, walk_head};
@@ -8,23 +8,20 @@ ghost use Rattle.tm_syntax.specs.Names.{walk_parameters};
 ghost use Rattle.tm_syntax.specs.declared.tree.Stmt.TheBlock.{hidden-the_row-Stmt-0 as statements};
 ghost use Rattle.tm_syntax.specs.declared.tree.Stmt.TheVariants.{CallBlock as CallTag, For, If};
 ghost use Rattle.tm_syntax.specs.declared.tree.Stmt.TheVariants.{Macro as Declare};
-ghost use Rattle.tm_values.specs.declared.error.ErrorKind.TheVariants.{OutOfMemory};
 
 use crate::walker::Walker;
-use sqlite_items::{Boxed, Items};
-use std::alloc::Global;
+use tm_items::{Boxed, Items};
+use std::alloc::{AllocError, Global};
 use std::collections::BTreeSet;
 use tm_syntax::{
     Assignment, AssignmentTarget, CallBlock, Expr, ForLoop, Macro, Name, Parameter, Stmt, Tree,
 };
-use tm_values::Error;
 
 /// The names that a source's tree reads where no open scope has assigned them before, each as its text; with
-/// what is nested in them, as `a.b.c`, where that is asked for. OutOfMemory.
-pub fn undeclared(alloc: Global, tree: &Tree, nested: bool) -> Result<BTreeSet<String>, Error>
-    ensures ok { IfOk result
+/// what is nested in them, as `a.b.c`, where that is asked for. AllocError.
+pub fn undeclared(alloc: Global, tree: &Tree, nested: bool) -> Result<BTreeSet<String>, AllocError>
+    ensures { IfOk result
         (λ names. map string_bytes (keys names) ≡ undeclared_in nested tree.now) }
-    ensures err { IfErr result (λ e. e ≡ OutOfMemory ∷ []) }
 {
     let mut walker = Walker::new(alloc)?;
     match tree {
@@ -35,11 +32,10 @@ pub fn undeclared(alloc: Global, tree: &Tree, nested: bool) -> Result<BTreeSet<S
 }
 
 impl Walker {
-    /// Walks over a statement; OutOfMemory.
+    /// Walks over a statement; AllocError.
     #[cycle(statements)]
-    fn walk(&mut self, nested: bool, statement: &Stmt) -> Result<(), Error>
-        ensures ok { OnOk result (self.new ≡ walk nested statement.now self.old) }
-        ensures err { IfErr result (λ e. e ≡ OutOfMemory ∷ []) }
+    fn walk(&mut self, nested: bool, statement: &Stmt) -> Result<(), AllocError>
+        ensures { OnOk result (self.new ≡ walk nested statement.now self.old) }
     {
         match statement {
             Stmt::EmitRaw(_) => Ok(()),
@@ -84,7 +80,7 @@ impl Walker {
         }
     }
 
-    /// Walks over a condition and its bodies; OutOfMemory.
+    /// Walks over a condition and its bodies; AllocError.
     #[cycle(statements)]
     fn walk_if(
         &mut self,
@@ -92,10 +88,9 @@ impl Walker {
         condition: &Expr,
         body: &[Stmt],
         other: &Option<Items<Stmt>>,
-    ) -> Result<(), Error>
-        ensures ok { OnOk result
+    ) -> Result<(), AllocError>
+        ensures { OnOk result
             (self.new ≡ walk nested (If condition.now body.now other.now) self.old) }
-        ensures err { IfErr result (λ e. e ≡ OutOfMemory ∷ []) }
     {
         self.walk_expr(nested, condition)?;
         self.walk_all(nested, body)?;
@@ -105,11 +100,10 @@ impl Walker {
         }
     }
 
-    /// Walks over a loop; OutOfMemory.
+    /// Walks over a loop; AllocError.
     #[cycle(statements)]
-    fn walk_for(&mut self, nested: bool, for_loop: &ForLoop) -> Result<(), Error>
-        ensures ok { OnOk result (self.new ≡ walk nested (For for_loop.now) self.old) }
-        ensures err { IfErr result (λ e. e ≡ OutOfMemory ∷ []) }
+    fn walk_for(&mut self, nested: bool, for_loop: &ForLoop) -> Result<(), AllocError>
+        ensures { OnOk result (self.new ≡ walk nested (For for_loop.now) self.old) }
     {
         self.walk_expr(nested, for_loop.iterable.get())?;
         self.walk_rounds(nested, for_loop)?;
@@ -119,12 +113,11 @@ impl Walker {
         }
     }
 
-    /// Walks over what is in the scope of a loop; OutOfMemory.
+    /// Walks over what is in the scope of a loop; AllocError.
     #[cycle(statements)]
-    fn walk_rounds(&mut self, nested: bool, for_loop: &ForLoop) -> Result<(), Error>
-        ensures ok { OnOk result (self.new ≡ close_scope (walk_all nested (statements for_loop.now.body)
+    fn walk_rounds(&mut self, nested: bool, for_loop: &ForLoop) -> Result<(), AllocError>
+        ensures { OnOk result (self.new ≡ close_scope (walk_all nested (statements for_loop.now.body)
             (walk_head nested for_loop.now.target for_loop.now.condition (open_scope self.old)))) }
-        ensures err { IfErr result (λ e. e ≡ OutOfMemory ∷ []) }
     {
         self.open_scope()?;
         self.walk_head(nested, &for_loop.target, &for_loop.condition)?;
@@ -133,16 +126,15 @@ impl Walker {
         Ok(())
     }
 
-    /// Walks over what stands before a loop's body in its scope; OutOfMemory.
+    /// Walks over what stands before a loop's body in its scope; AllocError.
     fn walk_head(
         &mut self,
         nested: bool,
         target: &AssignmentTarget,
         condition: &Option<Boxed<Expr>>,
-    ) -> Result<(), Error>
-        ensures ok { OnOk result
+    ) -> Result<(), AllocError>
+        ensures { OnOk result
             (self.new ≡ walk_head nested target.now condition.now self.old) }
-        ensures err { IfErr result (λ e. e ≡ OutOfMemory ∷ []) }
     {
         self.walk_target(nested, target)?;
         self.walk_condition(nested, condition)?;
@@ -150,12 +142,11 @@ impl Walker {
         self.assign(name)
     }
 
-    /// Walks over a block's body in its scope; OutOfMemory.
+    /// Walks over a block's body in its scope; AllocError.
     #[cycle(statements)]
-    fn walk_block(&mut self, nested: bool, body: &[Stmt]) -> Result<(), Error>
-        ensures ok { OnOk result (self.new ≡
+    fn walk_block(&mut self, nested: bool, body: &[Stmt]) -> Result<(), AllocError>
+        ensures { OnOk result (self.new ≡
             close_scope (walk_all nested (statements body.now) (open_scope self.old))) }
-        ensures err { IfErr result (λ e. e ≡ OutOfMemory ∷ []) }
     {
         self.open_scope()?;
         self.walk_all(nested, body)?;
@@ -163,12 +154,11 @@ impl Walker {
         Ok(())
     }
 
-    /// Walks over targets with their values, and a body, in their scope; OutOfMemory.
+    /// Walks over targets with their values, and a body, in their scope; AllocError.
     #[cycle(statements)]
-    fn walk_with(&mut self, nested: bool, given: &[Assignment], body: &[Stmt]) -> Result<(), Error>
-        ensures ok { OnOk result (self.new ≡ close_scope (walk_all nested (statements body.now)
+    fn walk_with(&mut self, nested: bool, given: &[Assignment], body: &[Stmt]) -> Result<(), AllocError>
+        ensures { OnOk result (self.new ≡ close_scope (walk_all nested (statements body.now)
             (walk_assignments nested given.now (open_scope self.old)))) }
-        ensures err { IfErr result (λ e. e ≡ OutOfMemory ∷ []) }
     {
         self.open_scope()?;
         self.walk_assignments(nested, given)?;
@@ -177,11 +167,10 @@ impl Walker {
         Ok(())
     }
 
-    /// Walks over a macro, whose scope has `caller`; OutOfMemory.
+    /// Walks over a macro, whose scope has `caller`; AllocError.
     #[cycle(statements)]
-    fn walk_macro(&mut self, nested: bool, declared: &Macro) -> Result<(), Error>
-        ensures ok { OnOk result (self.new ≡ walk nested (Declare declared.now) self.old) }
-        ensures err { IfErr result (λ e. e ≡ OutOfMemory ∷ []) }
+    fn walk_macro(&mut self, nested: bool, declared: &Macro) -> Result<(), AllocError>
+        ensures { OnOk result (self.new ≡ walk nested (Declare declared.now) self.old) }
     {
         self.assign(declared.name.share()?)?;
         self.walk_body(
@@ -191,27 +180,25 @@ impl Walker {
         )
     }
 
-    /// Walks over a call and the macro that it is given; OutOfMemory.
+    /// Walks over a call and the macro that it is given; AllocError.
     #[cycle(statements)]
-    fn walk_call_block(&mut self, nested: bool, tag: &CallBlock) -> Result<(), Error>
-        ensures ok { OnOk result (self.new ≡ walk nested (CallTag tag.now) self.old) }
-        ensures err { IfErr result (λ e. e ≡ OutOfMemory ∷ []) }
+    fn walk_call_block(&mut self, nested: bool, tag: &CallBlock) -> Result<(), AllocError>
+        ensures { OnOk result (self.new ≡ walk nested (CallTag tag.now) self.old) }
     {
         self.walk_expr(nested, tag.call.get())?;
         self.walk_body(nested, tag.parameters.as_slice(), tag.body.as_slice())
     }
 
-    /// Walks over parameters and the body of a macro in a scope of their own; OutOfMemory.
+    /// Walks over parameters and the body of a macro in a scope of their own; AllocError.
     #[cycle(statements)]
     fn walk_body(
         &mut self,
         nested: bool,
         parameters: &[Parameter],
         body: &[Stmt],
-    ) -> Result<(), Error>
-        ensures ok { OnOk result (self.new ≡ close_scope (walk_all nested (statements body.now)
+    ) -> Result<(), AllocError>
+        ensures { OnOk result (self.new ≡ close_scope (walk_all nested (statements body.now)
             (walk_parameters nested parameters.now (assign (codes "caller") (open_scope self.old))))) }
-        ensures err { IfErr result (λ e. e ≡ OutOfMemory ∷ []) }
     {
         self.open_scope()?;
         let name = Name::new(self.alloc(), "caller")?;
@@ -222,11 +209,10 @@ impl Walker {
         Ok(())
     }
 
-    /// Walks over statements; OutOfMemory.
+    /// Walks over statements; AllocError.
     #[cycle(statements)]
-    pub(crate) fn walk_all(&mut self, nested: bool, body: &[Stmt]) -> Result<(), Error>
-        ensures ok { OnOk result (self.new ≡ walk_all nested (statements body.now) self.old) }
-        ensures err { IfErr result (λ e. e ≡ OutOfMemory ∷ []) }
+    pub(crate) fn walk_all(&mut self, nested: bool, body: &[Stmt]) -> Result<(), AllocError>
+        ensures { OnOk result (self.new ≡ walk_all nested (statements body.now) self.old) }
     {
         for statement in body {
             self.walk(nested, statement)?;

@@ -1,23 +1,21 @@
 //! The names that statements assign.
-ghost use Rattle.std.specs.Prelude.{◌≡◌, [], ◌∷◌, OnOk, IfErr};
+ghost use Rattle.std.specs.Prelude.{◌≡◌, [], ◌∷◌, OnOk};
 ghost use Rattle.tm_syntax.specs.Names.{walk_assignments, walk_imports, walk_set, walk_target, walk_targets, walk_use};
 ghost use Rattle.tm_syntax.specs.declared.tree.AssignmentTarget.TheBlock.{hidden-the_row-AssignmentTarget-0 as targets};
-ghost use Rattle.tm_values.specs.declared.error.ErrorKind.TheVariants.{OutOfMemory};
 
 use crate::walker::Walker;
+use std::alloc::AllocError;
 use tm_syntax::{Assignment, AssignmentTarget, CaptureUse, Expr, Imported};
-use tm_values::Error;
 
 impl Walker {
-    /// Walks over a target: its names are assigned. OutOfMemory.
+    /// Walks over a target: its names are assigned. AllocError.
     #[cycle(targets)]
     pub(crate) fn walk_target(
         &mut self,
         nested: bool,
         target: &AssignmentTarget,
-    ) -> Result<(), Error>
-        ensures ok { OnOk result (self.new ≡ walk_target nested target.now self.old) }
-        ensures err { IfErr result (λ e. e ≡ OutOfMemory ∷ []) }
+    ) -> Result<(), AllocError>
+        ensures { OnOk result (self.new ≡ walk_target nested target.now self.old) }
     {
         match target {
             AssignmentTarget::Name(name) => self.assign(name.share()?),
@@ -26,11 +24,10 @@ impl Walker {
         }
     }
 
-    /// Walks over targets; OutOfMemory.
+    /// Walks over targets; AllocError.
     #[cycle(targets)]
-    fn walk_targets(&mut self, nested: bool, parts: &[AssignmentTarget]) -> Result<(), Error>
-        ensures ok { OnOk result (self.new ≡ walk_targets nested (targets parts.now) self.old) }
-        ensures err { IfErr result (λ e. e ≡ OutOfMemory ∷ []) }
+    fn walk_targets(&mut self, nested: bool, parts: &[AssignmentTarget]) -> Result<(), AllocError>
+        ensures { OnOk result (self.new ≡ walk_targets nested (targets parts.now) self.old) }
     {
         for part in parts {
             self.walk_target(nested, part)?;
@@ -38,28 +35,26 @@ impl Walker {
         Ok(())
     }
 
-    /// Walks over a target and then the value that it is given; OutOfMemory.
+    /// Walks over a target and then the value that it is given; AllocError.
     pub(crate) fn walk_set(
         &mut self,
         nested: bool,
         target: &AssignmentTarget,
         value: &Expr,
-    ) -> Result<(), Error>
-        ensures ok { OnOk result (self.new ≡ walk_set nested target.now value.now self.old) }
-        ensures err { IfErr result (λ e. e ≡ OutOfMemory ∷ []) }
+    ) -> Result<(), AllocError>
+        ensures { OnOk result (self.new ≡ walk_set nested target.now value.now self.old) }
     {
         self.walk_target(nested, target)?;
         self.walk_expr(nested, value)
     }
 
-    /// Walks over targets with their values, one after the other; OutOfMemory.
+    /// Walks over targets with their values, one after the other; AllocError.
     pub(crate) fn walk_assignments(
         &mut self,
         nested: bool,
         given: &[Assignment],
-    ) -> Result<(), Error>
-        ensures ok { OnOk result (self.new ≡ walk_assignments nested given.now self.old) }
-        ensures err { IfErr result (λ e. e ≡ OutOfMemory ∷ []) }
+    ) -> Result<(), AllocError>
+        ensures { OnOk result (self.new ≡ walk_assignments nested given.now self.old) }
     {
         for assignment in given {
             self.walk_set(nested, &assignment.target, assignment.value.get())?;
@@ -67,10 +62,9 @@ impl Walker {
         Ok(())
     }
 
-    /// Walks over names that a template leaves, of which the given ones are assigned; OutOfMemory.
-    pub(crate) fn walk_imports(&mut self, imports: &[Imported]) -> Result<(), Error>
-        ensures ok { OnOk result (self.new ≡ walk_imports imports.now self.old) }
-        ensures err { IfErr result (λ e. e ≡ OutOfMemory ∷ []) }
+    /// Walks over names that a template leaves, of which the given ones are assigned; AllocError.
+    pub(crate) fn walk_imports(&mut self, imports: &[Imported]) -> Result<(), AllocError>
+        ensures { OnOk result (self.new ≡ walk_imports imports.now self.old) }
     {
         for imported in imports {
             self.assign(imported.target.share()?)?;
@@ -78,10 +72,9 @@ impl Walker {
         Ok(())
     }
 
-    /// Walks over what becomes of the text of a capture; OutOfMemory.
-    pub(crate) fn walk_use(&mut self, nested: bool, becomes: &CaptureUse) -> Result<(), Error>
-        ensures ok { OnOk result (self.new ≡ walk_use nested becomes.now self.old) }
-        ensures err { IfErr result (λ e. e ≡ OutOfMemory ∷ []) }
+    /// Walks over what becomes of the text of a capture; AllocError.
+    pub(crate) fn walk_use(&mut self, nested: bool, becomes: &CaptureUse) -> Result<(), AllocError>
+        ensures { OnOk result (self.new ≡ walk_use nested becomes.now self.old) }
     {
         match becomes {
             CaptureUse::Emit => Ok(()),

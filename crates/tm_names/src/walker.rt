@@ -2,19 +2,17 @@
 ghost use Rattle.std.specs.BTreeMap.{is_at};
 ghost use Rattle.std.specs.BTreeSet.{insert_key, keys};
 ghost use Rattle.std.specs.List.{list_any};
-ghost use Rattle.std.specs.Prelude.{◌≡◌, [], ◌∷◌, OnOk, IfOk, IfErr, map, reverse};
+ghost use Rattle.std.specs.Prelude.{◌≡◌, [], ◌∷◌, OnOk, IfOk, map, reverse};
 ghost use Rattle.std.specs.String.{string_bytes};
 ghost use Rattle.tm_syntax.specs.Names.{assign, beginning, close_scope, is_among, is_assigned, open_scope};
 ghost use Rattle.tm_syntax.specs.Names.{read, read_as};
 ghost use Rattle.tm_syntax.specs.Named.{name_cmp};
-ghost use Rattle.tm_values.specs.declared.error.ErrorKind.TheVariants.{OutOfMemory};
 
-use sqlite_items::Items;
-use std::alloc::Global;
+use tm_items::Items;
+use std::alloc::{AllocError, Global};
 use std::collections::BTreeSet;
 use std::marker::Model;
 use tm_syntax::{Name, NameMap};
-use tm_values::Error;
 
 /// The open scopes, the innermost last, and the names that were found.
 #[derive(Drop)]
@@ -35,10 +33,9 @@ impl Model for Walker {
 }
 
 impl Walker {
-    /// Nothing is found, and one scope is open; OutOfMemory.
-    pub(crate) fn new(alloc: Global) -> Result<Walker, Error>
-        ensures ok { IfOk result (λ walker. walker ≡ beginning) }
-        ensures err { IfErr result (λ e. e ≡ OutOfMemory ∷ []) }
+    /// Nothing is found, and one scope is open; AllocError.
+    pub(crate) fn new(alloc: Global) -> Result<Walker, AllocError>
+        ensures { IfOk result (λ walker. walker ≡ beginning) }
     {
         let mut scopes = Items::new(alloc);
         scopes.push(NameMap::new(alloc))?;
@@ -61,18 +58,16 @@ impl Walker {
         is_assigned_in(self.scopes.as_slice(), name)
     }
 
-    /// A name is assigned in the innermost scope; OutOfMemory.
-    pub(crate) fn assign(&mut self, name: Name) -> Result<(), Error>
-        ensures ok { OnOk result (self.new ≡ assign name self.old) }
-        ensures err { IfErr result (λ e. e ≡ OutOfMemory ∷ []) }
+    /// A name is assigned in the innermost scope; AllocError.
+    pub(crate) fn assign(&mut self, name: Name) -> Result<(), AllocError>
+        ensures { OnOk result (self.new ≡ assign name self.old) }
     {
         let mut scope = match self.scopes.pop() {
             Some(scope) => scope,
             None => NameMap::new(self.alloc),
         };
         scope.insert(name, ())?;
-        self.scopes.push(scope)?;
-        Ok(())
+        self.scopes.push(scope)
     }
 
     /// Whether a name was found.
@@ -89,21 +84,19 @@ impl Walker {
         self.found.contains(text)
     }
 
-    /// A text is found; OutOfMemory.
-    fn add_found(&mut self, text: &str) -> Result<(), Error>
-        ensures ok { OnOk result
+    /// A text is found; AllocError.
+    fn add_found(&mut self, text: &str) -> Result<(), AllocError>
+        ensures { OnOk result
             (self.new ≡ record self.old { found = insert_key name_cmp self.old.found text.now }) }
-        ensures err { IfErr result (λ e. e ≡ OutOfMemory ∷ []) }
     {
         let text = String::from_str(self.alloc, text)?;
         self.found.insert(text)?;
         Ok(())
     }
 
-    /// A name is read, and found as this text where no open scope has assigned it; OutOfMemory.
-    pub(crate) fn read_as(&mut self, name: &str, text: &str) -> Result<(), Error>
-        ensures ok { OnOk result (self.new ≡ read_as name.now text.now self.old) }
-        ensures err { IfErr result (λ e. e ≡ OutOfMemory ∷ []) }
+    /// A name is read, and found as this text where no open scope has assigned it; AllocError.
+    pub(crate) fn read_as(&mut self, name: &str, text: &str) -> Result<(), AllocError>
+        ensures { OnOk result (self.new ≡ read_as name.now text.now self.old) }
     {
         if self.is_assigned(name) {
             return Ok(());
@@ -114,21 +107,18 @@ impl Walker {
         self.add_found(text)
     }
 
-    /// A name is read; OutOfMemory.
-    pub(crate) fn read(&mut self, name: &str) -> Result<(), Error>
-        ensures ok { OnOk result (self.new ≡ read name.now self.old) }
-        ensures err { IfErr result (λ e. e ≡ OutOfMemory ∷ []) }
+    /// A name is read; AllocError.
+    pub(crate) fn read(&mut self, name: &str) -> Result<(), AllocError>
+        ensures { OnOk result (self.new ≡ read name.now self.old) }
     {
         self.read_as(name, name)
     }
 
-    /// A scope opens; OutOfMemory.
-    pub(crate) fn open_scope(&mut self) -> Result<(), Error>
-        ensures ok { OnOk result (self.new ≡ open_scope self.old) }
-        ensures err { IfErr result (λ e. e ≡ OutOfMemory ∷ []) }
+    /// A scope opens; AllocError.
+    pub(crate) fn open_scope(&mut self) -> Result<(), AllocError>
+        ensures { OnOk result (self.new ≡ open_scope self.old) }
     {
-        self.scopes.push(NameMap::new(self.alloc))?;
-        Ok(())
+        self.scopes.push(NameMap::new(self.alloc))
     }
 
     /// The innermost scope closes.

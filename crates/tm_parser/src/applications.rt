@@ -12,7 +12,7 @@ ghost use Rattle.tm_values.specs.declared.error.ErrorKind.TheVariants.{OutOfMemo
 use crate::cursor::{Cursor, refusal};
 use crate::lists::add_one;
 use crate::primaries::{Passed, add_argument, nothing_passed};
-use sqlite_items::Items;
+use tm_items::Items;
 use std::alloc::Global;
 use tm_syntax::{Application, Argument, Name, Sign, Step};
 use tm_values::{Error, SharedText};
@@ -228,10 +228,8 @@ pub fn add_application(
         steps.old ++ Apply application name given.by_place given.by_name ∷ [])
         (λ e. e ≡ OutOfMemory ∷ []) }
 {
-    add_one(
-        steps,
-        Step::Apply(application, name, given.by_place, given.by_name),
-    )
+    let (by_place, by_name) = given.into_parts();
+    add_one(steps, Step::Apply(application, name, by_place, by_name))
 }
 
 /// Adds the call of a value with what it is passed. OutOfMemory for want of memory.
@@ -241,5 +239,6 @@ fn add_call(given: Passed, steps: &mut Items<Step>) -> Result<(), Error>
         (λ done. steps.new ≡ steps.old ++ Call given.by_place given.by_name ∷ [])
         (λ e. e ≡ OutOfMemory ∷ []) }
 {
-    add_one(steps, Step::Call(given.by_place, given.by_name))
+    let (by_place, by_name) = given.into_parts();
+    add_one(steps, Step::Call(by_place, by_name))
 }

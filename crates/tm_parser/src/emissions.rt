@@ -10,7 +10,7 @@ ghost use Rattle.tm_syntax.specs.declared.tree.Argument.TheBlock.{hidden-the_row
 ghost use Rattle.tm_syntax.specs.declared.tree.Argument.TheBlock.{hidden-the_row-Keyword-4 as row_of_keywords};
 
 use crate::lists::add_one;
-use sqlite_items::{Boxed, Items};
+use tm_items::{Boxed, Items};
 use tm_syntax::{Application, Argument, Expr, Keyword, Step, Stmt};
 use tm_values::Error;
 
@@ -86,7 +86,7 @@ fn emit_value(value: Boxed<Expr>) -> Stmt
     if !is_call_of_loop(value.get()) {
         return Stmt::EmitExpr(value);
     }
-    let Expr::Call(_, mut given, _) = value.into_inner() else {
+    let Some((_name, mut given, _named)) = value.into_inner().into_call() else {
         unreachable!()
     };
     let Some(argument) = given.pop() else {

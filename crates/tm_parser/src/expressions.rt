@@ -16,7 +16,7 @@ use crate::cursor::{Cursor, refusal};
 use crate::lists::{add_one, boxed};
 use crate::primaries::nothing_passed;
 use crate::tables::{Link, OR_LEVEL, POSTFIX_LEVEL};
-use sqlite_items::{Boxed, Items};
+use tm_items::{Boxed, Items};
 use std::alloc::Global;
 use tm_syntax::{
     Application, BinaryOperator, Comparison, Condition, Expr, Sign, Step, UnaryOperator,
@@ -124,6 +124,7 @@ impl Cursor<'_> {
     /// What stands behind `else`, if it stands there.
     #[cycle(expressions)]
     #[tactic(auto, unfolding(crate::specs::Grammar::else_part))]
+    #[inline(never)]
     fn else_part(&mut self, alloc: Global, depth: u8) -> Result<Boxed<Expr>, Error>
         ensures { Parses result self.new ((else_part (inside depth)).reads self.old) }
     {
@@ -158,7 +159,7 @@ impl Cursor<'_> {
     /// operators.
     #[cycle(expressions)]
     #[tactic(auto, unfolding(crate::specs::Levels::operand_start))]
-    #[inline(always)]
+    #[inline(never)]
     pub fn operand_start(
         &mut self,
         alloc: Global,

@@ -9,7 +9,7 @@ ghost use Rattle.tm_syntax.specs.declared.token.Sign.TheVariants as sign;
 
 use crate::cursor::Cursor;
 use crate::lists::{add_one, with_one};
-use sqlite_items::Items;
+use tm_items::Items;
 use std::alloc::Global;
 use tm_syntax::{Imported, Name, Sign, Stmt};
 use tm_values::Error;

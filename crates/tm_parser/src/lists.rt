@@ -2,7 +2,7 @@
 ghost use Rattle.std.specs.Prelude.{◌≡◌, ◌++◌, [], ◌∷◌, MatchResult};
 ghost use Rattle.tm_values.specs.declared.error.ErrorKind.TheVariants.{OutOfMemory};
 
-use sqlite_items::{Boxed, Items};
+use tm_items::{Boxed, Items};
 use std::alloc::Global;
 use tm_values::Error;
 

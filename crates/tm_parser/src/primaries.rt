@@ -10,19 +10,39 @@ ghost use Rattle.tm_syntax.specs.declared.tree.Expr.TheVariants as exprs;
 ghost use Rattle.tm_values.specs.declared.error.ErrorKind.TheVariants.{OutOfMemory};
 
 use crate::cursor::{Cursor, refusal};
-use crate::lists::{boxed, with_one};
-use sqlite_items::{Boxed, Items};
+use crate::lists::{add_one, boxed, with_one};
+use tm_items::{Boxed, Items};
 use std::alloc::Global;
 use tm_syntax::{Argument, Expr, Keyword, Name, Pair, Sign};
 use tm_values::Error;
 
 /// What a call is passed.
-#[derive(Drop)]
 pub struct Passed {
     /// By their places.
     pub by_place: Items<Argument>,
-    /// By their names, behind all others.
+    /// By their names, after all others.
     pub by_name: Items<Keyword>,
+}
+
+impl Drop for Passed {
+    // Not inline, so that the methods in which an error drops it have small frames.
+    #[inline(never)]
+    fn drop(self) {
+        let Passed {
+            by_place: _by_place,
+            by_name: _by_name,
+        } = self;
+    }
+}
+
+impl Passed {
+    /// What is passed by places, and what by names.
+    pub fn into_parts(self) -> (Items<Argument>, Items<Keyword>)
+        ensures { result ≡ (self.by_place, self.by_name) }
+    {
+        let Passed { by_place, by_name } = self;
+        (by_place, by_name)
+    }
 }
 
 // Each method reads one rule, with `depth` nestings to go. SyntaxError where no tokens spell it.
@@ -119,9 +139,9 @@ impl Cursor<'_> {
         ensures { Parses result self.new ((tuple (inside depth) first).reads self.old) }
     {
         self.expect(Sign::Comma)?;
-        let items = lone_item(alloc, first)?;
-        let items = self.exprs(alloc, depth, Sign::CloseRound, items)?;
-        boxed(alloc, Expr::Tuple(items))
+        let mut items = lone_item(alloc, first)?;
+        self.exprs(alloc, depth, Sign::CloseRound, &mut items)?;
+        tuple_of(alloc, items)
     }
 
     /// The items of a list, and the end of its brackets.
@@ -132,8 +152,9 @@ impl Cursor<'_> {
         ensures { Parses result self.new ((list_literal (inside depth)).reads self.old) }
     {
         self.room(depth)?;
-        let items = self.exprs(alloc, depth, Sign::CloseSquare, Items::new(alloc))?;
-        boxed(alloc, Expr::List(items))
+        let mut items = Items::new(alloc);
+        self.exprs(alloc, depth, Sign::CloseSquare, &mut items)?;
+        list_of(alloc, items)
     }
 
     /// The pairs of a map, and the end of its brackets.
@@ -148,7 +169,7 @@ impl Cursor<'_> {
         boxed(alloc, Expr::Map(pairs))
     }
 
-    /// More expressions behind others, up to a sign and with it.
+    /// More expressions at the end of others, up to a sign and with it.
     #[cycle(expressions)]
     #[tactic(auto, unfolding(crate::specs::Grammar::items))]
     fn exprs(
@@ -156,21 +177,21 @@ impl Cursor<'_> {
         alloc: Global,
         depth: u8,
         close: Sign,
-        first: Items<Expr>,
-    ) -> Result<Items<Expr>, Error>
-        ensures { Parses result self.new ((items close (inside depth).expr first).reads self.old) }
+        exprs: &mut Items<Expr>,
+    ) -> Result<(), Error>
+        ensures { Adds result exprs.new self.new
+            ((items close (inside depth).expr exprs.old).reads self.old) }
     {
         if self.take(close) {
-            return Ok(first);
+            return Ok(());
         }
-        let exprs = self.one_expr(alloc, depth, first)?;
-        let exprs = self.more_exprs(alloc, depth, close, exprs)?;
+        self.one_expr(alloc, depth, exprs)?;
+        self.more_exprs(alloc, depth, close, exprs)?;
         self.take(Sign::Comma);
-        self.expect(close)?;
-        Ok(exprs)
+        self.expect(close)
     }
 
-    /// More expressions, each behind a comma.
+    /// More expressions at the end of others, each after a comma.
     #[cycle(expressions)]
     #[tactic(auto, using(crate::proofs::Loops::commas))]
     fn more_exprs(
@@ -178,30 +199,26 @@ impl Cursor<'_> {
         alloc: Global,
         depth: u8,
         close: Sign,
-        first: Items<Expr>,
-    ) -> Result<Items<Expr>, Error>
-        ensures { Parses result self.new
-            ((more_items close (inside depth).expr first).reads self.old) }
+        exprs: &mut Items<Expr>,
+    ) -> Result<(), Error>
+        ensures { Adds result exprs.new self.new
+            ((more_items close (inside depth).expr exprs.old).reads self.old) }
     {
-        let mut exprs = first;
         while self.take_comma(close) {
-            exprs = self.one_expr(alloc, depth, exprs)?;
+            self.one_expr(alloc, depth, exprs)?;
         }
-        Ok(exprs)
+        Ok(())
     }
 
     /// An expression, at the end of others.
     #[cycle(expressions)]
-    fn one_expr(
-        &mut self,
-        alloc: Global,
-        depth: u8,
-        exprs: Items<Expr>,
-    ) -> Result<Items<Expr>, Error>
-        ensures { Parses result self.new ((one_more (inside depth).expr exprs).reads self.old) }
+    #[inline(never)]
+    fn one_expr(&mut self, alloc: Global, depth: u8, exprs: &mut Items<Expr>) -> Result<(), Error>
+        ensures { Adds result exprs.new self.new
+            ((one_more (inside depth).expr exprs.old).reads self.old) }
     {
         let value = self.inner_expr(alloc, depth)?;
-        with_one(exprs, value.into_inner())
+        add_expr(exprs, value)
     }
 
     /// The pairs of a map, and the end of its brackets.
@@ -384,7 +401,8 @@ fn call_of(alloc: Global, name: Name, given: Passed) -> Result<Boxed<Expr>, Erro
         (λ call. call ≡ exprs.Call name given.by_place given.by_name)
         (λ e. e ≡ OutOfMemory ∷ []) }
 {
-    boxed(alloc, Expr::Call(name, given.by_place, given.by_name))
+    let (by_place, by_name) = given.into_parts();
+    boxed(alloc, Expr::Call(name, by_place, by_name))
 }
 
 /// A list of one item. OutOfMemory for want of memory.
@@ -395,6 +413,36 @@ fn lone_item(alloc: Global, item: Boxed<Expr>) -> Result<Items<Expr>, Error>
         (λ e. e ≡ OutOfMemory ∷ []) }
 {
     with_one(Items::new(alloc), item.into_inner())
+}
+
+/// Adds an expression to others. OutOfMemory for want of memory.
+#[inline(never)]
+fn add_expr(exprs: &mut Items<Expr>, value: Boxed<Expr>) -> Result<(), Error>
+    ensures { MatchResult result
+        (λ done. exprs.new ≡ exprs.old ++ value ∷ [])
+        (λ e. e ≡ OutOfMemory ∷ []) }
+{
+    add_one(exprs, value.into_inner())
+}
+
+/// A tuple of items. OutOfMemory for want of memory.
+#[inline(never)]
+fn tuple_of(alloc: Global, items: Items<Expr>) -> Result<Boxed<Expr>, Error>
+    ensures { MatchResult result
+        (λ tuple. tuple ≡ exprs.Tuple items)
+        (λ e. e ≡ OutOfMemory ∷ []) }
+{
+    boxed(alloc, Expr::Tuple(items))
+}
+
+/// A list of items. OutOfMemory for want of memory.
+#[inline(never)]
+fn list_of(alloc: Global, items: Items<Expr>) -> Result<Boxed<Expr>, Error>
+    ensures { MatchResult result
+        (λ list. list ≡ exprs.List items)
+        (λ e. e ≡ OutOfMemory ∷ []) }
+{
+    boxed(alloc, Expr::List(items))
 }
 
 /// Nothing that is passed.

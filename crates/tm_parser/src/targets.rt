@@ -14,7 +14,7 @@ use crate::cursor::{Cursor, refusal};
 use crate::expressions::chained;
 use crate::lists::{boxed, with_one};
 use crate::tables::POSTFIX_LEVEL;
-use sqlite_items::{Boxed, Items};
+use tm_items::{Boxed, Items};
 use std::alloc::Global;
 use tm_syntax::{Assignment, AssignmentTarget, Expr, Name, Sign, Step};
 use tm_values::Error;

@@ -3,3 +3,4 @@ pub mod Forms
 pub mod Places
 pub mod Entries
 pub mod Standing
+pub mod Dropping

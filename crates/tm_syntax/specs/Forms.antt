@@ -1,10 +1,10 @@
 -- The forms of a tree that hold boxes, as patterns: a box is what it holds.
-use Rattle.std.specs.Prelude.{ℕ, List}
+use Rattle.std.specs.Prelude.{ℕ, List, Bool, true, false}
 use mathlib.Core.Former.{arity, this, one_more}
-use Rattle.sqlite_items.specs.formers.items.Items as items
+use Rattle.tm_items.specs.formers.items.Items as items
 use Rattle.tm_syntax.specs.declared.tree.UnaryOperator.{UnaryOperator}
 use Rattle.tm_syntax.specs.declared.tree.BinaryOperator.{BinaryOperator}
-use Rattle.tm_syntax.specs.declared.tree.Expr.{Expr, Unary', Chain', Conditional', end_of-Expr, more_of-Expr, Row_of-Step}
+use Rattle.tm_syntax.specs.declared.tree.Expr.{Expr, Call', Unary', Chain', Conditional', end_of-Expr, more_of-Expr, Row_of-Step}
 use Rattle.tm_syntax.specs.declared.tree.Expr.{Row_of-Condition, more_of-Condition}
 use Rattle.tm_syntax.specs.declared.tree.Expr.{Row_of-Pair, more_of-Pair}
 use Rattle.tm_syntax.specs.declared.tree.Argument.{Argument, Plain', Spread' as Items'}
@@ -60,3 +60,8 @@ and_then a = And' tt (more_of-Expr a end_of-Expr)
 
 pattern abbrev pub or_else : Expr → Step
 or_else a = Or' tt (more_of-Expr a end_of-Expr)
+
+-- whether an expression is the call of a name
+abbrev pub is_named_call : Expr → Bool
+is_named_call (Call' f n given m named) = true
+is_named_call _ = false

@@ -1,4 +1,5 @@
 pub mod Forms
+pub mod Dropping
 pub mod Fragments
 pub mod Names
 pub mod CacheNumbers

@@ -5,10 +5,10 @@ ghost use Rattle.tm_syntax.specs.Entries.{entries, entry_number, name_count};
 ghost use Rattle.tm_syntax.specs.Loops.{loop_places, loops_before};
 
 use crate::instruction::{Instruction, LoopPlace};
-use sqlite_items::Items;
 use std::alloc::{AllocError, Global};
 use std::collections::BTreeMap;
 use std::marker::Model;
+use tm_items::Items;
 use tm_values::{Node, Value};
 
 /// The instructions of a stream, where its loops begin, and where its macros are entered, each with how many

@@ -1,9 +1,14 @@
 //! Syntax trees. What goes on with a value is a list. Lists of different levels of operators lie in
 //! one another within one nesting of the source, so a tree is as deep as its source nests, times
 //! these levels.
+ghost use Rattle.std.specs.Prelude.{◌≡◌, false, MatchOption};
+ghost use Rattle.tm_syntax.specs.Dropping.{JoinedWithin};
+ghost use Rattle.tm_syntax.specs.Forms.{is_named_call};
+ghost use Rattle.tm_syntax.specs.declared.tree.Expr.TheVariants as exprs;
+
 use crate::name::Name;
 use crate::raw_text::RawText;
-use sqlite_items::{Boxed, Items};
+use tm_items::{Boxed, Items};
 use tm_values::Value;
 
 /// An operator before its operand.
@@ -65,9 +70,8 @@ pub enum Application {
     NegatedTest,
 }
 
-/// An expression.
+/// An expression. Operators that stand in one another's operands drop by a list of what is left.
 #[cycle(expr)]
-#[derive(Drop)]
 pub enum Expr {
     /// A name.
     Var(Name),
@@ -310,3 +314,106 @@ pub enum Tree {
     /// An expression.
     Expression(Boxed<Expr>),
 }
+
+impl Drop for Expr {
+    #[cycle(dropping)]
+    fn drop(self) {
+        match self {
+            Expr::Var(_)
+            | Expr::Const(_)
+            | Expr::List(_)
+            | Expr::Tuple(_)
+            | Expr::Map(_)
+            | Expr::Call(_, _, _)
+            | Expr::SelfBlock(_) => {}
+            Expr::Unary(_, operand) => drop_boxed(operand),
+            Expr::Chain(first, after) => {
+                drop_steps(after.into_vec());
+                drop_boxed(first);
+            }
+            Expr::Conditional(value, _) => drop_boxed(value),
+        }
+    }
+}
+
+impl Expr {
+    /// The name and the arguments of a call of a name.
+    pub fn into_call(self) -> Option<(Name, Items<Argument>, Items<Keyword>)>
+        ensures { MatchOption result
+            (is_named_call self ≡ false)
+            (λ call. self ≡ exprs.Call call.0 call.1 call.2) }
+    {
+        match self {
+            Expr::Call(name, given, named) => Some((name, given, named)),
+            Expr::Var(_)
+            | Expr::Const(_)
+            | Expr::List(_)
+            | Expr::Tuple(_)
+            | Expr::Map(_)
+            | Expr::SelfBlock(_)
+            | Expr::Unary(_, _)
+            | Expr::Chain(_, _)
+            | Expr::Conditional(_, _) => None,
+        }
+    }
+
+    // Drops an operand, but for its steps, which join those that are left. Where memory for that
+    // lacks, they are dropped at once.
+    #[cycle(dropping)]
+    #[tactic(auto, using(crate::proofs::Dropping::sizes))]
+    fn drop_aside(self, left: &mut Vec<Step>)
+        ensures { JoinedWithin self left.old.items left.new.items }
+    {
+        match self {
+            Expr::Var(_)
+            | Expr::Const(_)
+            | Expr::List(_)
+            | Expr::Tuple(_)
+            | Expr::Map(_)
+            | Expr::Call(_, _, _)
+            | Expr::SelfBlock(_) => {}
+            Expr::Unary(_, operand) => drop_boxed(operand),
+            Expr::Chain(first, after) => {
+                let mut after = after.into_vec();
+                let _joined = left.append(&mut after);
+                drop_steps(after);
+                drop_boxed(first);
+            }
+            Expr::Conditional(value, _) => drop_boxed(value),
+        }
+    }
+}
+
+// Drops steps one by one. Those of an operator's operand join those that are left.
+#[inline(never)]
+#[cycle(dropping)]
+#[tactic(auto, using(crate::proofs::Dropping::sizes))]
+fn drop_steps(mut left: Vec<Step>) {
+    while let Some(step) = left.pop() {
+        let operand = match step {
+            Step::Binary(_operator, operand) => operand,
+            Step::Compare(_operator, operand, _after) => operand,
+            Step::And(operand) => operand,
+            Step::Or(operand) => operand,
+            Step::Attribute(_name) => continue,
+            Step::Item(key) => {
+                drop_boxed(key);
+                continue;
+            }
+            Step::Apply(_application, _name, _given, _named) => continue,
+            Step::Call(_given, _named) => continue,
+            Step::Slice(start, stop, step) => {
+                drop_boxed(start);
+                drop_boxed(stop);
+                drop_boxed(step);
+                continue;
+            }
+        };
+        operand.into_inner().drop_aside(&mut left);
+    }
+    left.destroy_empty();
+}
+
+// Apart, so that a caller keeps no place on the machine's stack for what the box holds.
+#[inline(never)]
+fn drop_boxed<T: Drop>(_boxed: Boxed<T>) {}

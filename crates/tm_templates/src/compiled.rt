@@ -19,7 +19,7 @@ ghost use Rattle.tm_templates.specs.Defaults.{escape_of};
 ghost use Rattle.tm_templates.specs.Sources.{source_bytes};
 
 use crate::defaults::EscapeSetting;
-use sqlite_items::Items;
+use tm_items::Items;
 use std::alloc::Global;
 use std::collections::BTreeSet;
 use std::marker::Model;
@@ -267,7 +267,7 @@ impl<'source> CompiledTemplate<'source> {
             ≡ undeclared_in nested self.now.tree) }
         ensures memory { IfErr result (λ e. e ≡ OutOfMemory ∷ []) }
     {
-        undeclared(alloc, &self.tree, nested)
+        Ok(undeclared(alloc, &self.tree, nested)?)
     }
 
     /// The code of its tree.

@@ -26,8 +26,8 @@ loop-place-preserved c =
           )
     ]
 
-pub returns-clause-ok : goal.returns-clause-ok
-returns-clause-ok c =
+pub returns : goal.returns
+returns c =
     let past : length c.loop-place.code ≤ c.loop-place.place = omega (arith, c.loop-place-test.false, c.len.ensures) in
     sym (all_numbered c.loop-place.place c.loop-place.names.filters c.loop-place.names.tests c.loop-place.code past)
     ∙ c.loop-place.invariant.2

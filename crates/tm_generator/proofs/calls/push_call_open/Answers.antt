@@ -8,7 +8,7 @@ pub returns-in_ok-push_expr-in-Chain-clause-ok : goal.returns-in_ok-push_expr-in
 returns-in_ok-push_expr-in-Chain-clause-ok c =
     rw c.in-Chain.is (on_ok_weaker c.push_steps_open.result
     (chain-put c.args.code.now c.push_expr.new.code c.push_steps_open.new.code c.in-Chain.first c.in-Chain.after
-    (rw (← c.get.ensures) c.in_ok-push_expr-in-Chain.ensures.ok))
+    (rw (← c.get.ensures) c.in_ok-push_expr-in-Chain.ensures))
     (rw (← c.as_slice-in-Chain.ensures) c.push_steps_open.ensures.ok))
 
 pub returns-in_ok-push_expr-in-Chain-clause-call : goal.returns-in_ok-push_expr-in-Chain-clause-call

@@ -14,7 +14,7 @@ pub returns-clause-ok : goal.returns-clause-ok
 returns-clause-ok c =
     let whole : c.args.after.now ≡ c.in-Some.before.now ++ c.in-Some.last.now ∷ [] = search rules in
     on_ok_weaker c.push_step_open.result (last-put c.args.after.now c.in-Some.before.now c.in-Some.last.now whole c.args.code.now
-    c.push_steps.new.code c.push_step_open.new.code c.in_ok-push_steps.ensures.ok) c.push_step_open.ensures.ok
+    c.push_steps.new.code c.push_step_open.new.code c.in_ok-push_steps.ensures) c.push_step_open.ensures.ok
 
 pub returns-clause-call : goal.returns-clause-call
 returns-clause-call c =

@@ -9,7 +9,9 @@ use Rattle.tm_syntax.specs.declared.tree.Argument.TheBlock.{hidden-the_row-Argum
 use Rattle.tm_syntax.specs.declared.tree.Argument.TheBlock.{hidden-the_row-Keyword-4 as keywords}
 use Rattle.tm_syntax.specs.declared.tree.Argument.TheBlock.{hidden-the_row-Step-5 as steps}
 use Rattle.tm_syntax.specs.declared.tree.Argument.TheBlock.{hidden-the_row-Comparison-7 as comparisons}
-use Rattle.tm_syntax.specs.declared.tree.Step.TheVariants.{Call}
+use Rattle.tm_syntax.specs.declared.tree.Expr.TheVariants as e
+use Rattle.tm_syntax.specs.declared.tree.Step.TheVariants.{Apply, Call}
+use Rattle.tm_syntax.proofs.tree.Expr.TheLaws.{the_size as size_of_expr}
 use Rattle.tm_syntax.proofs.tree.Step.TheLaws.{the_size}
 use Rattle.tm_generator.proofs.expressions.+expressions.Given as goal
 
@@ -101,3 +103,15 @@ decreases-push_open l = 8 * the_size (Call l.given.now l.named.now)
 
 abbrev pub decreases-push_passed : goal.decreases-push_passed
 decreases-push_passed l = 8 * the_size (Call l.given.now l.named.now) + 1
+
+abbrev pub decreases-push_call : goal.decreases-push_call
+decreases-push_call l = 8 * size_of_expr (e.Call l.name.now l.given.now l.named.now) + 4
+
+abbrev pub decreases-push_conditional : goal.decreases-push_conditional
+decreases-push_conditional l = 8 * size_of_expr (e.Conditional l.value.now l.conditions.now) + 4
+
+abbrev pub decreases-push_applied : goal.decreases-push_applied
+decreases-push_applied l = 8 * the_size (Apply l.application l.name.now l.given.now l.named.now) + 4
+
+abbrev pub decreases-push_called : goal.decreases-push_called
+decreases-push_called l = 8 * the_size (Call l.given.now l.named.now) + 4

@@ -1,9 +1,12 @@
-use Rattle.std.proofs.Common.{◌∙◌, ap, refl}
+use Rattle.std.proofs.Common.{◌≡◌, ◌∙◌, ap, refl}
 use Rattle.std.proofs.lemmas.List.{drop_all}
 use Rattle.std.proofs.lemmas.Result.{on_ok_weaker}
 use Rattle.tm_syntax.specs.CacheNumbers.{numbered}
+use Rattle.tm_syntax.specs.Code.{stream_code}
+use Rattle.tm_syntax.specs.declared.tree.Stmt.TheBlock.{hidden-the_row-Stmt-0 as statements}
 use Rattle.tm_generator.proofs.PutExpressions.{next}
 use Rattle.tm_generator.proofs.PutStatements.{more-statements, no_more-statements, made-stream, else-blocks, for-else-blocks, block-blocks}
+use Rattle.tm_generator.proofs.Spreading.{if_ok_weaker}
 use Rattle.tm_generator.proofs.PutStatements.{more-blocks, no_more-blocks, made-call_block, declared-is}
 use Rattle.tm_generator.proofs.statements.+statements.Goals as goal
 
@@ -22,8 +25,8 @@ push_for-returns-clause-blocks t c =
 pub push_call_of_block-returns-clause-blocks : goal.push_call_of_block-returns-clause-blocks
 push_call_of_block-returns-clause-blocks t c =
     on_ok_weaker c.emit.result
-    (λ e. block-blocks c.args.name.now c.args.required c.args.body.now c.args.blocks.now c.push_block.new.blocks c.in_ok-push_block.ensures.blocks)
-    c.emit.ensures.ok
+    (λ e. block-blocks c.args.name.now c.args.required c.args.body.now c.args.blocks.now c.push_block.new.blocks c.in_ok-push_block.ensures)
+    c.emit.ensures
 
 pub push_call_block-returns-clause-code : goal.push_call_block-returns-clause-code
 push_call_block-returns-clause-code t c =
@@ -34,7 +37,7 @@ push_call_block-returns-clause-code t c =
     c.in_ok-name.ensures.name
     (c.in_ok-push_declared.ensures.code
     ∙ declared-is c.in_ok-name.name _ _ c.args.tag.now _ c.as_slice-parameters.ensures c.as_slice.ensures)
-    c.in_ok-add_name.ensures.ok (rw (← c.get-call.ensures) c.in_ok-push_call_end.ensures.ok)) c.emit.ensures.ok
+    c.in_ok-add_name.ensures (rw (← c.get-call.ensures) c.in_ok-push_call_end.ensures)) c.emit.ensures
 
 pub push_statements-loop-statement-preserved : goal.push_statements-loop-statement-preserved
 push_statements-loop-statement-preserved t c =
@@ -58,6 +61,7 @@ push_statements-returns-clause-blocks t c = no_more-blocks _ _ _
 
 pub stream-returns-clause-code : goal.stream-returns-clause-code
 stream-returns-clause-code t c =
-    c.in_ok-new.ensures ∙ c.in_ok-number_caches.ensures.ok ∙ ap numbered (c.finish-instructions.ensures
-    ∙ made-stream c.new.result _ c.push_statements.new.stream c.args.body.now refl (ap (λ b. b.code) c.new.ensures)
-    (ap (λ b. b.outs) c.new.ensures) (ap (λ b. b.exits) c.new.ensures) c.new-2.ensures c.in_ok-push_statements.ensures.code)
+    let numbers = c.in_ok-number_caches.ensures ∙ ap numbered (c.finish-instructions.ensures
+        ∙ made-stream c.new.result _ c.push_statements.new.stream c.args.body.now refl (ap (λ b. b.code) c.new.ensures)
+        (ap (λ b. b.outs) c.new.ensures) (ap (λ b. b.exits) c.new.ensures) c.new-2.ensures c.in_ok-push_statements.ensures.code) in
+    if_ok_weaker c.new-3.result {Q = λ code. code ≡ stream_code (statements c.args.body.now)} (λ code made. made ∙ numbers) c.new-3.ensures

@@ -6,8 +6,8 @@ pub walk_all-loop-statement-preserved : goal.walk_all-loop-statement-preserved
 walk_all-loop-statement-preserved t c =
     more-statements c.args.nested _ _ c.statement-item.result _ _ _
     (next c.args.body.now c.loop-statement.statement-index c.statement-item.result c.loop-statement-test.true c.statement-item.is)
-    c.in_ok-walk.ensures.ok c.loop-statement.invariant
+    c.in_ok-walk.ensures c.loop-statement.invariant
 
-pub walk_all-returns-clause-ok : goal.walk_all-returns-clause-ok
-walk_all-returns-clause-ok t c =
+pub walk_all-returns : goal.walk_all-returns
+walk_all-returns t c =
     no_more-statements c.args.nested _ _ _ (drop_all c.loop-statement.statement-index c.args.body.now c.loop-statement-test.false) c.loop-statement.invariant

@@ -6,8 +6,8 @@ use Rattle.tm_syntax.specs.Names.{Walk}
 use Rattle.tm_names.proofs.Found.{insert_found}
 use Rattle.tm_names.proofs.walker.Walker.add_found.Goals as goal
 
-pub returns-clause-ok : goal.returns-clause-ok
-returns-clause-ok c =
+pub returns : goal.returns
+returns c =
     let found : List (List ℕ) = map string_bytes c.self.inside.found.keys in
     ap {B = Walk} (λ (names : List (List ℕ)). record { assigned = reverse c.self.inside.scopes; found = names })
     (ap (map string_bytes) c.in_ok-insert.ensures.keys ∙ insert_found c.self.inside.found.keys c.in_ok-text.text

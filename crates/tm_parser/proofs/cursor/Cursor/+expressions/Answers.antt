@@ -46,13 +46,13 @@ more_passed-returns-in_err-one_passed t c =
 
 pub more_exprs-loop-alloc-smaller : goal.more_exprs-loop-alloc-smaller
 more_exprs-loop-alloc-smaller t c = comma_comes_nearer c.args.close (inside c.args.depth).expr _ _ _ _ _ c.loop-alloc-test.ensures
-    c.in_ok-exprs.ensures
+    c.in_ok-one_expr.ensures
 
-pub more_exprs-returns-in_err-exprs : goal.more_exprs-returns-in_err-exprs
-more_exprs-returns-in_err-exprs t c =
+pub more_exprs-returns-in_err-one_expr : goal.more_exprs-returns-in_err-one_expr
+more_exprs-returns-in_err-one_expr t c =
     let p = err_from_is_err_and c.from_residual.result c.from_residual.ensures.1 in
     rw (p.1, p.2) (comma_refuses c.args.close (inside c.args.depth).expr _ _ _ _ _ c.loop-alloc.invariant c.loop-alloc-test.ensures
-    c.in_err-exprs.ensures)
+    c.in_err-one_expr.ensures)
 
 pub more_pairs-loop-alloc-smaller : goal.more_pairs-loop-alloc-smaller
 more_pairs-loop-alloc-smaller t c = comma_comes_nearer sign.CloseCurly (pair (inside c.args.depth)) _ _ _ _ _ c.loop-alloc-test.ensures

@@ -200,7 +200,7 @@ decreases-more_passed-loop-alloc l = length l.self
 
 abbrev pub invariant-more_exprs-loop-alloc : goal.invariant-more_exprs-loop-alloc
 invariant-more_exprs-loop-alloc l =
-    (more_items l.close (inside l.depth).expr l.exprs).reads l.self ≡ (more_items l.close (inside l.depth).expr l.fn.first).reads l.fn.self
+    (more_items l.close (inside l.depth).expr l.exprs).reads l.self ≡ (more_items l.close (inside l.depth).expr l.fn.exprs).reads l.fn.self
 
 abbrev pub decreases-more_exprs-loop-alloc : goal.decreases-more_exprs-loop-alloc
 decreases-more_exprs-loop-alloc l = length l.self
