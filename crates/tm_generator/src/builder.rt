@@ -8,9 +8,9 @@ ghost use Rattle.tm_generator.specs.Building.{settled, led, finished};
 ghost use Rattle.tm_generator.specs.Building.{around_of, body_begun, body_ended};
 ghost use Rattle.tm_syntax.specs.declared.instruction.Instruction.TheVariants.{Jump};
 
-use tm_items::Items;
 use std::alloc::{AllocError, Global};
 use std::mem;
+use tm_items::Items;
 use tm_syntax::{Instruction, JumpKind, LoopFlags};
 
 /// A jump out of a part of code.

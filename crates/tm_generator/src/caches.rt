@@ -3,8 +3,8 @@ ghost use Rattle.std.specs.Prelude.{◌≡◌, ◌≤◌, ◌<◌, [], ◌∷◌
 ghost use Rattle.tm_generator.specs.Caches.{HasRoom, IsNumberedOne};
 ghost use Rattle.tm_syntax.specs.CacheNumbers.{cache_count, joined, number_in, numbered, place_from};
 
-use tm_items::Items;
 use std::alloc::{AllocError, Global};
+use tm_items::Items;
 use tm_syntax::{CACHES, Instruction, NO_CACHE, Name};
 
 /// The names that have cache numbers, each at its number.

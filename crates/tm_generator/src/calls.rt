@@ -63,7 +63,11 @@ fn push_step_open(code: &mut Builder, step: &Step) -> Result<OpenCall, AllocErro
 
 /// Adds the code that ends what a call is passed, and the call; AllocError.
 #[inline(never)]
-pub(crate) fn push_call_end(code: &mut Builder, call: &Expr, passed: &OpenCall) -> Result<(), AllocError>
+pub(crate) fn push_call_end(
+    code: &mut Builder,
+    call: &Expr,
+    passed: &OpenCall,
+) -> Result<(), AllocError>
     ensures { OnOk result
         (code.new ≡ put (ending row_end passed.now ⨾
         straight (call_end call.now (ending_count row_end passed.now))) code.old) }
@@ -77,7 +81,11 @@ pub(crate) fn push_call_end(code: &mut Builder, call: &Expr, passed: &OpenCall) 
 }
 
 /// Adds the call that the last of these steps is, with so many values; AllocError.
-fn push_steps_end(code: &mut Builder, after: &[Step], count: Option<usize>) -> Result<(), AllocError>
+fn push_steps_end(
+    code: &mut Builder,
+    after: &[Step],
+    count: Option<usize>,
+) -> Result<(), AllocError>
     ensures { OnOk result
         (code.new ≡ put (straight (steps_end (steps after.now) count)) code.old) }
 {

@@ -4,9 +4,9 @@ ghost use Rattle.tm_generator.specs.Building.{with_all, rest_of};
 ghost use Rattle.tm_syntax.specs.Code.{close, close_all as close_each};
 
 use crate::builder::Builder;
-use tm_items::Items;
 use std::alloc::{AllocError, Global};
 use std::marker::Model;
+use tm_items::Items;
 use tm_syntax::{Instruction, Opened};
 
 /// What was opened and is not closed yet. A contract sees it innermost first.

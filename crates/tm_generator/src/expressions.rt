@@ -30,8 +30,8 @@ use crate::passing::{
     OpenCall, Rows, has_spread, has_spread_keyword, keywords_behind, lists_at, maps_at,
     push_list_of_row, push_map_of_row, row_behind, sum,
 };
-use tm_items::Items;
 use std::alloc::AllocError;
+use tm_items::Items;
 use tm_syntax::{
     Application, Argument, BinaryOperator, CaptureMode, Comparison, Condition, Expr, Instruction,
     JumpKind, Keyword, NO_CACHE, Name, Pair, Step, UnaryOperator,
@@ -419,11 +419,7 @@ fn push_applied(
 /// Adds the code of the call of a value; AllocError.
 #[cycle(expressions)]
 #[inline(never)]
-fn push_called(
-    code: &mut Builder,
-    given: &[Argument],
-    named: &[Keyword],
-) -> Result<(), AllocError>
+fn push_called(code: &mut Builder, given: &[Argument], named: &[Keyword]) -> Result<(), AllocError>
     ensures { OnOk result
         (code.new ≡ put (step_code (Called given.now named.now)) code.old) }
 {
@@ -545,7 +541,11 @@ fn push_comparisons(
 
 /// Adds comparisons, out of each of which but the last a jump leads; AllocError.
 #[cycle(expressions)]
-fn push_links(code: &mut Builder, first: BinaryOperator, after: &[Comparison]) -> Result<(), AllocError>
+fn push_links(
+    code: &mut Builder,
+    first: BinaryOperator,
+    after: &[Comparison],
+) -> Result<(), AllocError>
     ensures { OnOk result (code.new ≡ put (links_code first (comparisons after.now)) code.old) }
 {
     let mut operator = first;

@@ -12,7 +12,11 @@ use tm_syntax::{AssignmentTarget, CaptureMode, Expr, Imported, Instruction};
 
 /// Adds the code of an `include`; AllocError.
 #[inline(never)]
-pub(crate) fn push_include(code: &mut Builder, template: &Expr, missing: bool) -> Result<(), AllocError>
+pub(crate) fn push_include(
+    code: &mut Builder,
+    template: &Expr,
+    missing: bool,
+) -> Result<(), AllocError>
     ensures { OnOk result
         (code.new ≡ put (statement_code [] (Include template.now missing)) code.old) }
 {

@@ -6,8 +6,8 @@ ghost use Rattle.tm_syntax.specs.Code.{iterable_code, pass_round, take_item};
 use crate::builder::Builder;
 use crate::expressions::push_expr;
 use crate::targets::push_target;
-use tm_items::Boxed;
 use std::alloc::AllocError;
+use tm_items::Boxed;
 use tm_syntax::{AssignmentTarget, Expr, Instruction, JumpKind, LoopFlags};
 use tm_values::Value;
 

@@ -9,8 +9,8 @@ ghost use Rattle.tm_values.specs.Val.{text};
 
 use crate::builder::Builder;
 use crate::expressions::{push_expr, push_text};
-use tm_items::Boxed;
 use std::alloc::{AllocError, Global};
+use tm_items::Boxed;
 use tm_names::MacroNames;
 use tm_syntax::{Expr, Instruction, JumpKind, Name, Parameter};
 use tm_values::{SharedText, Value};
@@ -18,7 +18,10 @@ use tm_values::{SharedText, Value};
 /// Adds the code that binds the values of arguments to parameters, from the last to the first;
 /// AllocError.
 #[inline(never)]
-pub(crate) fn push_parameters(code: &mut Builder, parameters: &[Parameter]) -> Result<(), AllocError>
+pub(crate) fn push_parameters(
+    code: &mut Builder,
+    parameters: &[Parameter],
+) -> Result<(), AllocError>
     ensures { OnOk result (code.new ≡ put (parameters_code parameters.now) code.old) }
 {
     let mut left = parameters.len();

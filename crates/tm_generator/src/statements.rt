@@ -22,9 +22,9 @@ use crate::imports::{push_from_import, push_import, push_include};
 use crate::loops::push_iterable;
 use crate::macros::{push_building, push_caller, push_parameters};
 use crate::targets::{push_assignments, push_set, push_target, push_use};
-use tm_items::Items;
 use std::alloc::{AllocError, Global};
 use std::mem;
+use tm_items::Items;
 use tm_names::macro_names;
 use tm_syntax::{
     Assignment, BlockCode, CallBlock, CaptureMode, CaptureUse, Code, Expr, ForLoop, Instruction,
@@ -469,7 +469,11 @@ fn push_block(
 
 /// Adds a block's own stream by the block's name; AllocError.
 #[inline(never)]
-fn add_block(blocks: &mut NameMap<BlockCode>, name: &Name, block: BlockCode) -> Result<(), AllocError>
+fn add_block(
+    blocks: &mut NameMap<BlockCode>,
+    name: &Name,
+    block: BlockCode,
+) -> Result<(), AllocError>
     ensures { OnOk result (blocks.new ≡ put_named name.now block blocks.old) }
 {
     blocks.insert(name.share()?, block)?;
@@ -478,7 +482,11 @@ fn add_block(blocks: &mut NameMap<BlockCode>, name: &Name, block: BlockCode) -> 
 
 /// The code of statements on their own, and that of their blocks; AllocError.
 #[cycle(statements)]
-pub fn stream(alloc: Global, blocks: &mut NameMap<BlockCode>, body: &[Stmt]) -> Result<Code, AllocError>
+pub fn stream(
+    alloc: Global,
+    blocks: &mut NameMap<BlockCode>,
+    body: &[Stmt],
+) -> Result<Code, AllocError>
     ensures code { IfOk result (λ code. code ≡ stream_code (statements body.now)) }
     ensures blocks { OnOk result
         (blocks.new ≡ put_each (compiled_blocks (blocks_in (statements body.now))) blocks.old) }

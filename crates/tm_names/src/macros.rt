@@ -7,9 +7,9 @@ ghost use Rattle.tm_syntax.specs.Names.{walk_condition, walk_parameters, without
 ghost use Rattle.tm_syntax.specs.declared.tree.Stmt.TheBlock.{hidden-the_row-Stmt-0 as statements};
 
 use crate::walker::Walker;
-use tm_items::{Boxed, Items};
 use std::alloc::{AllocError, Global};
 use std::collections::BTreeSet;
+use tm_items::{Boxed, Items};
 use tm_syntax::{Expr, Name, Parameter, Stmt};
 
 /// What a macro reads.

@@ -10,9 +10,9 @@ ghost use Rattle.tm_syntax.specs.declared.tree.Stmt.TheVariants.{CallBlock as Ca
 ghost use Rattle.tm_syntax.specs.declared.tree.Stmt.TheVariants.{Macro as Declare};
 
 use crate::walker::Walker;
-use tm_items::{Boxed, Items};
 use std::alloc::{AllocError, Global};
 use std::collections::BTreeSet;
+use tm_items::{Boxed, Items};
 use tm_syntax::{
     Assignment, AssignmentTarget, CallBlock, Expr, ForLoop, Macro, Name, Parameter, Stmt, Tree,
 };
@@ -156,7 +156,12 @@ impl Walker {
 
     /// Walks over targets with their values, and a body, in their scope; AllocError.
     #[cycle(statements)]
-    fn walk_with(&mut self, nested: bool, given: &[Assignment], body: &[Stmt]) -> Result<(), AllocError>
+    fn walk_with(
+        &mut self,
+        nested: bool,
+        given: &[Assignment],
+        body: &[Stmt],
+    ) -> Result<(), AllocError>
         ensures { OnOk result (self.new ≡ close_scope (walk_all nested (statements body.now)
             (walk_assignments nested given.now (open_scope self.old)))) }
     {

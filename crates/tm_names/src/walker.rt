@@ -8,10 +8,10 @@ ghost use Rattle.tm_syntax.specs.Names.{assign, beginning, close_scope, is_among
 ghost use Rattle.tm_syntax.specs.Names.{read, read_as};
 ghost use Rattle.tm_syntax.specs.Named.{name_cmp};
 
-use tm_items::Items;
 use std::alloc::{AllocError, Global};
 use std::collections::BTreeSet;
 use std::marker::Model;
+use tm_items::Items;
 use tm_syntax::{Name, NameMap};
 
 /// The open scopes, the innermost last, and the names that were found.

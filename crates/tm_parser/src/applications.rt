@@ -12,8 +12,8 @@ ghost use Rattle.tm_values.specs.declared.error.ErrorKind.TheVariants.{OutOfMemo
 use crate::cursor::{Cursor, refusal};
 use crate::lists::add_one;
 use crate::primaries::{Passed, add_argument, nothing_passed};
-use tm_items::Items;
 use std::alloc::Global;
+use tm_items::Items;
 use tm_syntax::{Application, Argument, Name, Sign, Step};
 use tm_values::{Error, SharedText};
 

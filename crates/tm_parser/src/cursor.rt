@@ -18,9 +18,9 @@ use crate::tables::{
     Link, POSTFIX_LEVEL, Start, constant_of, link_of, negated_link_of, prefix_of, start_of,
     target_link, test_word,
 };
-use tm_items::Boxed;
 use std::alloc::Global;
 use std::marker::Model;
+use tm_items::Boxed;
 use tm_syntax::{Expr, Name, Sign, Tag, Token, UnaryOperator};
 use tm_values::{Error, ErrorKind, Value};
 

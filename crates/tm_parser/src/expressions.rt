@@ -16,8 +16,8 @@ use crate::cursor::{Cursor, refusal};
 use crate::lists::{add_one, boxed};
 use crate::primaries::nothing_passed;
 use crate::tables::{Link, OR_LEVEL, POSTFIX_LEVEL};
-use tm_items::{Boxed, Items};
 use std::alloc::Global;
+use tm_items::{Boxed, Items};
 use tm_syntax::{
     Application, BinaryOperator, Comparison, Condition, Expr, Sign, Step, UnaryOperator,
 };

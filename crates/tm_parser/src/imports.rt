@@ -9,8 +9,8 @@ ghost use Rattle.tm_syntax.specs.declared.token.Sign.TheVariants as sign;
 
 use crate::cursor::Cursor;
 use crate::lists::{add_one, with_one};
-use tm_items::Items;
 use std::alloc::Global;
+use tm_items::Items;
 use tm_syntax::{Imported, Name, Sign, Stmt};
 use tm_values::Error;
 

@@ -2,8 +2,8 @@
 ghost use Rattle.std.specs.Prelude.{◌≡◌, ◌++◌, [], ◌∷◌, MatchResult};
 ghost use Rattle.tm_values.specs.declared.error.ErrorKind.TheVariants.{OutOfMemory};
 
-use tm_items::{Boxed, Items};
 use std::alloc::Global;
+use tm_items::{Boxed, Items};
 use tm_values::Error;
 
 /// Items with one more. OutOfMemory for want of memory.

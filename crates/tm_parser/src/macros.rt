@@ -15,8 +15,8 @@ use crate::cursor::{Cursor, refusal};
 use crate::distinct::are_distinct;
 use crate::emissions::is_call;
 use crate::lists::{add_one, boxed, with_one};
-use tm_items::{Boxed, Items};
 use std::alloc::{AllocError, Global};
+use tm_items::{Boxed, Items};
 use tm_syntax::{Application, CallBlock, Expr, Macro, Name, Parameter, Sign, Step, Stmt, Tag};
 use tm_values::Error;
 

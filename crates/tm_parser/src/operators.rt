@@ -17,8 +17,8 @@ use crate::cursor::{Cursor, refusal};
 use crate::expressions::{chained, compared};
 use crate::lists::with_one;
 use crate::tables::{Link, POSTFIX_LEVEL};
-use tm_items::{Boxed, Items};
 use std::alloc::Global;
+use tm_items::{Boxed, Items};
 use tm_syntax::{BinaryOperator, Comparison, Expr, Step};
 use tm_values::Error;
 

@@ -11,8 +11,8 @@ ghost use Rattle.tm_values.specs.declared.error.ErrorKind.TheVariants.{OutOfMemo
 
 use crate::cursor::{Cursor, refusal};
 use crate::lists::{add_one, boxed, with_one};
-use tm_items::{Boxed, Items};
 use std::alloc::Global;
+use tm_items::{Boxed, Items};
 use tm_syntax::{Argument, Expr, Keyword, Name, Pair, Sign};
 use tm_values::Error;
 

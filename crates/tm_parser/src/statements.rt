@@ -12,8 +12,8 @@ use crate::emissions::{add_emission, is_call};
 use crate::lists::{add_one, with_one};
 use crate::tables::Start;
 use crate::targets::LoopHead;
-use tm_items::Items;
 use std::alloc::Global;
+use tm_items::Items;
 use tm_syntax::{AssignmentTarget, CaptureUse, ForLoop, Sign, Step, Stmt, Tag};
 use tm_values::Error;
 

@@ -14,8 +14,8 @@ use crate::cursor::{Cursor, refusal};
 use crate::expressions::chained;
 use crate::lists::{boxed, with_one};
 use crate::tables::POSTFIX_LEVEL;
-use tm_items::{Boxed, Items};
 use std::alloc::Global;
+use tm_items::{Boxed, Items};
 use tm_syntax::{Assignment, AssignmentTarget, Expr, Name, Sign, Step};
 use tm_values::Error;
 

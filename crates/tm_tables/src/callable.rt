@@ -8,9 +8,9 @@ ghost use Rattle.tm_meaning.specs.declared.reply.Call.TheVariants as further;
 ghost use Rattle.tm_tables.specs.Stated.{IsStated, just, keeping};
 
 use crate::view::View;
-use tm_items::Items;
 use std::alloc::Global;
 use std::marker::Model;
+use tm_items::Items;
 use tm_meaning::{Call, GlobalFunction, Reply};
 use tm_syntax::Name;
 use tm_values::{Error, Value};

@@ -19,7 +19,6 @@ ghost use Rattle.tm_templates.specs.Defaults.{escape_of};
 ghost use Rattle.tm_templates.specs.Sources.{source_bytes};
 
 use crate::defaults::EscapeSetting;
-use tm_items::Items;
 use std::alloc::Global;
 use std::collections::BTreeSet;
 use std::marker::Model;
@@ -27,6 +26,7 @@ use std::rc::{Rc, RcStr};
 use tm_compiler::{
     BlockCode, Code, Name, NameMap, Streams, SyntaxConfig, Tree, generate, parse, parse_expr,
 };
+use tm_items::Items;
 use tm_names::undeclared;
 use tm_tables::{BlockNames, EscapeRule};
 use tm_values::{AutoEscape, Error};

@@ -62,6 +62,6 @@ push_statements-returns-clause-blocks t c = no_more-blocks _ _ _
 pub stream-returns-clause-code : goal.stream-returns-clause-code
 stream-returns-clause-code t c =
     let numbers = c.in_ok-number_caches.ensures ∙ ap numbered (c.finish-instructions.ensures
-        ∙ made-stream c.new.result _ c.push_statements.new.stream c.args.body.now refl (ap (λ b. b.code) c.new.ensures)
-        (ap (λ b. b.outs) c.new.ensures) (ap (λ b. b.exits) c.new.ensures) c.new-2.ensures c.in_ok-push_statements.ensures.code) in
+    ∙ made-stream c.new.result _ c.push_statements.new.stream c.args.body.now refl (ap (λ b. b.code) c.new.ensures)
+    (ap (λ b. b.outs) c.new.ensures) (ap (λ b. b.exits) c.new.ensures) c.new-2.ensures c.in_ok-push_statements.ensures.code) in
     if_ok_weaker c.new-3.result {Q = λ code. code ≡ stream_code (statements c.args.body.now)} (λ code made. made ∙ numbers) c.new-3.ensures
