@@ -1,50 +1,150 @@
--- Steps that are joined, and what stands in a chain and in a step.
-use Rattle.std.proofs.Common.{arith, ◌≡◌, ◌+◌, ◌≤◌, ◌++◌, List, [], ◌∷◌, refl}
-use Rattle.std.specs.Prelude.{max}
+-- What each form of an expression weighs as the program holds it, and lists that are joined.
+use Rattle.std.proofs.Common.{arith, ◌≡◌, ◌+◌, ◌++◌, ℕ, suc, List, [], ◌∷◌, refl}
 use denote.Hole.Carrier.{hidden}
-use Rattle.tm_syntax.specs.declared.tree.Argument.TheBlock.{hidden-the_row-Expr-0, hidden-the_row-Step-5, shape-the_row-Step-5}
-use Rattle.tm_syntax.specs.declared.tree.Expr.{Expr, size-Expr}
-use Rattle.tm_syntax.specs.declared.tree.Expr.TheVariants as exprs
-use Rattle.tm_syntax.specs.declared.tree.Argument.TheViews.{sized-Chain, sized-Binary, sized-Compare, sized-And, sized-Or}
+use Rattle.tm_syntax.specs.declared.tree.UnaryOperator.{UnaryOperator}
 use Rattle.tm_syntax.specs.declared.tree.BinaryOperator.{BinaryOperator}
+use Rattle.tm_syntax.specs.declared.tree.Application.{Application}
+use Rattle.tm_syntax.specs.declared.tree.Argument.{Argument}
+use Rattle.tm_syntax.specs.declared.tree.Argument.TheVariants as a
+use Rattle.tm_syntax.specs.declared.tree.Argument.TheBlock.{hidden-the_row-Expr-0}
+use Rattle.tm_syntax.specs.declared.tree.Argument.TheBlock.{hidden-the_row-Expr-1 as exprs, shape-the_row-Expr-1}
+use Rattle.tm_syntax.specs.declared.tree.Argument.TheBlock.{hidden-the_row-Pair-2 as pairs, shape-the_row-Pair-2}
+use Rattle.tm_syntax.specs.declared.tree.Argument.TheBlock.{hidden-the_row-Argument-3 as arguments, shape-the_row-Argument-3}
+use Rattle.tm_syntax.specs.declared.tree.Argument.TheBlock.{hidden-the_row-Keyword-4 as keywords, shape-the_row-Keyword-4}
+use Rattle.tm_syntax.specs.declared.tree.Argument.TheBlock.{hidden-the_row-Step-5 as steps, shape-the_row-Step-5}
+use Rattle.tm_syntax.specs.declared.tree.Argument.TheBlock.{hidden-the_row-Condition-6 as conditions, shape-the_row-Condition-6}
+use Rattle.tm_syntax.specs.declared.tree.Argument.TheBlock.{hidden-the_row-Comparison-7 as comparisons, shape-the_row-Comparison-7}
 use Rattle.tm_syntax.specs.declared.tree.Comparison.{Comparison}
-use Rattle.tm_syntax.specs.declared.tree.Step.{Step, size-Step}
-use Rattle.tm_syntax.specs.declared.tree.Step.TheVariants as steps
-use Rattle.tm_syntax.specs.Dropping.{expr_steps, box_steps, row_steps, all_steps, steps_depth}
+use Rattle.tm_syntax.specs.declared.tree.Condition.{Condition}
+use Rattle.tm_syntax.specs.declared.tree.Expr.{Expr}
+use Rattle.tm_syntax.specs.declared.tree.Expr.TheVariants as e
+use Rattle.tm_syntax.specs.declared.tree.Keyword.{Keyword}
+use Rattle.tm_syntax.specs.declared.tree.Keyword.TheVariants as k
+use Rattle.tm_syntax.specs.declared.tree.Pair.{Pair}
+use Rattle.tm_syntax.specs.declared.tree.Step.{Step}
+use Rattle.tm_syntax.specs.declared.tree.Step.TheVariants as s
+use Rattle.tm_syntax.specs.Dropping.{weight, exprs_row, pairs_row, argument_weight, arguments_row, keyword_weight, keywords_row}
+use Rattle.tm_syntax.specs.Dropping.{conditions_row, step_weight, steps_row, comparisons_row}
+use Rattle.tm_syntax.specs.Dropping.{pair_weight, condition_weight, comparison_weight, total}
 
-pub steps_joined : (xs ys : List Step) → all_steps (xs ++ ys) ≡ all_steps xs + all_steps ys
-steps_joined [] ys = omega arith
-steps_joined (x ∷ xs) ys = omega (arith, steps_joined xs ys)
+pub joined : {X : Type 0} (μ : X → ℕ) (xs ys : List X) → total μ (xs ++ ys) ≡ total μ xs + total μ ys
+joined μ [] ys = omega arith
+joined μ (x ∷ xs) ys = omega (arith, joined μ xs ys)
 
-pub depth_joined : (xs ys : List Step) → steps_depth (xs ++ ys) ≡ max (steps_depth xs) (steps_depth ys)
-depth_joined [] ys = omega arith
-depth_joined (x ∷ xs) ys = omega (arith, depth_joined xs ys)
+-- ---------------------------------------------------------------- rows
+exprs_are : (xs : List Expr) → exprs_row (exprs xs) ≡ total weight xs
+unfolding hidden exprs shape-the_row-Expr-1
+exprs_are [] = refl
+exprs_are (x ∷ xs) = omega (arith, exprs_are xs)
 
-row_is : (ss : List Step) → row_steps (hidden-the_row-Step-5 ss) ≡ all_steps ss
-unfolding hidden hidden-the_row-Step-5 shape-the_row-Step-5
-row_is [] = refl
-row_is (s ∷ ss) = omega (arith, row_is ss)
+pairs_are : (xs : List Pair) → pairs_row (pairs xs) ≡ total pair_weight xs
+unfolding hidden pairs shape-the_row-Pair-2
+pairs_are [] = refl
+pairs_are (x ∷ xs) = omega (arith, pairs_are xs)
 
-pub chain_steps : (a : Expr) (ss : List Step) → expr_steps (exprs.Chain a ss) ≡ all_steps ss
-chain_steps a ss = row_is ss
+arguments_are : (xs : List Argument) → arguments_row (arguments xs) ≡ total argument_weight xs
+unfolding hidden arguments shape-the_row-Argument-3
+arguments_are [] = refl
+arguments_are (x ∷ xs) = omega (arith, arguments_are xs)
 
-pub box_is : (a : Expr) → box_steps (hidden-the_row-Expr-0 a) ≡ expr_steps a
+keywords_are : (xs : List Keyword) → keywords_row (keywords xs) ≡ total keyword_weight xs
+unfolding hidden keywords shape-the_row-Keyword-4
+keywords_are [] = refl
+keywords_are (x ∷ xs) = omega (arith, keywords_are xs)
+
+steps_are : (xs : List Step) → steps_row (steps xs) ≡ total step_weight xs
+unfolding hidden steps shape-the_row-Step-5
+steps_are [] = refl
+steps_are (x ∷ xs) = omega (arith, steps_are xs)
+
+conditions_are : (xs : List Condition) → conditions_row (conditions xs) ≡ total condition_weight xs
+unfolding hidden conditions shape-the_row-Condition-6
+conditions_are [] = refl
+conditions_are (x ∷ xs) = omega (arith, conditions_are xs)
+
+comparisons_are : (xs : List Comparison) → comparisons_row (comparisons xs) ≡ total comparison_weight xs
+unfolding hidden comparisons shape-the_row-Comparison-7
+comparisons_are [] = refl
+comparisons_are (x ∷ xs) = omega (arith, comparisons_are xs)
+
+-- ---------------------------------------------------------------- expressions
+pub of_list : (xs : List Expr) → weight (e.List xs) ≡ total weight xs
+of_list xs = exprs_are xs
+
+pub of_tuple : (xs : List Expr) → weight (e.Tuple xs) ≡ total weight xs
+of_tuple xs = exprs_are xs
+
+pub of_map : (xs : List Pair) → weight (e.Map xs) ≡ total pair_weight xs
+of_map xs = pairs_are xs
+
+pub of_call : (f : List ℕ) (given : List Argument) (named : List Keyword) →
+    weight (e.Call f given named) ≡ total argument_weight given + total keyword_weight named
+of_call f given named = omega (arith, arguments_are given, keywords_are named)
+
+pub of_unary : (op : UnaryOperator) (x : Expr) → weight (e.Unary op x) ≡ suc (weight x)
 unfolding hidden hidden-the_row-Expr-0
-box_is a = omega arith
+of_unary op x = refl
 
-pub chain_depth : (a : Expr) (ss : List Step) → steps_depth ss ≤ size-Expr (exprs.Chain a ss)
-chain_depth a ss = omega (arith, sized-Chain a ss)
+pub of_chain : (x : Expr) (ss : List Step) → weight (e.Chain x ss) ≡ suc (weight x + total step_weight ss)
+unfolding hidden hidden-the_row-Expr-0
+of_chain x ss = omega (arith, steps_are ss)
 
-pub binary_depth : (op : BinaryOperator) (a : Expr) → size-Expr a ≤ size-Step (steps.Binary op a)
-binary_depth op a = omega (arith, sized-Binary op a)
+pub of_conditional : (x : Expr) (cs : List Condition) → weight (e.Conditional x cs) ≡ suc (weight x + total condition_weight cs)
+unfolding hidden hidden-the_row-Expr-0
+of_conditional x cs = omega (arith, conditions_are cs)
 
-pub compare_depth : (op : BinaryOperator) (a : Expr) (cs : List Comparison) → size-Expr a ≤ size-Step (steps.Compare op a cs)
-compare_depth op a cs = omega (arith, sized-Compare op a cs)
+-- ---------------------------------------------------------------- what stands in them
+pub of_plain : (x : Expr) → argument_weight (a.Plain x) ≡ suc (weight x)
+unfolding hidden hidden-the_row-Expr-0
+of_plain x = refl
 
-pub and_depth : (a : Expr) → size-Expr a ≤ size-Step (steps.And a)
-and_depth a = omega (arith, sized-And a)
+pub of_spread : (x : Expr) → argument_weight (a.Spread x) ≡ suc (weight x)
+unfolding hidden hidden-the_row-Expr-0
+of_spread x = refl
 
-pub or_depth : (a : Expr) → size-Expr a ≤ size-Step (steps.Or a)
-or_depth a = omega (arith, sized-Or a)
+pub of_named : (name : List ℕ) (x : Expr) → keyword_weight (k.Named name x) ≡ suc (weight x)
+unfolding hidden hidden-the_row-Expr-0
+of_named name x = refl
 
-pub ruleset sizes = (steps_joined, depth_joined, chain_steps, box_is, chain_depth, binary_depth, compare_depth, and_depth, or_depth)
+pub of_spread_keywords : (x : Expr) → keyword_weight (k.Spread x) ≡ suc (weight x)
+unfolding hidden hidden-the_row-Expr-0
+of_spread_keywords x = refl
+
+-- ---------------------------------------------------------------- steps
+pub of_item : (x : Expr) → step_weight (s.Item x) ≡ suc (weight x)
+unfolding hidden hidden-the_row-Expr-0
+of_item x = refl
+
+pub of_apply : (how : Application) (f : List ℕ) (given : List Argument) (named : List Keyword) →
+    step_weight (s.Apply how f given named) ≡ total argument_weight given + total keyword_weight named
+of_apply how f given named = omega (arith, arguments_are given, keywords_are named)
+
+pub of_called : (given : List Argument) (named : List Keyword) →
+    step_weight (s.Call given named) ≡ total argument_weight given + total keyword_weight named
+of_called given named = omega (arith, arguments_are given, keywords_are named)
+
+pub of_slice : (x y z : Expr) → step_weight (s.Slice x y z) ≡ suc (suc (suc (weight x + weight y + weight z)))
+unfolding hidden hidden-the_row-Expr-0
+of_slice x y z = refl
+
+pub of_binary : (op : BinaryOperator) (x : Expr) → step_weight (s.Binary op x) ≡ suc (weight x)
+unfolding hidden hidden-the_row-Expr-0
+of_binary op x = refl
+
+pub of_compare : (op : BinaryOperator) (x : Expr) (cs : List Comparison) →
+    step_weight (s.Compare op x cs) ≡ suc (weight x + total comparison_weight cs)
+unfolding hidden hidden-the_row-Expr-0
+of_compare op x cs = omega (arith, comparisons_are cs)
+
+pub of_and : (x : Expr) → step_weight (s.And x) ≡ suc (weight x)
+unfolding hidden hidden-the_row-Expr-0
+of_and x = refl
+
+pub of_or : (x : Expr) → step_weight (s.Or x) ≡ suc (weight x)
+unfolding hidden hidden-the_row-Expr-0
+of_or x = refl
+
+pub ruleset of_expr = (of_list, of_tuple, of_map, of_call, of_unary, of_chain, of_conditional)
+pub ruleset of_part = (of_plain, of_spread, of_named, of_spread_keywords)
+pub ruleset of_step = (of_item, of_apply, of_called, of_slice, of_binary, of_compare, of_and, of_or)
+pub ruleset weights = (joined, of_expr, of_part, of_step)

@@ -1,55 +1,94 @@
--- How much the drop of a tree puts aside: the steps of the operands of operators, and theirs.
-use Rattle.std.specs.Prelude.{ℕ, ◌+◌, ◌≤◌, max, List, [], ◌∷◌}
-use denote.Param.Weighed.{most}
-use Rattle.tm_syntax.specs.declared.tree.Expr.{Expr, Var, Const, List', Tuple', Map', Call', SelfBlock, Unary', Chain', Conditional'}
-use Rattle.tm_syntax.specs.declared.tree.Expr.{Row_of-Expr, end_of-Expr as no_expr, more_of-Expr as expr, size-Expr}
-use Rattle.tm_syntax.specs.declared.tree.Expr.{Row_of-Step, end_of-Step as no_step, more_of-Step as step}
-use Rattle.tm_syntax.specs.declared.tree.Step.{Step, Attribute, Item', Apply', Call' as Called, Slice', Binary', Compare', And', Or', size-Step}
+-- How much an expression holds, and a list of what is left to drop.
+use Rattle.std.specs.Prelude.{ℕ, suc, ◌+◌, ◌≤◌, List, [], ◌∷◌}
+use Rattle.tm_syntax.specs.Forms.{unary, chained, conditional, with_condition, with_comparison, with_pair, plain, spread, keyword}
+use Rattle.tm_syntax.specs.Forms.{spread_keywords, item, slice, binary, compare, and_then, or_else}
+use Rattle.tm_syntax.specs.declared.tree.Expr.{Expr, Var, Const, List', Tuple', Map', Call', SelfBlock, Row_of-Expr}
+use Rattle.tm_syntax.specs.declared.tree.Expr.{end_of-Expr as no_expr, more_of-Expr as expr, Row_of-Pair, end_of-Pair as no_pair}
+use Rattle.tm_syntax.specs.declared.tree.Expr.{Row_of-Argument, end_of-Argument as no_argument, more_of-Argument as argument}
+use Rattle.tm_syntax.specs.declared.tree.Expr.{Row_of-Keyword, end_of-Keyword as no_keyword, more_of-Keyword as keyword_and, Row_of-Step}
+use Rattle.tm_syntax.specs.declared.tree.Expr.{end_of-Step as no_step, more_of-Step as step, Row_of-Condition}
+use Rattle.tm_syntax.specs.declared.tree.Expr.{end_of-Condition as no_condition}
+use Rattle.tm_syntax.specs.declared.tree.Argument.{Argument}
+use Rattle.tm_syntax.specs.declared.tree.Comparison.{Comparison}
+use Rattle.tm_syntax.specs.declared.tree.Condition.{Condition}
+use Rattle.tm_syntax.specs.declared.tree.Keyword.{Keyword}
+use Rattle.tm_syntax.specs.declared.tree.Pair.{Pair}
+use Rattle.tm_syntax.specs.declared.tree.Step.{Step, Attribute, Apply', Call' as Called, Row_of-Comparison, end_of-Comparison as no_comparison}
 
+-- what stands in a row counts one and what it holds
 abbrev mutual
-  pub expr_steps : Expr → ℕ
-  expr_steps (Var x) = 0
-  expr_steps (Const c) = 0
-  expr_steps (List' n all) = 0
-  expr_steps (Tuple' n all) = 0
-  expr_steps (Map' n all) = 0
-  expr_steps (Call' f n given m named) = 0
-  expr_steps (SelfBlock x) = 0
-  expr_steps (Unary' op u a) = 0
-  expr_steps (Chain' u a n ss) = row_steps ss
-  expr_steps (Conditional' u a n cs) = 0
+  pub weight : Expr → ℕ
+  weight (Var x) = 0
+  weight (Const c) = 0
+  weight (List' n all) = exprs_row all
+  weight (Tuple' n all) = exprs_row all
+  weight (Map' n all) = pairs_row all
+  weight (Call' f n given m named) = arguments_row given + keywords_row named
+  weight (SelfBlock x) = 0
+  weight (unary op a) = suc (weight a)
+  weight (chained a n ss) = suc (weight a + steps_row ss)
+  weight (conditional a n cs) = suc (weight a + conditions_row cs)
 
-  pub box_steps : {n : _} → Row_of-Expr n → ℕ
-  box_steps no_expr = 0
-  box_steps (expr a more) = expr_steps a + box_steps more
+  pub exprs_row : {n : _} → Row_of-Expr n → ℕ
+  exprs_row no_expr = 0
+  exprs_row (expr a more) = suc (weight a + exprs_row more)
 
-  pub row_steps : {n : _} → Row_of-Step n → ℕ
-  row_steps no_step = 0
-  row_steps (step s more) = step_steps s + row_steps more
+  pub pairs_row : {n : _} → Row_of-Pair n → ℕ
+  pairs_row no_pair = 0
+  pairs_row (with_pair k v more) = suc (suc (suc (weight k + weight v)) + pairs_row more)
 
-  -- the step itself, and those of its operand
-  pub step_steps : Step → ℕ
-  step_steps (Attribute x) = 1
-  step_steps (Item' u a) = 1
-  step_steps (Apply' how x n given m named) = 1
-  step_steps (Called n given m named) = 1
-  step_steps (Slice' u a v b w c) = 1
-  step_steps (Binary' op u a) = box_steps a + 1
-  step_steps (Compare' op u a n cs) = box_steps a + 1
-  step_steps (And' u a) = box_steps a + 1
-  step_steps (Or' u a) = box_steps a + 1
+  pub argument_weight : Argument → ℕ
+  argument_weight (plain a) = suc (weight a)
+  argument_weight (spread a) = suc (weight a)
 
-abbrev pub all_steps : List Step → ℕ
-all_steps [] = 0
-all_steps (s ∷ ss) = step_steps s + all_steps ss
+  pub arguments_row : {n : _} → Row_of-Argument n → ℕ
+  arguments_row no_argument = 0
+  arguments_row (argument a more) = suc (argument_weight a + arguments_row more)
 
--- how deep the deepest of them is
-abbrev pub steps_depth : List Step → ℕ
-steps_depth ss = most size-Step ss
+  pub keyword_weight : Keyword → ℕ
+  keyword_weight (keyword x a) = suc (weight a)
+  keyword_weight (spread_keywords a) = suc (weight a)
 
--- so many more steps as this puts aside, and none deeper than those before or this
-abbrev pub JoinedWithin : Expr → List Step → List Step → Type 0
-JoinedWithin a before after = record {
-  fewer : all_steps after ≤ all_steps before + expr_steps a;
-  no_deeper : steps_depth after ≤ max (steps_depth before) (size-Expr a);
-}
+  pub keywords_row : {n : _} → Row_of-Keyword n → ℕ
+  keywords_row no_keyword = 0
+  keywords_row (keyword_and k more) = suc (keyword_weight k + keywords_row more)
+
+  pub conditions_row : {n : _} → Row_of-Condition n → ℕ
+  conditions_row no_condition = 0
+  conditions_row (with_condition c e more) = suc (suc (suc (weight c + weight e)) + conditions_row more)
+
+  pub step_weight : Step → ℕ
+  step_weight (Attribute x) = 0
+  step_weight (item a) = suc (weight a)
+  step_weight (Apply' how x n given m named) = arguments_row given + keywords_row named
+  step_weight (Called n given m named) = arguments_row given + keywords_row named
+  step_weight (slice a b c) = suc (suc (suc (weight a + weight b + weight c)))
+  step_weight (binary op a) = suc (weight a)
+  step_weight (compare op a n cs) = suc (weight a + comparisons_row cs)
+  step_weight (and_then a) = suc (weight a)
+  step_weight (or_else a) = suc (weight a)
+
+  pub steps_row : {n : _} → Row_of-Step n → ℕ
+  steps_row no_step = 0
+  steps_row (step s more) = suc (step_weight s + steps_row more)
+
+  pub comparisons_row : {n : _} → Row_of-Comparison n → ℕ
+  comparisons_row no_comparison = 0
+  comparisons_row (with_comparison op a more) = suc (suc (weight a) + comparisons_row more)
+
+abbrev pub pair_weight : Pair → ℕ
+pair_weight p = suc (suc (weight p.key + weight p.value))
+
+abbrev pub condition_weight : Condition → ℕ
+condition_weight c = suc (suc (weight c.test + weight c.otherwise))
+
+abbrev pub comparison_weight : Comparison → ℕ
+comparison_weight c = suc (weight c.right)
+
+abbrev pub total : {X : Type 0} → (X → ℕ) → List X → ℕ
+total μ [] = 0
+total μ (x ∷ xs) = suc (μ x + total μ xs)
+
+-- what is left grew by this weight, or less
+abbrev pub GrewAtMost : ℕ → List Expr → List Expr → Type 0
+GrewAtMost n before after = total weight after ≤ total weight before + n

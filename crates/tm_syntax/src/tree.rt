@@ -1,13 +1,16 @@
 //! Syntax trees. What goes on with a value is a list. Lists of different levels of operators lie in
 //! one another within one nesting of the source, so a tree is as deep as its source nests, times
 //! these levels.
-ghost use Rattle.std.specs.Prelude.{◌≡◌, false, MatchOption};
-ghost use Rattle.tm_syntax.specs.Dropping.{JoinedWithin};
+ghost use Rattle.std.specs.Prelude.{suc, ◌≡◌, ◌+◌, false, MatchOption};
+ghost use Rattle.tm_syntax.specs.Dropping.{GrewAtMost, total, weight, pair_weight};
+ghost use Rattle.tm_syntax.specs.Dropping.{argument_weight, keyword_weight, step_weight};
+ghost use Rattle.tm_syntax.specs.Dropping.{condition_weight, comparison_weight};
 ghost use Rattle.tm_syntax.specs.Forms.{is_named_call};
 ghost use Rattle.tm_syntax.specs.declared.tree.Expr.TheVariants as exprs;
 
 use crate::name::Name;
 use crate::raw_text::RawText;
+use std::alloc::AllocFailed;
 use tm_items::{Boxed, Items};
 use tm_values::Value;
 
@@ -70,7 +73,7 @@ pub enum Application {
     NegatedTest,
 }
 
-/// An expression. Operators that stand in one another's operands drop by a list of what is left.
+/// An expression. What it holds drops by a list of what is left.
 #[cycle(expr)]
 pub enum Expr {
     /// A name.
@@ -315,23 +318,42 @@ pub enum Tree {
     Expression(Boxed<Expr>),
 }
 
+// What an expression holds is dropped by a list, so that a deep one takes no deep stack.
 impl Drop for Expr {
     #[cycle(dropping)]
+    #[tactic(auto, using(crate::proofs::Dropping::weights))]
     fn drop(self) {
         match self {
-            Expr::Var(_)
-            | Expr::Const(_)
-            | Expr::List(_)
-            | Expr::Tuple(_)
-            | Expr::Map(_)
-            | Expr::Call(_, _, _)
-            | Expr::SelfBlock(_) => {}
-            Expr::Unary(_, operand) => drop_boxed(operand),
-            Expr::Chain(first, after) => {
-                drop_steps(after.into_vec());
-                drop_boxed(first);
+            Expr::Var(_) | Expr::Const(_) | Expr::SelfBlock(_) => {}
+            Expr::List(items) => drop_all(items.into_vec()),
+            Expr::Tuple(items) => drop_all(items.into_vec()),
+            Expr::Map(pairs) => {
+                let pairs = pairs.into_vec();
+                let mut left = Vec::new(*pairs.allocator());
+                put_pairs(pairs, &mut left);
+                drop_all(left);
             }
-            Expr::Conditional(value, _) => drop_boxed(value),
+            Expr::Call(_, given, named) => {
+                let given = given.into_vec();
+                let mut left = Vec::new(*given.allocator());
+                put_passed(given, named.into_vec(), &mut left);
+                drop_all(left);
+            }
+            Expr::Unary(_, operand) => drop(operand.into_inner()),
+            Expr::Chain(first, after) => {
+                let after = after.into_vec();
+                let mut left = Vec::new(*after.allocator());
+                put(first.into_inner(), &mut left);
+                put_steps(after, &mut left);
+                drop_all(left);
+            }
+            Expr::Conditional(value, conditions) => {
+                let conditions = conditions.into_vec();
+                let mut left = Vec::new(*conditions.allocator());
+                put(value.into_inner(), &mut left);
+                put_conditions(conditions, &mut left);
+                drop_all(left);
+            }
         }
     }
 }
@@ -357,63 +379,169 @@ impl Expr {
         }
     }
 
-    // Drops an operand, but for its steps, which join those that are left. Where memory for that
-    // lacks, they are dropped at once.
+    // Whether expressions may stand in it.
+    fn may_hold(&self) -> bool {
+        !matches!(self, Expr::Var(_) | Expr::Const(_) | Expr::SelfBlock(_))
+    }
+
+    // Puts aside what it holds.
     #[cycle(dropping)]
-    #[tactic(auto, using(crate::proofs::Dropping::sizes))]
-    fn drop_aside(self, left: &mut Vec<Step>)
-        ensures { JoinedWithin self left.old.items left.new.items }
+    #[tactic(auto, using(crate::proofs::Dropping::weights))]
+    fn put_parts(self, left: &mut Vec<Expr>)
+        ensures { GrewAtMost (weight self) left.old.items left.new.items }
     {
         match self {
-            Expr::Var(_)
-            | Expr::Const(_)
-            | Expr::List(_)
-            | Expr::Tuple(_)
-            | Expr::Map(_)
-            | Expr::Call(_, _, _)
-            | Expr::SelfBlock(_) => {}
-            Expr::Unary(_, operand) => drop_boxed(operand),
+            Expr::Var(_) | Expr::Const(_) | Expr::SelfBlock(_) => {}
+            Expr::List(items) => put_exprs(items.into_vec(), left),
+            Expr::Tuple(items) => put_exprs(items.into_vec(), left),
+            Expr::Map(pairs) => put_pairs(pairs.into_vec(), left),
+            Expr::Call(_, given, named) => put_passed(given.into_vec(), named.into_vec(), left),
+            Expr::Unary(_, operand) => put(operand.into_inner(), left),
             Expr::Chain(first, after) => {
-                let mut after = after.into_vec();
-                let _joined = left.append(&mut after);
-                drop_steps(after);
-                drop_boxed(first);
+                put(first.into_inner(), left);
+                put_steps(after.into_vec(), left);
             }
-            Expr::Conditional(value, _) => drop_boxed(value),
+            Expr::Conditional(value, conditions) => {
+                put(value.into_inner(), left);
+                put_conditions(conditions.into_vec(), left);
+            }
         }
     }
 }
 
-// Drops steps one by one. Those of an operator's operand join those that are left.
+// Drops expressions one by one. What each holds joins those that are left.
 #[inline(never)]
 #[cycle(dropping)]
-#[tactic(auto, using(crate::proofs::Dropping::sizes))]
-fn drop_steps(mut left: Vec<Step>) {
-    while let Some(step) = left.pop() {
-        let operand = match step {
-            Step::Binary(_operator, operand) => operand,
-            Step::Compare(_operator, operand, _after) => operand,
-            Step::And(operand) => operand,
-            Step::Or(operand) => operand,
-            Step::Attribute(_name) => continue,
-            Step::Item(key) => {
-                drop_boxed(key);
-                continue;
-            }
-            Step::Apply(_application, _name, _given, _named) => continue,
-            Step::Call(_given, _named) => continue,
-            Step::Slice(start, stop, step) => {
-                drop_boxed(start);
-                drop_boxed(stop);
-                drop_boxed(step);
-                continue;
-            }
-        };
-        operand.into_inner().drop_aside(&mut left);
+#[tactic(auto, using(crate::proofs::Dropping::weights))]
+fn drop_all(mut left: Vec<Expr>) {
+    while let Some(expr) = left.pop() {
+        expr.put_parts(&mut left);
     }
     left.destroy_empty();
 }
 
-// Apart, so that a caller keeps no place on the machine's stack for what the box holds.
+// Puts an expression aside where it may hold others. Else it is dropped at once, and so it is where
+// memory for the list lacks.
 #[inline(never)]
-fn drop_boxed<T: Drop>(_boxed: Boxed<T>) {}
+#[cycle(dropping)]
+#[tactic(auto, using(crate::proofs::Dropping::weights))]
+fn put(expr: Expr, left: &mut Vec<Expr>)
+    ensures { GrewAtMost (suc (weight expr)) left.old.items left.new.items }
+{
+    if expr.may_hold() {
+        if let Err(AllocFailed { value }) = left.push(expr) {
+            drop(value);
+        }
+    } else {
+        drop(expr);
+    }
+}
+
+#[cycle(dropping)]
+#[tactic(auto, using(crate::proofs::Dropping::weights))]
+fn put_exprs(mut exprs: Vec<Expr>, left: &mut Vec<Expr>)
+    ensures { GrewAtMost (total weight exprs.items) left.old.items left.new.items }
+{
+    while let Some(expr) = exprs.pop() {
+        put(expr, left);
+    }
+    exprs.destroy_empty();
+}
+
+#[cycle(dropping)]
+#[tactic(auto, using(crate::proofs::Dropping::weights))]
+fn put_pairs(mut pairs: Vec<Pair>, left: &mut Vec<Expr>)
+    ensures { GrewAtMost (total pair_weight pairs.items) left.old.items left.new.items }
+{
+    while let Some(Pair { key, value }) = pairs.pop() {
+        put(key.into_inner(), left);
+        put(value.into_inner(), left);
+    }
+    pairs.destroy_empty();
+}
+
+#[cycle(dropping)]
+#[tactic(auto, using(crate::proofs::Dropping::weights))]
+fn put_passed(mut given: Vec<Argument>, mut named: Vec<Keyword>, left: &mut Vec<Expr>)
+    ensures { GrewAtMost
+        (total argument_weight given.items + total keyword_weight named.items)
+        left.old.items left.new.items }
+{
+    while let Some(argument) = given.pop() {
+        let value = match argument {
+            Argument::Plain(value) => value,
+            Argument::Spread(value) => value,
+        };
+        put(value.into_inner(), left);
+    }
+    given.destroy_empty();
+    while let Some(keyword) = named.pop() {
+        let value = match keyword {
+            Keyword::Named(_name, value) => value,
+            Keyword::Spread(value) => value,
+        };
+        put(value.into_inner(), left);
+    }
+    named.destroy_empty();
+}
+
+#[cycle(dropping)]
+#[tactic(auto, using(crate::proofs::Dropping::weights))]
+fn put_conditions(mut conditions: Vec<Condition>, left: &mut Vec<Expr>)
+    ensures { GrewAtMost (total condition_weight conditions.items) left.old.items left.new.items }
+{
+    while let Some(Condition { test, otherwise }) = conditions.pop() {
+        put(test.into_inner(), left);
+        put(otherwise.into_inner(), left);
+    }
+    conditions.destroy_empty();
+}
+
+#[cycle(dropping)]
+#[tactic(auto, using(crate::proofs::Dropping::weights))]
+fn put_comparisons(mut comparisons: Vec<Comparison>, left: &mut Vec<Expr>)
+    ensures { GrewAtMost (total comparison_weight comparisons.items) left.old.items left.new.items }
+{
+    while let Some(Comparison { operator: _, right }) = comparisons.pop() {
+        put(right.into_inner(), left);
+    }
+    comparisons.destroy_empty();
+}
+
+#[cycle(dropping)]
+#[tactic(auto, using(crate::proofs::Dropping::weights))]
+fn put_steps(mut steps: Vec<Step>, left: &mut Vec<Expr>)
+    ensures { GrewAtMost (total step_weight steps.items) left.old.items left.new.items }
+{
+    while let Some(step) = steps.pop() {
+        put_step(step, left);
+    }
+    steps.destroy_empty();
+}
+
+#[cycle(dropping)]
+#[tactic(auto, using(crate::proofs::Dropping::weights))]
+fn put_step(step: Step, left: &mut Vec<Expr>)
+    ensures { GrewAtMost (step_weight step) left.old.items left.new.items }
+{
+    match step {
+        Step::Attribute(_name) => {}
+        Step::Item(value) => put(value.into_inner(), left),
+        Step::Apply(_application, _name, given, named) => {
+            put_passed(given.into_vec(), named.into_vec(), left)
+        }
+        Step::Call(given, named) => put_passed(given.into_vec(), named.into_vec(), left),
+        Step::Slice(start, stop, step) => {
+            put(start.into_inner(), left);
+            put(stop.into_inner(), left);
+            put(step.into_inner(), left);
+        }
+        Step::Binary(_operator, right) => put(right.into_inner(), left),
+        Step::Compare(_operator, right, comparisons) => {
+            put(right.into_inner(), left);
+            put_comparisons(comparisons.into_vec(), left);
+        }
+        Step::And(right) => put(right.into_inner(), left),
+        Step::Or(right) => put(right.into_inner(), left),
+    }
+}
