@@ -1,6 +1,6 @@
 //! Renders standard input over one name and one filter, so that bench/instructions can count what a filter costs, and what
-//! blocks and includes cost. The input is one template, or several, each behind a line `=== NAME` with its name: then the first is
-//! rendered. A number behind the program's name says how often.
+//! blocks and includes cost. The input is one template, or several, each after a line `=== NAME` with its name: then the first is
+//! rendered. A number after the program's name says how often.
 #![tactic(auto)]
 
 ghost use Rattle.std.specs.Prelude.{slice_get};
@@ -58,7 +58,7 @@ fn run(rt: &HostRuntime) -> io::Result<()> {
     }
 }
 
-/// How often is rendered: as often as the word behind the program's name says, or once.
+/// How often is rendered: as often as the word after the program's name says, or once.
 fn times(rt: &HostRuntime) -> io::Result<usize> {
     let mut words = env::args(rt)?;
     words.next();
@@ -127,7 +127,7 @@ fn first_name(input: &str) -> &str {
     }
 }
 
-/// The first line behind its mark, and what follows.
+/// The first line after its mark, and what follows.
 fn name_and_source(part: &str) -> (&str, &str) {
     part.split_once('\n').unwrap_or((part, ""))
 }

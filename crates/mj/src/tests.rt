@@ -1,4 +1,4 @@
-//! What no clause says: which words serve, what is read and written, and how faults are told.
+//! What no clause says: which words serve, what is read and written, and how faults are reported.
 
 use mj_run::{Texts, run};
 use std::alloc::Global;
@@ -137,7 +137,7 @@ impl Write for Page {
 }
 
 /// What rows say: the status of a run, how often is read and flushed, and its words, with a blank
-/// between them; what is written; and what is told: the usage line, an error of a kind, or nothing.
+/// between them; what is written; and what is reported: the usage line, an error of a kind, or nothing.
 const ROWS: &str = r#"Words and files.
 - 0 1 1 -D name=World - => Hello World! => -
 - 0 1 1 -D name=World hello.txt => Hello World! => -
@@ -245,7 +245,7 @@ fn owned(alloc: Global, words: &str) -> Result<Vec<String>, Fail> {
     Ok(owned)
 }
 
-/// What a run leaves: its status, the page, what is told, and how often is read.
+/// What a run leaves: its status, the page, what is reported, and how often is read.
 #[derive(Drop)]
 struct Ran {
     status: u8,
@@ -270,21 +270,21 @@ fn run_onto(page: Page, words: &str) -> Result<Ran, Fail> {
     })
 }
 
-/// Whether a field is this number; and what stands behind it.
-fn behind(fields: &str, number: u64) -> (bool, &str) {
+/// Whether a field is this number; and what stands after it.
+fn after(fields: &str, number: u64) -> (bool, &str) {
     let (field, rest) = fields.split_once(' ').unwrap_or((fields, ""));
     (field.parse() == Ok(number), rest)
 }
 
 /// Whether a run ended, read and flushed so.
 fn is_counted(ran: &Ran, fields: &str) -> bool {
-    let (is_status, fields) = behind(fields, ran.status as u64);
-    let (are_reads, fields) = behind(fields, ran.reads);
-    let (are_flushes, _words) = behind(fields, ran.page.flushes);
+    let (is_status, fields) = after(fields, ran.status as u64);
+    let (are_reads, fields) = after(fields, ran.reads);
+    let (are_flushes, _words) = after(fields, ran.page.flushes);
     is_status && are_reads && are_flushes
 }
 
-/// Whether this is told: the usage line, an error of a kind, or nothing.
+/// Whether this is reported: the usage line, an error of a kind, or nothing.
 fn is_told(told: &[u8], wanted: &str) -> bool {
     let Ok(told) = std::str::from_utf8(told) else {
         return false;
@@ -299,7 +299,7 @@ fn is_told(told: &[u8], wanted: &str) -> bool {
     }
 }
 
-/// The words behind the three numbers of a row.
+/// The words after the three numbers of a row.
 fn words_of(fields: &str) -> &str {
     let (_status, fields) = fields.split_once(' ').unwrap_or((fields, ""));
     let (_reads, fields) = fields.split_once(' ').unwrap_or((fields, ""));
@@ -319,7 +319,7 @@ fn is_row(page: Page, row: &str) -> Result<bool, Fail> {
     )
 }
 
-/// Runs the rows behind a heading, each onto such a page.
+/// Runs the rows after a heading, each onto such a page.
 fn expect_rows(alloc: Global, room: usize, flush_fails: bool, rows: &str) -> Result<(), Fail> {
     let mut rows = rows.split("\n- ");
     let _heading = rows.next();

@@ -84,7 +84,7 @@ fn map_of(alloc: Global, pairs: Vec<(Value, Value)>) -> Result<Value, Refusal>
     made(Value::from_map(alloc, ValueMap::from_ascending(pairs)))
 }
 
-/// What was made of values, whose making fails for want of memory alone.
+/// What was made of values, whose making fails only when out of memory.
 fn made<T: Drop>(answer: Result<T, Error>) -> Result<T, Refusal>
     ensures { MatchResult result (λ value. answer ≡ Ok value) (λ e. e ≡ Refusal.OutOfMemory) }
 {

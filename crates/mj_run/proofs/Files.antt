@@ -1,4 +1,4 @@
--- What a read behind another one gives is what it gave before, and what is told where files don't serve.
+-- What a read after another one gives is what it gave before, and what is reported where files don't serve.
 use Rattle.std.proofs.Common.{◌≡◌, ◌⊎◌, inl, inr, ℕ, List, [], ◌∷◌, ◌++◌, Option, None, Some, sym, subst, refl, append_assoc}
 use Rattle.std.proofs.lemmas.List.{append-nil}
 use Rattle.std.specs.Prelude.{Bool, true, false, if◌then◌else◌}
@@ -111,7 +111,7 @@ module _ {T : Type 0} (of_file : T → Text → Option Text → Type 0) (of_inpu
       r.unread (any_first (IsUnread of_file of_input old) file left
       (inr (bytes, read_before files left file old now done r (Some bytes) is, text)))
 
--- At status 2 the usage line was told, and memory was not wanting.
+-- At status 2 the usage line was written, and memory was not wanting.
 pub refused_use : {W X : Type 0} (contents : W → Option Text) (refusal : Refusal) (status : ℕ) (old new : Tally W) →
     status ≡ refusal_status refusal →
     IsTold contents old new (refusal_message refusal) → status ≡ 2 → (refusal ≡ OutOfMemory) ⊎ X → IsTold contents old new usage × X

@@ -33,7 +33,7 @@ next_word words k word below is =
 pub no_word : (words : List (String Global)) (k : ℕ) → length words ≤ k → map string_bytes (drop k words) ≡ []
 no_word words k beyond = ap (λ (left : List (String Global)). map string_bytes left) (drop_all k words beyond)
 
--- a file with its source that was pushed stands behind the others
+-- a file with its source that was pushed stands after the others
 pub pushed : (xs ys : List (Bor Text × String Global)) (x : Bor Text × String Global) → ys ≡ xs ++ x ∷ [] →
     map named ys ≡ map named xs ++ named x ∷ []
 pushed xs ys x e = ap (λ (all : List (Bor Text × String Global)). map named all) e ∙ map-append named xs (x ∷ [])

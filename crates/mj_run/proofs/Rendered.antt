@@ -63,7 +63,7 @@ module _ {C M F R J : Type 0} where
   abbrev settled : ArgumentsValue → EnvironmentValue (Parts C M F R J)
   settled a = record empty { fuel = a.fuel; limit = limit_of a.limit }
 
-  -- what an environment is behind its settings
+  -- what an environment is after its settings
   pub started : (a : ArgumentsValue) (limit : ℕ) (first fuelled set : EnvironmentValue (Parts C M F R J)) → first ≡ empty →
       fuelled ≡ record first { fuel = a.fuel } →
       set ≡ record fuelled { limit = min limit greatest_limit } → min limit greatest_limit ≡ limit_of a.limit → set ≡ settled a
@@ -149,7 +149,7 @@ fault_chain next w answer is = absurd (cc)
 fault_chain (fault chain) w answer is = cc
 
 module _ {W : Type 0} (contents : W → Option Text) where
-  -- want of memory, before anything was written
+  -- out of memory, before anything was written
   pub is_memory : (i : Input) (chain : List ErrorKind) (old : Tally W) → chain ≡ OutOfMemory ∷ [] → IsFault contents i chain old old
   is_memory i chain old e = no_memory (ap is_want_of_memory e) refl (inl (keeps_same (contents old.writer)))
 

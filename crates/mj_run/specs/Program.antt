@@ -181,20 +181,20 @@ IsBegun input old new = (outcome : Outcome) × Means input outcome × AppendsBeg
 -- A render ends with this error, and the writer holds what that error leaves. Its count of failures rose where a write failed, and only
 -- there.
 pub data IsFault {W : Type 0} (contents : W → Option Text) (input : Input) (chain : List ErrorKind) (old new : Tally W) : Type 0 where
-  -- want of memory: nothing was written, or a beginning of the text
+  -- out of memory: nothing was written, or a beginning of the text
   no_memory : is_want_of_memory chain ≡ true → new.failures ≡ old.failures →
       Keeps (contents old.writer) (contents new.writer) ⊎ IsBegun input (contents old.writer) (contents new.writer) →
       IsFault contents input chain old new
-  -- a write failed, behind a beginning of the text
+  -- a write failed, after a beginning of the text
   write_failed : chain ≡ WriteFailure ∷ [] → new.failures ≡ saturating_increment old.failures →
       IsBegun input (contents old.writer) (contents new.writer) →
       IsFault contents input chain old new
-  -- the flush failed, behind the whole text
+  -- the flush failed, after the whole text
   flush_failed : chain ≡ WriteFailure ∷ [] → IsRendered contents input old new → IsFault contents input chain old new
   -- a source spells no tree
   no_tree : chain ≡ SyntaxError ∷ [] → new.failures ≡ old.failures → Keeps (contents old.writer) (contents new.writer) →
       SpellNone default_syntax input.sources →
       IsFault contents input chain old new
-  -- the fault is the one that was meant, behind all text that was heard before it
+  -- the fault is the one that was meant, after all text that was heard before it
   meant : (outcome : Outcome) → Means input outcome → chain_of outcome ≡ chain → new.failures ≡ old.failures →
       Appends (contents old.writer) (contents new.writer) outcome.text → IsFault contents input chain old new

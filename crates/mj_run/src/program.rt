@@ -41,7 +41,7 @@ pub trait Texts {
 }
 
 /// Renders the first file of the words to `out` as it goes, with all of them as templates, tells
-/// faults to `err`, and gives the exit status: 0 where all was written, 1 behind a fault, 2 where
+/// faults to `err`, and gives the exit status: 0 where all was written, 1 after a fault, 2 where
 /// the words or the files do not serve.
 pub fn run<T: Texts, O: Write + Drop, E: Write + Drop>(
     alloc: Global,

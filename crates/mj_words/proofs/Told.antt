@@ -1,4 +1,4 @@
--- Texts that a writer got one behind the other.
+-- Texts that a writer got one after the other.
 use Rattle.std.proofs.Common.{◌≡◌, ◌<◌, ◌-◌, ◌^◌, ℕ, List, [], ◌∷◌, ◌++◌, length, Option, None, Some, Result, Ok, Err, OnOk, OnErr}
 use Rattle.std.proofs.Common.{MatchOption, true, arith, refl, sym, ap, subst, ◌∙◌, append_assoc}
 use Rattle.std.specs.Prelude.{codes}
@@ -71,14 +71,14 @@ module _ {W : Type 0} (contents : W → Option Text) where
       ((length x, subst (λ t. Appends (contents old.writer) (contents new.writer) t) (sym (take-length x)) whole), λ _ _. whole)
   is_told (Err e) old new x (begun, count) = (begun, λ below same. absurd (risen old.failures new.failures below count same))
 
-  -- Some lines of an error are written, and its next cause and those behind it are left.
+  -- Some lines of an error are written, and its next cause and those after it are left.
   pub record Telling (old now : Tally W) (next : Option (Bor (List ErrorKind))) (text : Text) : Type 0 where
     pub told : Text
     pub appended : Appends (contents old.writer) (contents now.writer) told
     pub same : now.failures ≡ old.failures
     pub rest : told ++ causes (chain_in next) ≡ text
 
-  -- the line of the next cause, and those behind it, are what is left
+  -- the line of the next cause, and those after it, are what is left
   pub told_next : (old now : Tally W) (next : Option (Bor (List ErrorKind))) (text : Text) (t : Telling old now next text)
       (cause : Bor (List ErrorKind)) (kind : ErrorKind) →
       next ≡ Some cause → cause.now ≡ kind ∷ causes_of cause.now →
@@ -92,16 +92,16 @@ module _ {W : Type 0} (contents : W → Option Text) where
       let whole : t.told ≡ text = sym (append-nil t.told) ∙ (ap (λ chain. t.told ++ causes chain) (sym none) ∙ t.rest) in
       (subst (λ x. Appends (contents old.writer) (contents now.writer) x) whole t.appended, t.same)
 
-  pub tell_next : (old now new : Tally W) (next behind : Option (Bor (List ErrorKind))) (text : Text) → Telling old now next text →
+  pub tell_next : (old now new : Tally W) (next after : Option (Bor (List ErrorKind))) (text : Text) → Telling old now next text →
       (cause : Bor (List ErrorKind)) (kind : ErrorKind) →
       next ≡ Some cause → cause.now ≡ kind ∷ causes_of cause.now →
       Appends (contents now.writer) (contents new.writer) (line (codes "cause: ") kind) × (new.failures ≡ now.failures) →
-      chain_in behind ≡ causes_of cause.now → Telling old new behind text
-  tell_next old now new next behind text t cause kind some is (written, count) left = record {
+      chain_in after ≡ causes_of cause.now → Telling old new after text
+  tell_next old now new next after text t cause kind some is (written, count) left = record {
     told = t.told ++ line (codes "cause: ") kind;
     appended = appends_then _ _ _ t.told (line (codes "cause: ") kind) t.appended written;
     same = count ∙ t.same;
-    rest = append_assoc t.told (line (codes "cause: ") kind) (causes (chain_in behind))
+    rest = append_assoc t.told (line (codes "cause: ") kind) (causes (chain_in after))
         ∙ (ap (λ chain. t.told ++ (line (codes "cause: ") kind ++ causes chain)) left ∙ told_next old now next text t cause kind some is);
   }
 
@@ -124,7 +124,7 @@ pub same_message : (chain : List ErrorKind) (kind k : ErrorKind) (kinds ks : Lis
     message kind kinds ≡ message k ks
 same_message chain kind k kinds ks e f = ap message_of (sym e ∙ f)
 
--- what was told where there was nothing to run, at status 1
+-- what was written where there was nothing to run, at status 1
 pub refused_memory : {W : Type 0} (contents : W → Option Text) (refusal : Refusal) (status : ℕ) (old new : Tally W) →
     status ≡ refusal_status refusal →
     IsTold contents old new (refusal_message refusal) → status ≡ 1 →

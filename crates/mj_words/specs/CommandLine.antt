@@ -60,7 +60,7 @@ abbrev pub with_text : Option (Text × Text) → (Text × Text → Option Argume
 with_text None go_on = None
 with_text (Some p) go_on = go_on p
 
--- what words ask for, behind others that gave these texts, this JSON file, this fuel and this limit: options, and then files
+-- what words ask for, after others that gave these texts, this JSON file, this fuel and this limit: options, and then files
 abbrev mutual
   pub asked : List (Text × Text) → Option Text → Option ℕ → Option ℕ → List Text → Option ArgumentsValue
   asked texts json fuel limit [] = None
@@ -76,22 +76,22 @@ abbrev mutual
       then Some (record { texts = texts; json = json; fuel = fuel; limit = limit; file = word; others = words })
       else None
 
-  -- the same behind `--json`, whose file stands in place of an earlier one, whatever its name is
+  -- the same after `--json`, whose file stands in place of an earlier one, whatever its name is
   pub asked_json : List (Text × Text) → Option ℕ → Option ℕ → List Text → Option ArgumentsValue
   asked_json texts fuel limit [] = None
   asked_json texts fuel limit (word ∷ words) = asked texts (Some word) fuel limit words
 
-  -- the same behind `--fuel`, whose number stands in place of an earlier one
+  -- the same after `--fuel`, whose number stands in place of an earlier one
   pub asked_fuel : List (Text × Text) → Option Text → Option ℕ → List Text → Option ArgumentsValue
   asked_fuel texts json limit [] = None
   asked_fuel texts json limit (word ∷ words) = with_number (number word) (λ n. asked texts json (Some n) limit words)
 
-  -- the same behind `--limit`
+  -- the same after `--limit`
   pub asked_limit : List (Text × Text) → Option Text → Option ℕ → List Text → Option ArgumentsValue
   asked_limit texts json fuel [] = None
   asked_limit texts json fuel (word ∷ words) = with_number (number word) (λ n. asked texts json fuel (Some n) words)
 
-  -- the same behind `-D`
+  -- the same after `-D`
   pub asked_text : List (Text × Text) → Option Text → Option ℕ → Option ℕ → List Text → Option ArgumentsValue
   asked_text texts json fuel limit [] = None
   asked_text texts json fuel limit (word ∷ words) = with_text (definition word) (λ p. asked (texts ++ (p ∷ [])) json fuel limit words)
@@ -115,6 +115,6 @@ asked_of a = record {
 abbrev pub files_of : Arguments → List Text
 files_of a = a.file.now ∷ map string_bytes a.others.now
 
--- what the words behind these arguments ask for
-abbrev pub asked_behind : Arguments → List Text → Option ArgumentsValue
-asked_behind a words = asked (map plain a.texts.items) (option_map (λ p. p.now) a.json) a.fuel a.limit words
+-- what the words after these arguments ask for
+abbrev pub asked_after : Arguments → List Text → Option ArgumentsValue
+asked_after a words = asked (map plain a.texts.items) (option_map (λ p. p.now) a.json) a.fuel a.limit words

@@ -34,7 +34,7 @@ pub enum Refusal {
 }
 
 impl Refusal {
-    /// Why a read that failed gives nothing to run. Want of memory says nothing of what was read.
+    /// Why a read that failed gives nothing to run. Running out of memory says nothing of what was read.
     pub fn of_read(error: &io::Error) -> Refusal
         ensures { (result ≡ Refusal.OutOfMemory)
             ↔ (error_kind error.now ≡ ErrorKind.OutOfMemory) }
@@ -108,9 +108,9 @@ fn take_option<'a>(
     words: &'a [String],
 ) -> Result<&'a [String], Refusal>
     requires { spec.is_option option.now ≡ true }
-    ensures { let all = spec.asked_behind arguments.old (option.now ∷ map string_bytes words.now) in
+    ensures { let all = spec.asked_after arguments.old (option.now ∷ map string_bytes words.now) in
         MatchResult result
-        (λ rest. (all ≡ spec.asked_behind arguments.new (map string_bytes rest.now))
+        (λ rest. (all ≡ spec.asked_after arguments.new (map string_bytes rest.now))
         × (length rest.now ≤ length words.now))
         (λ e. (e ≡ Refusal.OutOfMemory) ⊎ ((e ≡ Refusal.Usage) × (all ≡ None))) }
 {

@@ -1,4 +1,4 @@
-//! The words of the program: what a command line asks for, and what is told on standard error.
+//! The words of the program: what a command line asks for, and what is written to standard error.
 #![tactic(auto)]
 
 mod arguments;

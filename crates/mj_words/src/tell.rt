@@ -18,7 +18,7 @@ const FAULT: u8 = 1;
 const WRONG_USE: u8 = 2;
 
 /// Tells why there is nothing to run, and gives the exit status. A fault of standard error can be
-/// told nowhere.
+/// written nowhere.
 pub fn tell_refusal<E: Write + Drop>(err: &mut Counted<E>, refusal: Refusal) -> u8
     ensures status { result ≡ refusal_status refusal }
     ensures told { IsTold E.contents err.old err.new (refusal_message refusal) }
@@ -33,7 +33,7 @@ pub fn tell_refusal<E: Write + Drop>(err: &mut Counted<E>, refusal: Refusal) -> 
 }
 
 /// Tells an error and its causes, a line each, and gives the exit status. A fault of standard error
-/// can be told nowhere.
+/// can be written nowhere.
 pub fn tell_error<E: Write + Drop>(err: &mut Counted<E>, error: &Error) -> u8
     ensures status { result ≡ 1 }
     ensures told { (kind : Kind) × (kinds : List Kind) × (error.now ≡ kind ∷ kinds)

@@ -5,7 +5,7 @@ use std::alloc::Global;
 use std::test::Fail;
 use template_machine::*;
 
-/// The templates that rows extend, each behind its name.
+/// The templates that rows extend, each after its name.
 static LAYOUTS: [&str; 5] = [
     "base B:{% block a %}x{% endblock %}",
     "base2 P",
@@ -167,8 +167,8 @@ pub(crate) const JOINED: &str =
 - a => a => ok => gets base MissingArgument"#;
 
 /// A source; the name of the template that the state of its render stands in; the names that it
-/// exports; and calls of its blocks, each with a text behind `:` or with the kinds of a fault
-/// behind `!`.
+/// exports; and calls of its blocks, each with a text after `:` or with the kinds of a fault
+/// after `!`.
 pub(crate) const STATES: &[&str] = &[
     "{% if false %}{% block b %}{% for x in [1] %}{{ y.z }}{% endfor %}{% endblock %}{% endif %}ok => <string> =>  => b!UndefinedError b!UndefinedError no!UnknownBlock",
     "{% set v = 1 %}{% if false %}{% block b %}{% for x in [1] %}{% set w = 3 %}{{ y.z }}{% endfor %}{% endblock %}{% block c %}{% set w = 2 %}{{ v }}{{ w }}{% endblock %}{% endif %} => <string> => v => c:12 b!UndefinedError c:12 no!UnknownBlock b!UndefinedError c:12",
@@ -207,7 +207,7 @@ fn faults(state: &mut Left<'_>, block: &str, kinds: &str) -> bool {
     }
 }
 
-/// Whether a call comes to what stands behind it.
+/// Whether a call comes to what stands after it.
 fn is_answered(state: &mut Left<'_>, call: &str) -> bool {
     if let Some((block, kinds)) = call.split_once('!') {
         return faults(state, block, kinds);
@@ -216,7 +216,7 @@ fn is_answered(state: &mut Left<'_>, call: &str) -> bool {
     gives(state, block, text)
 }
 
-/// Whether all calls of a row do, and the state stands behind each as it stood before.
+/// Whether all calls of a row do, and the state stands after each as it stood before.
 fn are_answered(state: &mut Left<'_>, row: &Row<'_>) -> bool {
     for call in row.left.split(' ') {
         if !is_answered(state, call) || !stands(state, row) {
@@ -315,7 +315,7 @@ fn extending(alloc: Global, parent: &str, rest: &str) -> Result<String, Error> {
     Ok(source)
 }
 
-/// Adds 400 templates: t0 is the first source, and each one behind extends the one before it.
+/// Adds 400 templates: t0 is the first source, and each one after extends the one before it.
 fn add_chain(
     alloc: Global,
     environment: &mut Rows<'_>,
@@ -345,7 +345,7 @@ fn is_rendered(environment: &Rows<'_>) -> Result<bool, Error> {
     Ok(text.as_str() == "x")
 }
 
-/// Whether it lies too deep, behind so many blocks.
+/// Whether it lies too deep, after so many blocks.
 fn is_too_deep(environment: &Rows<'_>, blocks: usize) -> bool {
     match rendered(environment) {
         Ok(_) => false,
@@ -367,7 +367,7 @@ pub(crate) fn expect(holds: bool, name: &str) -> Result<(), Fail> {
 }
 
 /// Renders long chains of templates, also with a block that runs the next one. Under a limit that is a
-/// fault behind as many blocks as there are scopes but those of the root and of the first block.
+/// fault after as many blocks as there are scopes but those of the root and of the first block.
 pub(crate) fn expect_chains(alloc: Global, environment: &mut Rows<'_>) -> Result<(), Fail> {
     add_chain(alloc, environment, "x", "")?;
     expect(is_rendered(environment)?, "a chain of parents")?;

@@ -5,7 +5,7 @@ use crate::renders::{Row, expect_row, usual};
 use std::alloc::{AllocError, Global};
 use std::test::Fail;
 
-/// Bounds of fuel, scopes and writers. No fuel is set behind them.
+/// Bounds of fuel, scopes and writers. No fuel is set after them.
 pub(crate) const BOUNDS: &str = r#"Bounds of fuel, scopes and writers.
 - @fuel 5
 - Hello {{ w }}! => Hello World! => 4 => fuel 1
@@ -46,13 +46,13 @@ pub(crate) const BOUNDS: &str = r#"Bounds of fuel, scopes and writers.
 - {% set ns = namespace(v=[]) %}{% for i in range(100000) %}{% set ns.v = [ns.v] %}{% endfor %} =>  => ok
 - {% set ns = namespace(v={}) %}{% for i in range(100000) %}{% set ns.v = {1: ns.v} %}{% endfor %} =>  => ok"#;
 
-/// A source of pieces, of which two stand so many times, one before the middle and one behind it; and what it writes, a text so many times.
+/// A source of pieces, of which two stand so many times, one before the middle and one after it; and what it writes, a text so many times.
 struct Long {
     start: &'static str,
     count: usize,
     before: &'static str,
     middle: &'static str,
-    behind: &'static str,
+    after: &'static str,
     end: &'static str,
     text: &'static str,
     times: usize,
@@ -64,7 +64,7 @@ static LONG: &[Long] = &[
         count: 2000,
         before: "{{ a }}x",
         middle: "",
-        behind: "",
+        after: "",
         end: "",
         text: "bx",
         times: 2000,
@@ -74,7 +74,7 @@ static LONG: &[Long] = &[
         count: 100_000,
         before: "word ",
         middle: "",
-        behind: "",
+        after: "",
         end: "",
         text: "word ",
         times: 100_000,
@@ -84,7 +84,7 @@ static LONG: &[Long] = &[
         count: 999_999,
         before: " + 1",
         middle: " }}",
-        behind: "",
+        after: "",
         end: "",
         text: "1000000",
         times: 1,
@@ -94,14 +94,14 @@ static LONG: &[Long] = &[
         count: 150,
         before: "(",
         middle: "7",
-        behind: ")",
+        after: ")",
         end: " }}",
         text: "7",
         times: 1,
     },
 ];
 
-/// Puts a text so many times behind another.
+/// Puts a text so many times after another.
 fn repeat(out: &mut String, text: &str, times: usize) -> Result<(), AllocError> {
     for _ in 0..times {
         out.push_str(text)?;
@@ -114,7 +114,7 @@ fn source_of(alloc: Global, long: &Long) -> Result<String, AllocError> {
     let mut source = String::from_str(alloc, long.start)?;
     repeat(&mut source, long.before, long.count)?;
     source.push_str(long.middle)?;
-    repeat(&mut source, long.behind, long.count)?;
+    repeat(&mut source, long.after, long.count)?;
     source.push_str(long.end)?;
     Ok(source)
 }

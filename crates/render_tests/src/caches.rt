@@ -54,7 +54,7 @@ fn is_answered(text: &str, times: usize) -> bool {
     let mut rest = text;
     for _ in 0..times {
         match rest.strip_prefix("2222211111") {
-            Some(behind) => rest = behind,
+            Some(after) => rest = after,
             None => return false,
         }
     }

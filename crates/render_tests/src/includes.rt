@@ -276,7 +276,7 @@ const JOINED: &str = r#"What templates include and import where an object joins 
 - {% import "i" as m %}{{ m }} => (t/i/j) => ok => name t
 - {% extends "base" %}{% block a %}{% include "j" %}{% endblock %} => [TJ] => ok => gets j t/base/j"#;
 
-/// Templates for states, each behind its name.
+/// Templates for states, each after its name.
 static PARTS: [(&str, &str); 4] = [
     ("base3", "{{ y.z }}"),
     ("k3", r#"{% extends "base3" %}"#),
@@ -300,7 +300,7 @@ const STATES: &[&str] = &[
     r#"{% extends "base" %}{% block b %}{% include "child" %}{% endblock %}{% block c %}{% include "n" %}{% endblock %} => base =>  => c:n b!BadInclude>InvalidOperation c:n"#,
 ];
 
-/// Whether an error is InvalidOperation without a cause, behind so many includes.
+/// Whether an error is InvalidOperation without a cause, after so many includes.
 fn is_refused(error: &Error, includes: usize) -> bool {
     let mut fault = error;
     for _ in 0..includes {
@@ -312,7 +312,7 @@ fn is_refused(error: &Error, includes: usize) -> bool {
     fault.kind() == ErrorKind::InvalidOperation && fault.cause().is_none()
 }
 
-/// Whether the render of a template is refused behind so many includes, with nothing written.
+/// Whether the render of a template is refused after so many includes, with nothing written.
 fn ends(alloc: Global, environment: &Rows<'_>, name: &str, includes: usize) -> Result<bool, Error> {
     let mut writer = Counted::new(Vec::new(alloc));
     let template = environment.get_template(name)?;
@@ -331,7 +331,7 @@ fn gives(environment: &Rows<'_>, name: &str, text: &str) -> Result<bool, Error> 
     Ok(found.as_str() == text)
 }
 
-/// Adds 200 templates: c0 is `x`, and each one behind includes the one before it.
+/// Adds 200 templates: c0 is `x`, and each one after includes the one before it.
 fn add_chain(alloc: Global, environment: &mut Rows<'_>) -> Result<(), Error> {
     let mut before = String::from_str(alloc, "c0")?;
     environment.add_template("c0", "x")?;

@@ -15,7 +15,7 @@ const DOUBLED_NAMESPACE: &str =
 
 type Bytes = Limited<Counted<Vec<u8>>>;
 
-/// A render into so many bytes: how much of the limit is left, and what stands in the sink behind it.
+/// A render into so many bytes: how much of the limit is left, and what stands in the sink after it.
 struct Case {
     source: &'static str,
     limit: usize,

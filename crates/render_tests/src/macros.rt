@@ -109,7 +109,7 @@ fn gives(alloc: Global, state: &mut Left<'_>) -> Result<bool, Error> {
     Ok(text.as_str() == "12" && stands(state))
 }
 
-/// Whether a state calls its macros by their names, also behind faults and with what it keeps.
+/// Whether a state calls its macros by their names, also after faults and with what it keeps.
 fn are_called(alloc: Global, environment: &Rows<'_>) -> Result<bool, Error> {
     let template = environment.template_from_str(DECLARED)?;
     let mut ids = StateIds::new();
@@ -149,8 +149,8 @@ fn belong_to_renders(alloc: Global, environment: &Rows<'_>) -> Result<bool, Erro
     let mut ids = StateIds::new();
     let names = macro_of(alloc, environment, &mut ids)?;
     let source = "{{ m() }}";
-    let is_refused_behind = is_refused(environment, &mut ids, source, names.share()?);
-    Ok(is_refused_behind && is_refused(environment, &mut StateIds::new(), source, names))
+    let is_refused_after = is_refused(environment, &mut ids, source, names.share()?);
+    Ok(is_refused_after && is_refused(environment, &mut StateIds::new(), source, names))
 }
 
 /// Whether macros serve the states of their renders, and end at the limit.

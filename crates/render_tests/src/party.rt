@@ -329,7 +329,7 @@ pub(crate) type Page<'env, 'source> = TemplateOf<'env, 'source, Parts>;
 /// The state that its render leaves.
 pub(crate) type Left<'env> = StateOf<'env, Parts>;
 
-// The first one gets the number behind those of the language.
+// The first one gets the number after those of the language.
 static FUNCTIONS: &[(&str, Party)] = &[
     ("f", Party::Last),
     ("second", Party::Second),

@@ -71,9 +71,9 @@ fn made(alloc: Global, given: Given) -> Result<Value, Error> {
     }
 }
 
-/// A source, or the name of a template that is kept behind `&`; what it writes; how it ends: with
-/// so many charges, `ok` with any, or by a kind of error, with the kinds of its causes behind `>`;
-/// and what is asked of the state behind it.
+/// A source, or the name of a template that is kept after `&`; what it writes; how it ends: with
+/// so many charges, `ok` with any, or by a kind of error, with the kinds of its causes after `>`;
+/// and what is asked of the state after it.
 /// Where four ends are given, they are those under each behavior, from the loosest.
 #[derive(Clone, Copy)]
 pub(crate) struct Row<'a> {
@@ -131,7 +131,7 @@ fn remains(state: &Left<'_>) -> Option<u64> {
     }
 }
 
-/// Whether the template that a name means to a state has the name behind it, or the fault is of that kind.
+/// Whether the template that a name means to a state has the name after it, or the fault is of that kind.
 fn gets(state: &Left<'_>, wanted: &str) -> bool {
     let (name, found) = wanted.split_once(' ').unwrap_or((wanted, ""));
     match state.get_template(name) {

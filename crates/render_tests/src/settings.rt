@@ -65,8 +65,8 @@ fn is_refused<'source>(environment: &mut Rows<'source>, rest: &'source str) -> b
     }
 }
 
-/// Whether a source, or the template that is kept behind `&`, runs out of each fuel up to the number
-/// before it. That fuel is set behind it.
+/// Whether a source, or the template that is kept after `&`, runs out of each fuel up to the number
+/// before it. That fuel is set after it.
 fn is_short<'source>(environment: &mut Rows<'source>, rest: &'source str) -> bool {
     let (most, source) = rest.split_once(' ').unwrap_or(("0", rest));
     let most: u64 = most.parse().unwrap_or(0);
@@ -161,7 +161,7 @@ fn change_setup<'source>(setup: &mut Setup<'source>, word: &str, rest: &'source 
     true
 }
 
-/// Renders a table's rows behind its heading. A row that begins with `@` is a setting.
+/// Renders a table's rows after its heading. A row that begins with `@` is a setting.
 pub(crate) fn expect_table<'source>(
     alloc: Global,
     environment: &mut Rows<'source>,
@@ -212,7 +212,7 @@ static TABLES: [&str; 26] = [
     SETTINGS,
 ];
 
-/// Renders all tables. A setting holds until the next one, also in the tables behind its own.
+/// Renders all tables. A setting holds until the next one, also in the tables after its own.
 fn expect_tables(alloc: Global, environment: &mut Rows<'_>) -> Result<(), Fail> {
     add_objects(environment)?;
     blocks::add_layouts(environment)?;

@@ -27,7 +27,7 @@ pub(crate) fn kept(state: &Left<'_>) -> Option<i128> {
     }
 }
 
-/// Whether a closure's work on the state is there behind it, and its answer is given.
+/// Whether a closure's work on the state is there after it, and its answer is given.
 fn works_on(captured: &mut CapturedOf<Left<'_>>) -> Result<bool, Error> {
     let before = captured.with_state_mut(|state| replaced(state, 3))?;
     Ok(before.is_none() && kept(captured.state()) == Some(3) && captured.output().is_empty())
@@ -92,7 +92,7 @@ fn keeps_the_last(alloc: Global, template: &Page<'_, '_>) -> Result<bool, Error>
     Ok(output.is_empty() && before == Some(3) && is_able && is_kept)
 }
 
-/// Whether a state runs its template's block for a filter and for a test that ask for it, and goes on behind a fault.
+/// Whether a state runs its template's block for a filter and for a test that ask for it, and goes on after a fault.
 fn runs_blocks(alloc: Global, environment: &Rows<'_>) -> Result<bool, Error> {
     let template = environment.template_from_str("{% block b %}{{ title() }}{% endblock %}")?;
     let mut ids = StateIds::new();
@@ -186,7 +186,7 @@ fn boxes_are_asked(rt: HostRuntime) -> Result<(), Fail> {
     Ok(())
 }
 
-/// The names that a template reads, each behind a blank.
+/// The names that a template reads, each after a blank.
 fn names_of(
     alloc: Global,
     environment: &Environment<'_>,

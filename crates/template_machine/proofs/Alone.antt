@@ -10,7 +10,7 @@ use Rattle.std.specs.declared.cmp.Ordering.TheVariants.{Greater}
 use Rattle.tm_syntax.specs.Blocks.{FoundBlock}
 use Rattle.tm_syntax.specs.Named.{Named, by_name, find, name_cmp, put, put_each}
 use Rattle.tm_meaning.specs.Calls.{own_blocks}
-use Rattle.tm_meaning.specs.Inheritance.{behind_all}
+use Rattle.tm_meaning.specs.Inheritance.{after_all}
 use Rattle.tm_meaning.specs.Tree.{carded}
 use Rattle.tm_meaning.specs.declared.stream.TemplateId.{TemplateId}
 use Rattle.tm_tables.specs.Lists.{with_block, with_each}
@@ -72,7 +72,7 @@ module _ (t : TemplateId) where
   put-above x (y ∷ ys) h = rw (above x y h.0) (ap (λ l. (y, one) ∷ l) (put-above x ys h.1))
 
   block-above : (x : List ℕ) (ys : List (List ℕ)) → AreBelow ys x → with_block t x (each_one ys) ≡ each_one (ys ++ x ∷ [])
-  block-above x ys h = ap (λ o. put x (behind_all t o) (each_one ys)) (find-above x ys h) ∙ put-above x ys h
+  block-above x ys h = ap (λ o. put x (after_all t o) (each_one ys)) (find-above x ys h) ∙ put-above x ys h
 
   each-above : (xs ys : List (List ℕ)) → IsStrictlySortedBy name_cmp xs → AllByRecursion (AreBelow ys) xs →
       with_each t xs (each_one ys) ≡ each_one (ys ++ xs)

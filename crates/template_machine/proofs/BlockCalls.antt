@@ -11,13 +11,13 @@ use Rattle.tm_meaning.specs.Tree.{Trees, statements, empty}
 use Rattle.tm_meaning.specs.declared.stream.StreamId.{StreamId}
 use Rattle.tm_meaning.specs.Calls.{NestedCall, block_call, enter_block, refused, undone, whole}
 use Rattle.tm_meaning.specs.Machine.{Capture, new_capture, put_in, put_out}
-use Rattle.tm_meaning.specs.Meaning.{Ending, done, leave, next, fault, Outcome, Run, Under, behind, ended, in_place_of}
+use Rattle.tm_meaning.specs.Meaning.{Ending, done, leave, next, fault, Outcome, Run, Under, after, ended, in_place_of}
 use Rattle.tm_meaning.specs.Runs.{nests_of, new_run, rendered}
 use Rattle.tm_meaning.specs.Runs.{rendered_block, under}
 use Rattle.tm_parts.specs.declared.halt.Halt.{Halt}
 use Rattle.tm_parts.specs.declared.halt.Halt.TheVariants as halt
 use Rattle.tm_simulation.proofs.Asks.{block_asks_by, in_block}
-use Rattle.tm_state.specs.State.{behind_block, runs_block}
+use Rattle.tm_state.specs.State.{after_block, runs_block}
 use Rattle.tm_state.specs.declared.saved.Saved.TheVariants as saved
 use Rattle.tm_state.specs.declared.saved.SavedBlock.{SavedBlock}
 use Rattle.tm_tables.specs.Stated.{StatedObjects}
@@ -54,9 +54,9 @@ module _ (host : HostValue) (trees : Trees) (b : List ℕ) (w : World) where
 
   -- its run is what its stream means
   block_is : (s : StreamId) (mid : World) → enter_block host b w ≡ runs_block s w mid →
-      rendered_block host trees b w ≡ behind (rendered host trees mid).ending (block_call s w) run (rendered host trees mid)
+      rendered_block host trees b w ≡ after (rendered host trees mid).ending (block_call s w) run (rendered host trees mid)
   block_is s mid is =
-      ap (in_place_of u run []) is ∙ ap (λ x. let o = u.nests (whole x) true [] mid in behind o.ending (block_call s w) run o)
+      ap (in_place_of u run []) is ∙ ap (λ x. let o = u.nests (whole x) true [] mid in after o.ending (block_call s w) run o)
       (sym (entered_stream s mid is))
 
   refused_is : (chain : List ErrorKind) → enter_block host b w ≡ refused chain w →
@@ -68,50 +68,50 @@ module _ (s : StreamId) (w : World) (run : Run) (o : Outcome) where
   abbrev c : NestedCall
   c = block_call s w
 
-  done_behind : (e : Ending) (left : World) → answer_by e o.world ≡ Ok left → answer_of (behind e c run o) ≡ Ok (undone c.undo left)
-  done_behind (done vs) left is = ap (λ x. Ok (undone c.undo x)) (left_by (done vs) o.world left is)
-  done_behind leave left is = ap (λ x. Ok (undone c.undo x)) (left_by leave o.world left is)
-  done_behind next left is = ap (λ x. Ok (undone c.undo x)) (left_by next o.world left is)
-  done_behind (fault chain) left is = absurd (cc is)
+  done_after : (e : Ending) (left : World) → answer_by e o.world ≡ Ok left → answer_of (after e c run o) ≡ Ok (undone c.undo left)
+  done_after (done vs) left is = ap (λ x. Ok (undone c.undo x)) (left_by (done vs) o.world left is)
+  done_after leave left is = ap (λ x. Ok (undone c.undo x)) (left_by leave o.world left is)
+  done_after next left is = ap (λ x. Ok (undone c.undo x)) (left_by next o.world left is)
+  done_after (fault chain) left is = absurd (cc is)
 
-  fault_behind : (e : Ending) (chain : List ErrorKind) → answer_by e o.world ≡ Err chain → answer_of (behind e c run o) ≡ Err chain
-  fault_behind (done vs) chain is = absurd (cc is)
-  fault_behind leave chain is = absurd (cc is)
-  fault_behind next chain is = absurd (cc is)
-  fault_behind (fault why) chain is = let same : why ≡ chain = cc is in ap (λ x. Err x) same
+  fault_after : (e : Ending) (chain : List ErrorKind) → answer_by e o.world ≡ Err chain → answer_of (after e c run o) ≡ Err chain
+  fault_after (done vs) chain is = absurd (cc is)
+  fault_after leave chain is = absurd (cc is)
+  fault_after next chain is = absurd (cc is)
+  fault_after (fault why) chain is = let same : why ≡ chain = cc is in ap (λ x. Err x) same
 
-  text_behind : (e : Ending) → (behind e c run o).text ≡ o.text
-  text_behind (done vs) = refl
-  text_behind leave = refl
-  text_behind next = refl
-  text_behind (fault chain) = refl
+  text_after : (e : Ending) → (after e c run o).text ≡ o.text
+  text_after (done vs) = refl
+  text_after leave = refl
+  text_after next = refl
+  text_after (fault chain) = refl
 
-  world_behind : (e : Ending) → (behind e c run o).world ≡ undone c.undo o.world
-  world_behind (done vs) = refl
-  world_behind leave = refl
-  world_behind next = refl
-  world_behind (fault chain) = refl
+  world_after : (e : Ending) → (after e c run o).world ≡ undone c.undo o.world
+  world_after (done vs) = refl
+  world_after leave = refl
+  world_after next = refl
+  world_after (fault chain) = refl
 
   abbrev q : Outcome
-  q = behind o.ending c run o
+  q = after o.ending c run o
 
-  is_behind : (result : Result (List Capture) Halt) (left : World) (old : List Capture) → IsRun result left old o →
+  is_after : (result : Result (List Capture) Halt) (left : World) (old : List Capture) → IsRun result left old o →
       IsRun result (undone c.undo left) old q
-  is_behind (Ok new) left old is = (done_behind o.ending left is.0, is.1 ∙ ap (put_in old) (sym (text_behind o.ending)))
-  is_behind (Err halt.Writer) left old is = is
-  is_behind (Err halt.Stuck) left old is = is
-  is_behind (Err (halt.Fault chain)) left old is =
-      (fault_behind o.ending chain is.0, world_behind o.ending ∙ ap (undone c.undo) is.1)
+  is_after (Ok new) left old is = (done_after o.ending left is.0, is.1 ∙ ap (put_in old) (sym (text_after o.ending)))
+  is_after (Err halt.Writer) left old is = is
+  is_after (Err halt.Stuck) left old is = is
+  is_after (Err (halt.Fault chain)) left old is =
+      (fault_after o.ending chain is.0, world_after o.ending ∙ ap (undone c.undo) is.1)
 
-  ran_behind : (result : Result (List Capture) Halt) (left : World) (old : List Capture) (told now : Option (List ℕ)) (failures count : ℕ) →
+  ran_after : (result : Result (List Capture) Halt) (left : World) (old : List Capture) (told now : Option (List ℕ)) (failures count : ℕ) →
       Ran o result left old told now failures count → Ran q result (undone c.undo left) old told now failures count
-  ran_behind result left old told now failures count (run_as_meant is appended counted) =
-      run_as_meant (is_behind result left old is)
-      (subst (λ t. Appends told now (put_out old t)) (sym (text_behind o.ending)) appended) counted
-  ran_behind result left old told now failures count (run_by_writer is part counted) =
-      run_by_writer is (subst (λ t. AppendsBeginning told now (put_out old t)) (sym (text_behind o.ending)) part) counted
-  ran_behind result left old told now failures count (run_by_memory chain is memory part counted) =
-      run_by_memory chain is memory (subst (λ t. AppendsBeginning told now (put_out old t)) (sym (text_behind o.ending)) part) counted
+  ran_after result left old told now failures count (run_as_meant is appended counted) =
+      run_as_meant (is_after result left old is)
+      (subst (λ t. Appends told now (put_out old t)) (sym (text_after o.ending)) appended) counted
+  ran_after result left old told now failures count (run_by_writer is part counted) =
+      run_by_writer is (subst (λ t. AppendsBeginning told now (put_out old t)) (sym (text_after o.ending)) part) counted
+  ran_after result left old told now failures count (run_by_memory chain is memory part counted) =
+      run_by_memory chain is memory (subst (λ t. AppendsBeginning told now (put_out old t)) (sym (text_after o.ending)) part) counted
 
 -- ---------------------------------------------------------------- of a state
 module _ {O : Type 0} (stated : O → StatedObjects) (t : TemplateValue O) (b : List ℕ) (w left : World) (old : List Capture)
@@ -124,13 +124,13 @@ module _ {O : Type 0} (stated : O → StatedObjects) (t : TemplateValue O) (b : 
 
   pub block_ran : (s : SavedBlock) (mid : World) (result : Result (List Capture) Halt) (put : World) →
       IsEntered (enter_block (host_of stated t) b w) s w mid → Ran (meaning_from stated t mid) result left old told now failures count →
-      put ≡ behind_block s left → Came result put
+      put ≡ after_block s left → Came result put
   block_ran s mid result put (same, (stream, asked), more, places) ran is =
       let o = meaning_from stated t mid in
       subst (λ x. Came result x) (undone_is (saved.Block s) w left same ∙ sym is)
       (subst (λ x. Ran x result (undone (block_call stream w).undo left) old told now failures count)
       (sym (block_is (host_of stated t) (trees t) b w stream mid asked))
-      (ran_behind stream w (new_run true w) o result left old told now failures count ran))
+      (ran_after stream w (new_run true w) o result left old told now failures count ran))
 
 -- a block that is refused
 refused_ran : {O : Type 0} (stated : O → StatedObjects) (t : TemplateValue O) (b : List ℕ) (w : World) (old : List Capture)

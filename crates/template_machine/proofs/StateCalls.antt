@@ -6,7 +6,7 @@ use Rattle.tm_values.specs.Val.{Val}
 use Rattle.tm_values.specs.declared.error.ErrorKind.{ErrorKind}
 use Rattle.tm_meaning.specs.World.{World, Good, Bad, without_first}
 use Rattle.tm_meaning.specs.Calls.{Asked, Callee, NestedCall, outermost, run_value, undone, wrapped}
-use Rattle.tm_meaning.specs.Meaning.{Ending, done, leave, next, fault, Outcome, value_behind}
+use Rattle.tm_meaning.specs.Meaning.{Ending, done, leave, next, fault, Outcome, value_after}
 use Rattle.tm_meaning.specs.Runs.{nests_of}
 use Rattle.tm_meaning.specs.Machine.{Capture, Config, End, Finished, Failed, Stuck, Over, Program, base_of, first_run, new_capture, running}
 use Rattle.tm_meaning.specs.Steps.{Final, begins, begun, final, over, step}
@@ -19,7 +19,7 @@ use Rattle.tm_parts.specs.Halts.{failures_after}
 use Rattle.tm_parts.specs.declared.halt.Halt.{Halt}
 use Rattle.tm_parts.specs.declared.halt.Halt.TheVariants as halt
 use Rattle.tm_state.specs.Answers.{CallDeeper, HasOneMore, NeedsRun, StaysInPlace, call_of}
-use Rattle.tm_state.specs.State.{behind_block, callee_of, put_back, saved_of}
+use Rattle.tm_state.specs.State.{after_block, callee_of, put_back, saved_of}
 use Rattle.tm_state.specs.declared.saved.Saved.{Saved}
 use Rattle.tm_state.specs.declared.saved.Saved.TheVariants as saved
 use Rattle.tm_state.specs.declared.saved.SavedBlock.{SavedBlock}
@@ -32,7 +32,7 @@ use Rattle.tm_vm.proofs.Loop.{left_below, undone_is}
 use Rattle.template_machine.specs.Environment.{TemplateValue, code, host_of, trees}
 use Rattle.template_machine.specs.Renders.{answer_by, answer_of, called_value, callee_run, IsMacroCall, IsCapturedRun, RanApart}
 
--- the captures of a run whose text is a value, and those behind it
+-- the captures of a run whose text is a value, and those after it
 abbrev one : List Capture
 one = new_capture true ∷ []
 
@@ -183,14 +183,14 @@ module _ {O : Type 0} (stated : O → StatedObjects) (t : TemplateValue O) (e : 
   abbrev ran : Outcome
   ran = callee_run stated t (callee_of e.run) w
 
-  meant_by : called_value stated t asked ≡ value_behind ran.ending (call_of e needs.3.0) ran
+  meant_by : called_value stated t asked ≡ value_after ran.ending (call_of e needs.3.0) ran
   meant_by = ap (called_value stated t) needs.3.2
 
   back : undone (call_of e needs.3.0).undo left ≡ put_back e.saved left
   back = undone_is e.saved needs.3.0 left needs.3.1
 
   value_by : (end : Ending) (c : NestedCall) (x : Outcome) (text : List ℕ) → text ≡ x.text → answer_by end x.world ≡ Ok left →
-      value_behind end c x ≡ Good (run_value c.text text (undone c.undo left)) (undone c.undo left)
+      value_after end c x ≡ Good (run_value c.text text (undone c.undo left)) (undone c.undo left)
   value_by (done vs) c x text same is =
       let world : x.world ≡ left = cc is in rw (sym world, same) refl
   value_by leave c x text same is =
@@ -212,16 +212,16 @@ module _ {O : Type 0} (stated : O → StatedObjects) (t : TemplateValue O) (e : 
   fault_answered chain captured = λ m.
       let c : NestedCall = call_of e needs.3.0 in
       let is = captured m in
-      meant_by ∙ ap (λ end. value_behind end c ran) is.0 ∙ ap (λ x. Bad (wrapped_by chain) (undone c.undo x)) is.1
+      meant_by ∙ ap (λ end. value_after end c ran) is.0 ∙ ap (λ x. Bad (wrapped_by chain) (undone c.undo x)) is.1
       ∙ ap (λ x. Bad (wrapped_by chain) x) back ∙ ap (λ u. Bad (wrapped u chain) (put_back e.saved left)) needs.2
     where
       wrapped_by : List ErrorKind → List ErrorKind
       wrapped_by ks = wrapped e.wrap ks
 
--- ---------------------------------------------------------------- what stands behind it
+-- ---------------------------------------------------------------- what stands after it
 -- where no scope of those below a block's own is left, only that is
 block_left : (s : SavedBlock) (before w left : World) → s ≡ saved_of before → HasOneMore before w → NoFewer w left →
-    (behind_block s left).scopes ≡ before.scopes
+    (after_block s left).scopes ≡ before.scopes
 block_left s before w left is more no_fewer =
     let scopes : s.scopes ≡ length before.scopes.frames = ap (λ (s : SavedBlock). s.scopes) is in
     let long : length w.scopes.frames ≡ length before.scopes.frames + 1 = ap length more.0 ∙ omega arith in
@@ -231,7 +231,7 @@ block_left s before w left is more no_fewer =
     ∙ ap (λ n. record { frames = before.scopes.frames; outer = n }) (ap (λ (s : SavedBlock). s.outer) is)
 
 pub block_stands : (s : SavedBlock) (before w left : World) → s ≡ saved_of before → HasOneMore before w → w.places ≡ before.places →
-    NoFewer w left → StaysInPlace before (behind_block s left)
+    NoFewer w left → StaysInPlace before (after_block s left)
 block_stands s before w left is more places no_fewer = (
   block_left s before w left is more no_fewer,
   ap (λ (s : SavedBlock). s.stream) is,

@@ -10,7 +10,7 @@ use Rattle.tm_meaning.specs.World.{World, Res, Good, answered, records_of}
 use Rattle.tm_state.specs.Answers.{IsEmitted}
 use Rattle.template_machine.specs.Renders.{as_text}
 
--- OutOfMemory alone is want of memory
+-- OutOfMemory alone is out of memory
 pub not_alone : (chain : List ErrorKind) → is_want_of_memory chain ≡ false → is_memory_alone chain ≡ false
 not_alone [] m = refl
 not_alone (k ∷ []) m = m

@@ -1,4 +1,4 @@
--- What is left of a list behind a place.
+-- What is left of a list after a place.
 use Rattle.std.proofs.Common.{◌≡◌, ◌∙◌, ◌+◌, ℕ, zero, suc, List, [], ◌∷◌, Some, drop, slice_get, ap, sym}
 use Rattle.std.proofs.Common.{add-one}
 use Rattle.std.proofs.lemmas.Option.{slice_get-map}

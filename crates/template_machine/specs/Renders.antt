@@ -17,7 +17,7 @@ use Rattle.tm_tables.specs.Stated.{StatedObjects}
 use Rattle.tm_meaning.specs.declared.stream.StreamId.{StreamId}
 use Rattle.tm_meaning.specs.declared.stream.TemplateId.TheVariants.{Own}
 use Rattle.tm_meaning.specs.Machine.{Capture, new_capture, put_in, put_out}
-use Rattle.tm_meaning.specs.Meaning.{Ending, fault, Outcome, value_behind}
+use Rattle.tm_meaning.specs.Meaning.{Ending, fault, Outcome, value_after}
 use Rattle.tm_meaning.specs.Runs.{evaluated, first_world, nests_of, rendered, rendered_block}
 use Rattle.tm_state.specs.Answers.{HasOneMore}
 use Rattle.tm_state.specs.State.{runs_block, saved_of}
@@ -72,12 +72,12 @@ meaning stated t id context = meaning_from stated t (first stated t id context)
 abbrev pub callee_run : {O : Type 0} → (O → StatedObjects) → TemplateValue O → Callee → World → Outcome
 callee_run stated t k w = let host = host_of stated t in nests_of host (trees t) (host.limit + 1) k true [] w
 
--- What a call comes to where no template runs, as a value: the run that it needs is in a capture, and what that replaced is put back behind
+-- What a call comes to where no template runs, as a value: the run that it needs is in a capture, and what that replaced is put back after
 -- it, also where it ended in a fault.
 abbrev pub called_value : {O : Type 0} → (O → StatedObjects) → TemplateValue O → Asked → Res Val
 called_value stated t (has v w) = Good v w
 called_value stated t (refused chain w) = Bad chain w
-called_value stated t (runs c w) = let o = callee_run stated t c.callee w in value_behind o.ending c o
+called_value stated t (runs c w) = let o = callee_run stated t c.callee w in value_after o.ending c o
 called_value stated t (recurs n items w) = Bad (InvalidOperation ∷ []) w
 
 -- what the value of a name gives for these arguments, called as a function
@@ -97,7 +97,7 @@ abbrev pub answer_of : Outcome → Answer World
 answer_of m = answer_by m.ending m.world
 
 -- ---------------------------------------------------------------- answers
--- The answer is want of memory.
+-- The answer is OutOfMemory.
 abbrev pub IsMemory : {A : Type 0} → Result A (List ErrorKind) → Type 0
 IsMemory (Ok x) = ⊥
 IsMemory (Err chain) = is_want_of_memory chain ≡ true
@@ -118,10 +118,10 @@ pub data Rendered {O : Type 0} (t : TemplateValue O) (m : Outcome) (result : Res
     (told now : Option (List ℕ)) (failures count : ℕ) : Type 0 where
   -- as was meant: the answer is the end that was meant, and the writer got the whole text
   as_meant : IsEnd t result m → Appends told now m.text → count ≡ failures → Rendered t m result told now failures count
-  -- the writer failed, behind a beginning of the text
+  -- the writer failed, after a beginning of the text
   by_writer : result ≡ Err (WriteFailure ∷ []) → AppendsBeginning told now m.text → count ≡ saturating_increment failures →
       Rendered t m result told now failures count
-  -- no memory was found, behind a beginning of the text
+  -- no memory was found, after a beginning of the text
   by_memory : IsMemory result → AppendsBeginning told now m.text → count ≡ failures → Rendered t m result told now failures count
 
 -- How a render to a text ended: as was meant, or since no memory was found.
@@ -159,7 +159,7 @@ IsUnnumbered stated e name source (Ok text) = ⊥
 IsUnnumbered stated e name source (Err chain) =
     IsRefused e.syntax source chain ⊎ ((t : Compiled) × IsTemplateOf stated e name source t × (chain ≡ InvalidOperation ∷ []))
 
--- What a call of a state answered, but for want of memory: the value that was meant, or the fault, and the world behind it.
+-- What a call of a state answered, apart from running out of memory: the value that was meant, or the fault, and the world after it.
 abbrev pub IsMacroCall : Result Val (List ErrorKind) → Res Val → World → Type 0
 IsMacroCall (Ok v) meant w = meant ≡ Good v w
 IsMacroCall (Err chain) meant w = is_want_of_memory chain ≡ false → meant ≡ Bad chain w
@@ -169,7 +169,7 @@ abbrev pub IsTested : Result Bool (List ErrorKind) → Res Val → World → Typ
 IsTested (Ok b) meant w = meant ≡ Good (boolean b) w
 IsTested (Err chain) meant w = is_want_of_memory chain ≡ false → meant ≡ Bad chain w
 
--- What a run in a capture of its own answered, but for want of memory: the text that was meant, or the fault, and the world behind it.
+-- What a run in a capture of its own answered, apart from running out of memory: the text that was meant, or the fault, and the world after it.
 abbrev pub IsCapturedRun : Result (String Global) (List ErrorKind) → Outcome → World → Type 0
 IsCapturedRun (Ok text) m w = (string_bytes text ≡ m.text) × (answer_of m ≡ Ok w)
 IsCapturedRun (Err chain) m w = is_want_of_memory chain ≡ false → (m.ending ≡ fault chain) × (m.world ≡ w)
@@ -207,7 +207,7 @@ pub data Ran (m : Outcome) (result : Result (List Capture) Halt) (left : World) 
 abbrev pub block_meaning : {O : Type 0} → (O → StatedObjects) → TemplateValue O → List ℕ → World → Outcome
 block_meaning stated t b w = rendered_block (host_of stated t) (trees t) b w
 
--- The block's run is what is asked for, from this world; what is put back behind it is of the world before.
+-- The block's run is what is asked for, from this world; what is put back after it is of the world before.
 abbrev pub IsEntered : Asked → SavedBlock → World → World → Type 0
 IsEntered asked saved old new =
     (saved ≡ saved_of old) × ((s : StreamId) × (asked ≡ runs_block s old new)) × HasOneMore old new × (new.places ≡ old.places)

@@ -275,7 +275,7 @@ impl<'env, O: Parties> StateOf<'env, O> {
         result
     }
 
-    /// Enters the block of a name, and gives what is put back behind it. As `render_block`, before its run.
+    /// Enters the block of a name, and gives what is put back after it. As `render_block`, before its run.
     fn enter_block(&mut self, name: &str) -> Result<SavedBlock, Error>
         ensures ok { IfOk result (λ saved. IsEntered
             (enter_block (host_of O.stated self.old.template) name.now self.old.world)
@@ -300,7 +300,7 @@ impl<'env, O: Parties> StateOf<'env, O> {
         self.kept.current_block()
     }
 
-    /// What a call came to, as a value: the run that it needs is run, and what that replaced is put back behind it.
+    /// What a call came to, as a value: the run that it needs is run, and what that replaced is put back after it.
     /// The run's fault; InvalidOperation for a loop, since none is open; OutOfMemory.
     fn value_of(&mut self, called: CallResult) -> Result<Value, Error>
         ensures called { (asked : _) → Becomes (Ok called) asked self.old.world →

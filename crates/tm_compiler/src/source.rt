@@ -14,7 +14,7 @@ use tm_syntax::Tree;
 use tm_values::Error;
 
 /// The tree of the template that a source spells; its raw texts share the source. SyntaxError where it
-/// spells none; OutOfMemory for want of memory.
+/// spells none; OutOfMemory when out of memory.
 pub fn parse(alloc: Global, source: &RcStr, syntax: &SyntaxConfig) -> Result<Tree, Error>
     ensures found { IfOk result (Spells syntax.now (rc_str_bytes source.now)) }
     ensures refused { IfErr result
@@ -25,7 +25,7 @@ pub fn parse(alloc: Global, source: &RcStr, syntax: &SyntaxConfig) -> Result<Tre
 }
 
 /// The tree of the expression that a source spells, without delimiters. SyntaxError where it spells none;
-/// OutOfMemory for want of memory.
+/// OutOfMemory when out of memory.
 pub fn parse_expr(alloc: Global, source: &str) -> Result<Tree, Error>
     ensures found { IfOk result (SpellsExpr source.now) }
     ensures refused { IfErr result (λ e. Refused e (SpellsNoExpr source.now)) }

@@ -9,7 +9,7 @@ use Rattle.tm_values.specs.Val.{Val, text}
 use Rattle.tm_values.specs.declared.undefined.UndefinedBehavior.{UndefinedBehavior}
 use Rattle.tm_values.specs.declared.undefined.UndefinedUse.TheVariants as use_of
 
--- an answer behind a verdict
+-- an answer after a verdict
 abbrev pub where_fine : {A : Type 0} → Verdict → Answer A → Answer A
 where_fine (Ok u) answer = answer
 where_fine (Err chain) answer = Err chain

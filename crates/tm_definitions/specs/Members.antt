@@ -40,7 +40,7 @@ loop_attribute_named n =
     (cond (same_text n (codes "previtem")) (Some of_loop.PrevItem)
     (cond (same_text n (codes "nextitem")) (Some of_loop.NextItem) None))))))))))
 
--- at the item i of the loop, counted from 0; behind the last item i is their number
+-- at the item i of the loop, counted from 0; after the last item i is their number
 abbrev pub at_item : LoopData → ℕ → LoopAttribute → Val
 at_item l i of_loop.Index0 = number (pos i)
 at_item l i of_loop.Index = number (pos (i + 1))

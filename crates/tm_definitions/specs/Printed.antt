@@ -14,7 +14,7 @@ truth_text true = codes "true"
 abbrev pub macro_text : MacroData → List ℕ
 macro_text m = codes "<macro " ++ (m.name ++ codes ">")
 
--- a comma and a blank behind an earlier item or pair
+-- a comma and a blank after an earlier item or pair
 abbrev pub comma_after : Bool → List ℕ
 comma_after false = []
 comma_after true = codes ", "

@@ -16,7 +16,7 @@ abbrev pub given : {A B : Type 0} → Answer A → (A → Answer B) → Answer B
 given (Ok x) answer = answer x
 given (Err chain) answer = Err chain
 
--- an answer behind at most n arguments
+-- an answer after at most n arguments
 abbrev pub at_most_arguments : {A : Type 0} → ℕ → List Val → Answer A → Answer A
 at_most_arguments n vs answer = cond (nat_lt n (length vs)) (refused kind.TooManyArguments) answer
 
@@ -106,7 +106,7 @@ AreStepped =
 abbrev pub StandBefore : Type 0
 StandBefore = (s : Span) → s.step ≢ pos 0 → All (λ x. IsBefore s.step x s.stop) (numbers_of s)
 
--- and the one behind the last doesn't
+-- and the one after the last doesn't
 abbrev pub LeaveNoneOut : Type 0
 LeaveNoneOut =
     (s : Span) → s.step ≢ pos 0

@@ -16,7 +16,7 @@ abbrev pub joined : {A : Type 0} → (Val → Answer (List A)) → List Val → 
 joined f [] = Ok []
 joined f (v ∷ vs) = given (f v) (λ xs. given (joined f vs) (λ ys. Ok (xs ++ ys)))
 
--- the items of a value that stands behind `*`
+-- the items of a value that stands after `*`
 abbrev pub spread_items : UndefinedBehavior → RecordData → Val → Answer (List Val)
 spread_items b r v = unless (refusal_of b ItemSpread v) (items_of r v)
 
@@ -31,7 +31,7 @@ pairs_in r (exports ps s) = Ok (entries_of ps)
 pairs_in r (namespace state i) = namespace_pairs (namespace_at r state i)
 pairs_in r _ = invalid
 
--- the pairs of a value that stands behind `**`
+-- the pairs of a value that stands after `**`
 abbrev pub spread_pairs : UndefinedBehavior → RecordData → Val → Answer (List (Val × Val))
 spread_pairs b r v = unless (refusal_of b KeywordSpread v) (pairs_in r v)
 

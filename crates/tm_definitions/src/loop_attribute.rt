@@ -10,7 +10,7 @@ pub enum LoopAttribute {
     Length,
     /// How many items are left, this one among them.
     RevIndex,
-    /// How many items are left behind this one.
+    /// How many items are left after this one.
     RevIndex0,
     /// Whether this is the first item.
     First,
@@ -22,6 +22,6 @@ pub enum LoopAttribute {
     Depth0,
     /// The item before.
     PrevItem,
-    /// The item behind.
+    /// The item after.
     NextItem,
 }

@@ -11,7 +11,7 @@ use Rattle.std.specs.Str.{IsUtf8, IsCharBoundary}
 use Rattle.memchr.specs.Find.{Nowhere, NoneBefore, Passes, is_byte3}
 use Rattle.tm_delimiters.specs.declared.syntax.Kind.{Kind}
 use Rattle.tm_delimiters.specs.declared.syntax.Kind.TheVariants as kind
-use Rattle.tm_delimiters.specs.Front.{behind, first_of}
+use Rattle.tm_delimiters.specs.Front.{after, first_of}
 use Rattle.tm_delimiters.specs.declared.trimming.Side.{Side}
 use Rattle.tm_delimiters.specs.Syntax.{Syntax, HasAll}
 use Rattle.tm_delimiters.specs.Starts.{start_delimiter, opens, second_if, longer, opening, begins, BeginsAt, side_at, tag_start}
@@ -225,18 +225,18 @@ pub begins_there : (s : Syntax) (bs : List ℕ) (k : ℕ) → begins s (take (le
 begins_there s bs k = ap (begins s) (rest_is bs (take (length bs - k) (drop k bs)) k refl)
 
 -- where no tag opens, no start delimiter stands
-starts_is : (cs ws : List ℕ) → pointwise nat_eq ws (take (length ws) cs) ≡ is_some (behind ws cs)
+starts_is : (cs ws : List ℕ) → pointwise nat_eq ws (take (length ws) cs) ≡ is_some (after ws cs)
 starts_is cs [] = refl
 starts_is [] (w ∷ ws) = refl
 starts_is (c ∷ cs) (w ∷ ws) = by_test (starts_is cs ws) (nat_eq w c)
   where
-    by_test : pointwise nat_eq ws (take (length ws) cs) ≡ is_some (behind ws cs) → (same : Bool) →
-        (same && pointwise nat_eq ws (take (length ws) cs)) ≡ is_some {T = List ℕ} (if same then behind ws cs else None)
+    by_test : pointwise nat_eq ws (take (length ws) cs) ≡ is_some (after ws cs) → (same : Bool) →
+        (same && pointwise nat_eq ws (take (length ws) cs)) ≡ is_some {T = List ℕ} (if same then after ws cs else None)
     by_test ih true = ih
     by_test ih false = refl
 
 not_there : (s : Syntax) (k : Kind) (cs : List ℕ) → opens s k cs ≡ None → starts_with nat_eq cs (start_delimiter s k) ≡ false
-not_there s k cs h = starts_is cs (start_delimiter s k) ∙ by_rest (behind (start_delimiter s k) cs) h
+not_there s k cs h = starts_is cs (start_delimiter s k) ∙ by_rest (after (start_delimiter s k) cs) h
   where
     by_rest : (r : Option (List ℕ)) → option_map {U = Kind × List ℕ} (λ (rest : List ℕ). (k, rest)) r ≡ None → is_some r ≡ false
     by_rest None h = refl
@@ -245,7 +245,7 @@ not_there s k cs h = starts_is cs (start_delimiter s k) ∙ by_rest (behind (sta
 longer_none : (s : Syntax) (x y : Option (Kind × List ℕ)) → longer s x y ≡ None → (x ≡ None) × (y ≡ None)
 longer_none s None y h = (refl, h)
 longer_none s (Some x) None h = (h, refl)
-longer_none s (Some x) (Some y) h = by_second (behind (start_delimiter s x.0) (start_delimiter s y.0)) h
+longer_none s (Some x) (Some y) h = by_second (after (start_delimiter s x.0) (start_delimiter s y.0)) h
   where
     by_second : (r : Option (List ℕ)) → second_if r x y ≡ None → (Some x ≡ None) × (Some y ≡ None)
     by_second None h = absurd (cc h)
@@ -258,8 +258,8 @@ no_start s cs h =
     rw (not_there s kind.Block cs inner.0, not_there s kind.Variable cs inner.1, not_there s kind.Comment cs outer.1) refl
 
 -- where no start delimiter stands, no tag opens
-pub nothing_behind : (w cs : List ℕ) → starts_with nat_eq cs w ≡ false → behind w cs ≡ None
-nothing_behind w cs h = by_rest (behind w cs) (sym (starts_is cs w) ∙ h)
+pub nothing_after : (w cs : List ℕ) → starts_with nat_eq cs w ≡ false → after w cs ≡ None
+nothing_after w cs h = by_rest (after w cs) (sym (starts_is cs w) ∙ h)
   where
     by_rest : (r : Option (List ℕ)) → is_some r ≡ false → r ≡ None
     by_rest None h = refl
@@ -271,16 +271,16 @@ neither false false true h = cc
 neither false true z h = cc
 neither true y z h = cc
 
-pub no_block_start : (s : Syntax) (cs : List ℕ) → begins s cs ≡ false → behind s.block_start cs ≡ None
+pub no_block_start : (s : Syntax) (cs : List ℕ) → begins s cs ≡ false → after s.block_start cs ≡ None
 no_block_start s cs h =
-    nothing_behind s.block_start cs
+    nothing_after s.block_start cs
     (neither (starts_with nat_eq cs s.block_start) (starts_with nat_eq cs s.variable_start) (starts_with nat_eq cs s.comment_start) h).0
 
 no_opening : (s : Syntax) (cs : List ℕ) → begins s cs ≡ false → opening s cs ≡ None
 no_opening s cs h =
     let no = neither (starts_with nat_eq cs s.block_start) (starts_with nat_eq cs s.variable_start)
     (starts_with nat_eq cs s.comment_start) h in
-    rw (nothing_behind s.block_start cs no.0, nothing_behind s.variable_start cs no.1.0, nothing_behind s.comment_start cs no.1.1) refl
+    rw (nothing_after s.block_start cs no.0, nothing_after s.variable_start cs no.1.0, nothing_after s.comment_start cs no.1.1) refl
 
 -- what is found stands where a start delimiter does
 abbrev pub AtStart : {A : Type 0} → Syntax → (List ℕ → Option A) → Type 0

@@ -10,37 +10,37 @@ use Rattle.std.specs.Option.{option_or}
 use Rattle.std.specs.Str.Pattern.{FindsText, SplitsAroundMatch}
 use Rattle.std.proofs.lemmas.Bool.{eqb-true, eq-eqb}
 use Rattle.memchr.specs.Find.{IsFirstByte}
-use Rattle.tm_delimiters.specs.Front.{behind, ascii, first_of, until, first_is}
+use Rattle.tm_delimiters.specs.Front.{after, ascii, first_of, until, first_is}
 use Rattle.tm_delimiters.specs.Views.{IsFirst, cut_of, step_of}
 
 pub not_true : (b : Bool) → (b ≡ true → ⊥) → b ≡ false
 not_true true h = absurd (h refl)
 not_true false h = refl
 
-pub behind-append : (ws cs : List ℕ) → behind ws (ws ++ cs) ≡ Some cs
-behind-append [] cs = refl
-behind-append (w ∷ ws) cs = ap (λ same. if same then behind ws (ws ++ cs) else None) (eq-eqb w w refl) ∙ behind-append ws cs
+pub after-append : (ws cs : List ℕ) → after ws (ws ++ cs) ≡ Some cs
+after-append [] cs = refl
+after-append (w ∷ ws) cs = ap (λ same. if same then after ws (ws ++ cs) else None) (eq-eqb w w refl) ∙ after-append ws cs
 
-pub behind-split : (ws cs rest : List ℕ) → behind ws cs ≡ Some rest → cs ≡ ws ++ rest
-behind-split [] cs rest h = cc
-behind-split (w ∷ ws) [] rest h = cc
-behind-split (w ∷ ws) (c ∷ cs) rest h = by_test (behind-split ws cs rest) (nat_eq w c) refl h
+pub after-split : (ws cs rest : List ℕ) → after ws cs ≡ Some rest → cs ≡ ws ++ rest
+after-split [] cs rest h = cc
+after-split (w ∷ ws) [] rest h = cc
+after-split (w ∷ ws) (c ∷ cs) rest h = by_test (after-split ws cs rest) (nat_eq w c) refl h
   where
-    by_test : (behind ws cs ≡ Some rest → cs ≡ ws ++ rest) → (same : Bool) → nat_eq w c ≡ same →
-        (if same then behind ws cs else None) ≡ Some rest → c ∷ cs ≡ w ∷ (ws ++ rest)
+    by_test : (after ws cs ≡ Some rest → cs ≡ ws ++ rest) → (same : Bool) → nat_eq w c ≡ same →
+        (if same then after ws cs else None) ≡ Some rest → c ∷ cs ≡ w ∷ (ws ++ rest)
     by_test others true e found =
         let head = eqb-true w c e in
         let tail = others found in
         cc
     by_test others false e found = cc
 
-lacks_by : (text word : List ℕ) → ((rest : List ℕ) → text ≢ word ++ rest) → (r : Option (List ℕ)) → behind word text ≡ r →
-    behind word text ≡ None
+lacks_by : (text word : List ℕ) → ((rest : List ℕ) → text ≢ word ++ rest) → (r : Option (List ℕ)) → after word text ≡ r →
+    after word text ≡ None
 lacks_by text word h None e = e
-lacks_by text word h (Some rest) e = absurd (h rest (behind-split word text rest e))
+lacks_by text word h (Some rest) e = absurd (h rest (after-split word text rest e))
 
-pub lacks : (text word : List ℕ) → ((rest : List ℕ) → text ≢ word ++ rest) → behind word text ≡ None
-lacks text word h = lacks_by text word h (behind word text) refl
+pub lacks : (text word : List ℕ) → ((rest : List ℕ) → text ≢ word ++ rest) → after word text ≡ None
+lacks text word h = lacks_by text word h (after word text) refl
 
 -- the first place where something is found
 pub first_of-at : {A : Type 0} (find : List ℕ → Option A) (cs : List ℕ) (i : ℕ) (x : A) → ((k : ℕ) → k < i → find (drop k cs) ≡ None) →
@@ -68,12 +68,12 @@ first_of-nowhere {A = A} find (c ∷ cs) none =
 -- the same of a word
 pub cuts : (word text : List ℕ) (r : Option (Bor (List ℕ) × Bor (List ℕ))) →
     MatchOption r (FindsText word text None) (λ x. SplitsAroundMatch (FindsText word) text x.0.now x.1.now) →
-    cut_of r ≡ first_of (behind word) text
-cuts word text None h = sym (first_of-nowhere (behind word) text (λ k less. lacks (drop k text) word (h k less)))
+    cut_of r ≡ first_of (after word) text
+cuts word text None h = sym (first_of-nowhere (after word) text (λ k less. lacks (drop k text) word (h k less)))
 cuts word text (Some x) h =
-    let here : behind word (drop h.0 text) ≡ Some x.1.now = ap (behind word) (h.2.1.split ∙ ap (λ b. word ++ b) (sym h.4))
-    ∙ behind-append word x.1.now in
-    let first = first_of-at (behind word) text h.0 x.1.now (λ k less. lacks (drop k text) word (h.2.0 k less))
+    let here : after word (drop h.0 text) ≡ Some x.1.now = ap (after word) (h.2.1.split ∙ ap (λ b. word ++ b) (sym h.4))
+    ∙ after-append word x.1.now in
+    let first = first_of-at (after word) text h.0 x.1.now (λ k less. lacks (drop k text) word (h.2.0 k less))
     (omega (arith, h.5, h.7)) here in
     ap (λ (front : List ℕ). Some (front, x.1.now)) h.3 ∙ sym first
 
@@ -135,57 +135,57 @@ ascii_first (c ∷ cs) r utf8 h = by_test (nat_lt c 128) refl h
 
 -- whether bytes begin with a word, place by place
 pub all_same : (ws cs : List ℕ) → length ws ≤ length cs → ((k : ℕ) → k < length ws → slice_index cs k ≡ slice_index ws k) →
-    is_some (behind ws cs) ≡ true
+    is_some (after ws cs) ≡ true
 all_same [] cs fits same = refl
 all_same (w ∷ ws) [] fits same = absurd (omega (arith, fits))
 all_same (w ∷ ws) (c ∷ cs) fits same =
-    ap (λ b. is_some {T = List ℕ} (if b then behind ws cs else None)) (eq-eqb w c (sym (same 0 (omega arith))))
+    ap (λ b. is_some {T = List ℕ} (if b then after ws cs else None)) (eq-eqb w c (sym (same 0 (omega arith))))
     ∙ all_same ws cs (omega (arith, fits)) (λ k less. same (suc k) (omega (arith, less)))
 
-pub one_differs : (ws cs : List ℕ) (k : ℕ) → k < length ws → slice_index cs k ≢ slice_index ws k → is_some (behind ws cs) ≡ false
+pub one_differs : (ws cs : List ℕ) (k : ℕ) → k < length ws → slice_index cs k ≢ slice_index ws k → is_some (after ws cs) ≡ false
 one_differs [] cs k less differs = absurd (omega (arith, less))
 one_differs (w ∷ ws) [] k less differs = refl
 one_differs (w ∷ ws) (c ∷ cs) zero less differs = by_test (nat_eq w c) refl
   where
-    by_test : (same : Bool) → nat_eq w c ≡ same → is_some {T = List ℕ} (if same then behind ws cs else None) ≡ false
+    by_test : (same : Bool) → nat_eq w c ≡ same → is_some {T = List ℕ} (if same then after ws cs else None) ≡ false
     by_test true e = absurd (differs (sym (eqb-true w c e)))
     by_test false e = refl
 one_differs (w ∷ ws) (c ∷ cs) (suc k) less differs = by_test (one_differs ws cs k (omega (arith, less)) differs) (nat_eq w c)
   where
-    by_test : is_some (behind ws cs) ≡ false → (same : Bool) → is_some {T = List ℕ} (if same then behind ws cs else None) ≡ false
+    by_test : is_some (after ws cs) ≡ false → (same : Bool) → is_some {T = List ℕ} (if same then after ws cs else None) ≡ false
     by_test others true = others
     by_test others false = refl
 
-pub too_short : (ws cs : List ℕ) → length cs < length ws → is_some (behind ws cs) ≡ false
+pub too_short : (ws cs : List ℕ) → length cs < length ws → is_some (after ws cs) ≡ false
 too_short [] cs less = absurd (omega (arith, less))
 too_short (w ∷ ws) [] less = refl
 too_short (w ∷ ws) (c ∷ cs) less = by_test (too_short ws cs (omega (arith, less))) (nat_eq w c)
   where
-    by_test : is_some (behind ws cs) ≡ false → (same : Bool) → is_some {T = List ℕ} (if same then behind ws cs else None) ≡ false
+    by_test : is_some (after ws cs) ≡ false → (same : Bool) → is_some {T = List ℕ} (if same then after ws cs else None) ≡ false
     by_test others true = others
     by_test others false = refl
 
--- what is left behind the word, where the bytes begin with it
+-- what is left after the word, where the bytes begin with it
 pub record Stripped (ws cs : List ℕ) : Type 0 where
-  pub left : behind ws cs ≡ Some (drop (length ws) cs)
+  pub left : after ws cs ≡ Some (drop (length ws) cs)
   pub front : take (length ws) cs ≡ ws
   pub fits : length ws ≤ length cs
 
-pub stripped : (ws cs : List ℕ) → is_some (behind ws cs) ≡ true → Stripped ws cs
-stripped ws cs h = by_rest (behind ws cs) refl h
+pub stripped : (ws cs : List ℕ) → is_some (after ws cs) ≡ true → Stripped ws cs
+stripped ws cs h = by_rest (after ws cs) refl h
   where
-    by_rest : (r : Option (List ℕ)) → behind ws cs ≡ r → is_some r ≡ true → Stripped ws cs
+    by_rest : (r : Option (List ℕ)) → after ws cs ≡ r → is_some r ≡ true → Stripped ws cs
     by_rest None e some = cc
     by_rest (Some rest) e some =
-        let split : cs ≡ ws ++ rest = behind-split ws cs rest e in
+        let split : cs ≡ ws ++ rest = after-split ws cs rest e in
         record {
           left = e ∙ ap Some (sym (ap (drop (length ws)) split ∙ drop-append_seam ws rest));
           front = ap (take (length ws)) split ∙ take-append_seam ws rest;
           fits = omega (arith, ap length split, length-append ws rest);
         }
 
-pub unlike : (ws cs : List ℕ) → is_some (behind ws cs) ≡ false → behind ws cs ≡ None
-unlike ws cs h = by_rest (behind ws cs) h
+pub unlike : (ws cs : List ℕ) → is_some (after ws cs) ≡ false → after ws cs ≡ None
+unlike ws cs h = by_rest (after ws cs) h
   where
     by_rest : (r : Option (List ℕ)) → is_some r ≡ false → r ≡ None
     by_rest None h = refl

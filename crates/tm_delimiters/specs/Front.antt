@@ -7,11 +7,11 @@ abbrev pub ◌>>=◌ : {A B : Type 0} → Option A → (A → Option B) → Opti
 None >>= f = None
 (Some x) >>= f = f x
 
--- what is left behind a word, where the bytes begin with it
-abbrev pub behind : List ℕ → List ℕ → Option (List ℕ)
-behind [] cs = Some cs
-behind (w ∷ ws) [] = None
-behind (w ∷ ws) (c ∷ cs) = if nat_eq w c then behind ws cs else None
+-- what is left after a word, where the bytes begin with it
+abbrev pub after : List ℕ → List ℕ → Option (List ℕ)
+after [] cs = Some cs
+after (w ∷ ws) [] = None
+after (w ∷ ws) (c ∷ cs) = if nat_eq w c then after ws cs else None
 
 -- what stands before the first place where something is found, and what is found there
 abbrev pub first_of : {A : Type 0} → (List ℕ → Option A) → List ℕ → Option (List ℕ × A)

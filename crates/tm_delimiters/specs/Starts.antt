@@ -4,7 +4,7 @@ use Rattle.std.specs.List.{starts_with}
 use Rattle.tm_delimiters.specs.declared.syntax.Kind.{Kind}
 use Rattle.tm_delimiters.specs.declared.syntax.Kind.TheVariants as kind
 use Rattle.tm_delimiters.specs.declared.trimming.Side.{Side}
-use Rattle.tm_delimiters.specs.Front.{behind}
+use Rattle.tm_delimiters.specs.Front.{after}
 use Rattle.tm_delimiters.specs.Syntax.{Syntax}
 use Rattle.tm_delimiters.specs.Whitespace.{whitespace_at}
 
@@ -21,7 +21,7 @@ end_delimiter s kind.Comment = s.comment_end
 
 -- the start delimiter of a kind at the front
 abbrev pub opens : Syntax → Kind → List ℕ → Option (Kind × List ℕ)
-opens s k cs = option_map (λ rest. (k, rest)) (behind (start_delimiter s k) cs)
+opens s k cs = option_map (λ rest. (k, rest)) (after (start_delimiter s k) cs)
 
 -- the second of two, where there is something
 abbrev pub second_if : Option (List ℕ) → Kind × List ℕ → Kind × List ℕ → Option (Kind × List ℕ)
@@ -32,7 +32,7 @@ second_if (Some more) x y = Some y
 abbrev pub longer : Syntax → Option (Kind × List ℕ) → Option (Kind × List ℕ) → Option (Kind × List ℕ)
 longer s None y = y
 longer s (Some x) None = Some x
-longer s (Some x) (Some y) = second_if (behind (start_delimiter s x.0) (start_delimiter s y.0)) x y
+longer s (Some x) (Some y) = second_if (after (start_delimiter s x.0) (start_delimiter s y.0)) x y
 
 -- the start delimiter at the front
 abbrev pub opening : Syntax → List ℕ → Option (Kind × List ℕ)
@@ -45,10 +45,10 @@ begins s cs = starts_with nat_eq cs s.block_start || starts_with nat_eq cs s.var
 abbrev pub BeginsAt : Syntax → List ℕ → ℕ → Type 0
 BeginsAt s cs k = begins s (drop k cs) ≡ true
 
--- the side of a tag of a kind where the mark at the front stands, and what is left behind that
+-- the side of a tag of a kind where the mark at the front stands, and what is left after that
 abbrev pub side_at : Kind × List ℕ → Side × List ℕ
 side_at x = (record { kind = x.0; whitespace = (whitespace_at x.1).0 }, (whitespace_at x.1).1)
 
--- the start of a tag at the front, and what is left behind it
+-- the start of a tag at the front, and what is left after it
 abbrev pub tag_start : Syntax → List ℕ → Option (Side × List ℕ)
 tag_start s cs = option_map side_at (opening s cs)

@@ -7,7 +7,7 @@ use Rattle.tm_delimiters.specs.declared.syntax.Kind.TheVariants as kind
 use Rattle.tm_delimiters.specs.declared.whitespace.Whitespace.{Whitespace}
 use Rattle.tm_delimiters.specs.declared.whitespace.Whitespace.TheVariants as whitespace
 use Rattle.tm_delimiters.specs.declared.trimming.Side.{Side}
-use Rattle.tm_delimiters.specs.Front.{behind}
+use Rattle.tm_delimiters.specs.Front.{after}
 use Rattle.tm_delimiters.specs.Syntax.{Syntax}
 
 -- whether the flags concern tags of a kind
@@ -18,7 +18,7 @@ is_block kind.Comment = true
 
 -- without one newline, `\n` or `\r\n`, at the front
 abbrev pub past_newline : List ℕ → List ℕ
-past_newline cs = unwrap_or (option_or (behind (10 ∷ []) cs) (behind (13 ∷ 10 ∷ []) cs)) cs
+past_newline cs = unwrap_or (option_or (after (10 ∷ []) cs) (after (13 ∷ 10 ∷ []) cs)) cs
 
 -- a space or a tab
 abbrev pub is_space : ℕ → Bool
@@ -29,19 +29,19 @@ abbrev pub is_indent : List ℕ → Bool
 is_indent [] = true
 is_indent (c ∷ cs) = is_space c && is_indent cs
 
--- Without the spaces and tabs that are all that stands behind the last line's start. `starts_line` says whether the
+-- Without the spaces and tabs that are all that stands after the last line's start. `starts_line` says whether the
 -- bytes begin at a line's start.
 abbrev pub without_indent : Bool → List ℕ → List ℕ
 without_indent starts_line [] = []
 without_indent starts_line (c ∷ cs) = if starts_line && is_indent (c ∷ cs) then [] else c ∷ without_indent (c == 10) cs
 
 -- what the tag before a text leaves of it
-abbrev pub left_behind : Syntax → Kind → Whitespace → List ℕ → List ℕ
-left_behind s k whitespace.Remove text = trim_start text
-left_behind s k whitespace.Preserve text = text
-left_behind s k whitespace.Default text = if s.trim_blocks && is_block k then past_newline text else text
+abbrev pub left_after : Syntax → Kind → Whitespace → List ℕ → List ℕ
+left_after s k whitespace.Remove text = trim_start text
+left_after s k whitespace.Preserve text = text
+left_after s k whitespace.Default text = if s.trim_blocks && is_block k then past_newline text else text
 
--- what the tag behind a text leaves of it
+-- what the tag after a text leaves of it
 abbrev pub left_before : Syntax → Bool → Kind → Whitespace → List ℕ → List ℕ
 left_before s starts_line k whitespace.Remove text = trim_end text
 left_before s starts_line k whitespace.Preserve text = text
@@ -50,13 +50,13 @@ left_before s starts_line k whitespace.Default text =
 
 abbrev pub by_before : Syntax → Option Side → List ℕ → List ℕ
 by_before s None text = text
-by_before s (Some side) text = left_behind s side.kind side.whitespace text
+by_before s (Some side) text = left_after s side.kind side.whitespace text
 
 abbrev pub by_after : Syntax → Bool → Option Side → List ℕ → List ℕ
 by_after s starts_line None text = text
 by_after s starts_line (Some side) text = left_before s starts_line side.kind side.whitespace text
 
--- What is left of a raw text between two tags; none stands before it at the source's start, and none behind it at
+-- What is left of a raw text between two tags; none stands before it at the source's start, and none after it at
 -- the end.
 abbrev pub trimmed : Syntax → Option Side → Option Side → List ℕ → List ℕ
 trimmed s before after text = by_before s before (by_after s (not (is_some before)) after text)

@@ -3,7 +3,7 @@ use Rattle.std.specs.Prelude.{◌≡◌, ℕ, List, [], ◌∷◌, ◌++◌, ◌
 use Rattle.std.specs.Borrow.{Bor}
 use Rattle.std.specs.Str.{chars}
 
--- a character and the text behind it, or no text
+-- a character and the text after it, or no text
 abbrev pub IsFirst : Option (ℕ × Bor (List ℕ)) → List ℕ → Type 0
 IsFirst None text = text ≡ []
 IsFirst (Some x) text = (chars text ≡ x.0 ∷ chars x.1.now) × (text ≡ encode_utf8 x.0 ++ x.1.now)

@@ -4,18 +4,18 @@ use Rattle.std.specs.Option.{option_or}
 use Rattle.std.specs.List.{ends_with}
 use Rattle.tm_delimiters.specs.declared.whitespace.Whitespace.{Whitespace}
 use Rattle.tm_delimiters.specs.declared.whitespace.Whitespace.TheVariants as whitespace
-use Rattle.tm_delimiters.specs.Front.{behind, first_of}
+use Rattle.tm_delimiters.specs.Front.{after, first_of}
 
--- the mark at the front, and what is left behind it
+-- the mark at the front, and what is left after it
 abbrev pub whitespace_at : List ℕ → Whitespace × List ℕ
 whitespace_at [] = (whitespace.Default, [])
 whitespace_at (c ∷ cs) =
     if c == 45 then (whitespace.Remove, cs) else (if c == 43 then (whitespace.Preserve, cs) else (whitespace.Default, c ∷ cs))
 
 abbrev pub ended_by : Whitespace → List ℕ → List ℕ → Option (Whitespace × List ℕ)
-ended_by w word cs = option_map (λ rest. (w, rest)) (behind word cs)
+ended_by w word cs = option_map (λ rest. (w, rest)) (after word cs)
 
--- the end delimiter at the front with a mark before it or none, and what is left behind it
+-- the end delimiter at the front with a mark before it or none, and what is left after it
 abbrev pub ending : List ℕ → List ℕ → Option (Whitespace × List ℕ)
 ending end cs =
     option_or (ended_by whitespace.Default end cs)
@@ -27,6 +27,6 @@ last_whitespace cs =
     if ends_with nat_eq cs (codes "-") then whitespace.Remove
     else (if ends_with nat_eq cs (codes "+") then whitespace.Preserve else whitespace.Default)
 
--- A comment goes up to the first place of its end delimiter: the mark before that, and what is left behind it.
+-- A comment goes up to the first place of its end delimiter: the mark before that, and what is left after it.
 abbrev pub comment_end : List ℕ → List ℕ → Option (Whitespace × List ℕ)
-comment_end end cs = option_map (λ x. (last_whitespace x.0, x.1)) (first_of (behind end) cs)
+comment_end end cs = option_map (λ x. (last_whitespace x.0, x.1)) (first_of (after end) cs)

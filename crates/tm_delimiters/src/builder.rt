@@ -65,7 +65,7 @@ impl SyntaxConfigBuilder {
         SyntaxConfigBuilder { parts }
     }
 
-    /// Whether one newline behind a block tag or a comment is removed.
+    /// Whether one newline after a block tag or a comment is removed.
     pub fn trim_blocks(mut self, yes: bool) -> SyntaxConfigBuilder
         ensures { result ≡ record self { trim_blocks = yes } }
     {

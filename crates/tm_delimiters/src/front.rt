@@ -7,7 +7,7 @@ ghost use Rattle.tm_delimiters.specs.Views.{IsFirst, Shortens, cut_of, place_of,
 /// differ from one another.
 #[inline(always)]
 fn is_front(bytes: &[u8], word: &[u8]) -> bool
-    ensures { result ≡ is_some (spec.behind word.now bytes.now) }
+    ensures { result ≡ is_some (spec.after word.now bytes.now) }
 {
     if bytes.len() < word.len() {
         return false;
@@ -22,10 +22,10 @@ fn is_front(bytes: &[u8], word: &[u8]) -> bool
     true
 }
 
-/// What is left behind the word, where the text begins with it.
+/// What is left after the word, where the text begins with it.
 #[inline(always)]
 pub fn strip<'t>(text: &'t str, word: &str) -> Option<&'t str>
-    ensures value { place_of result ≡ spec.behind word.now text.now }
+    ensures value { place_of result ≡ spec.after word.now text.now }
     ensures len { IfSome result (λ rest. length word.now + length rest.now ≡ length text.now) }
 {
     if is_front(text.as_bytes(), word.as_bytes()) {
@@ -35,15 +35,15 @@ pub fn strip<'t>(text: &'t str, word: &str) -> Option<&'t str>
     }
 }
 
-/// What stands before the first place of the word, and what is left behind it.
+/// What stands before the first place of the word, and what is left after it.
 pub(crate) fn cut<'t>(text: &'t str, word: &str) -> Option<(&'t str, &'t str)>
-    ensures value { cut_of result ≡ spec.first_of (spec.behind word.now) text.now }
+    ensures value { cut_of result ≡ spec.first_of (spec.after word.now) text.now }
     ensures no_longer { IfSome result (λ x. length x.1.now ≤ length text.now) }
 {
     text.split_once(word)
 }
 
-/// The first byte, where it is ASCII, and what is left behind it.
+/// The first byte, where it is ASCII, and what is left after it.
 #[inline(always)]
 pub fn ascii(text: &str) -> Option<(u8, &str)>
     ensures value { step_of result ≡ spec.ascii text.now }
@@ -61,7 +61,7 @@ pub fn ascii(text: &str) -> Option<(u8, &str)>
     }
 }
 
-/// The first character, and what is left behind it.
+/// The first character, and what is left after it.
 #[inline(always)]
 pub fn first(text: &str) -> Option<(char, &str)>
     ensures value { IsFirst result text.now }
@@ -73,7 +73,7 @@ pub fn first(text: &str) -> Option<(char, &str)>
     decoded(text)
 }
 
-/// The first character, decoded, and what is left behind it.
+/// The first character, decoded, and what is left after it.
 fn decoded(text: &str) -> Option<(char, &str)>
     ensures value { IsFirst result text.now }
     ensures shorter { Shortens result text.now }
@@ -84,17 +84,17 @@ fn decoded(text: &str) -> Option<(char, &str)>
     }
 }
 
-/// What is left behind the blanks at the front.
+/// What is left after the blanks at the front.
 pub fn past_blanks(text: &str) -> &str
     ensures value { result.now ≡ spec.past_blanks text.now }
     ensures no_longer { length result.now ≤ length text.now }
 {
     let mut rest = text;
-    while let Some((byte, behind)) = ascii(rest) {
+    while let Some((byte, after)) = ascii(rest) {
         if !matches!(byte, b' ' | b'\t' | b'\n' | b'\r' | b'\x0c') {
             break;
         }
-        rest = behind;
+        rest = after;
     }
     rest
 }

@@ -13,7 +13,7 @@ use crate::trimming::Side;
 use crate::whitespace::whitespace_at;
 use memchr::memchr3;
 
-/// The start delimiter of a kind, where the text begins with it, and what is left behind it.
+/// The start delimiter of a kind, where the text begins with it, and what is left after it.
 #[inline(always)]
 fn opens<'s>(syntax: &SyntaxConfig, kind: Kind, text: &'s str) -> Option<(Kind, &'s str)>
     requires { HasAll syntax.now }
@@ -49,7 +49,7 @@ fn longer<'s>(
     }
 }
 
-/// The start delimiter at the front, and what is left behind it.
+/// The start delimiter at the front, and what is left after it.
 #[inline(always)]
 fn opening<'s>(syntax: &SyntaxConfig, text: &'s str) -> Option<(Kind, &'s str)>
     requires { HasAll syntax.now }
@@ -91,19 +91,19 @@ pub fn next_start(syntax: &SyntaxConfig, bytes: &[u8]) -> Option<usize>
     None
 }
 
-/// The start of a tag at the front, and what is left behind it.
+/// The start of a tag at the front, and what is left after it.
 #[inline(always)]
 fn tag_start<'s>(syntax: &SyntaxConfig, text: &'s str) -> Option<(Side, &'s str)>
     requires usable { HasAll syntax.now }
     ensures value { step_of result ≡ spec.tag_start syntax.now text.now }
     ensures shorter { Shortens result text.now }
 {
-    let (kind, behind) = opening(syntax, text)?;
-    let (whitespace, rest) = whitespace_at(behind);
+    let (kind, after) = opening(syntax, text)?;
+    let (whitespace, rest) = whitespace_at(after);
     Some((Side { kind, whitespace }, rest))
 }
 
-/// The text before the next tag, the start of that tag, and what is left behind it.
+/// The text before the next tag, the start of that tag, and what is left after it.
 #[inline(always)]
 pub fn next_tag<'s>(syntax: &SyntaxConfig, text: &'s str) -> Option<(&'s str, Side, &'s str)>
     requires usable { HasAll syntax.now }

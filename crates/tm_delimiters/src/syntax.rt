@@ -161,7 +161,7 @@ impl SyntaxConfig {
         }
     }
 
-    /// Whether one newline behind a block tag or a comment is removed.
+    /// Whether one newline after a block tag or a comment is removed.
     pub(crate) fn trims_blocks(&self) -> bool
         ensures { result ≡ self.now.trim_blocks }
     {

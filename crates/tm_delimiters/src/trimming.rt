@@ -58,7 +58,7 @@ fn indent_start(bytes: &[u8]) -> usize
     0
 }
 
-/// The text without the spaces and tabs that are all that stands behind its last line's start.
+/// The text without the spaces and tabs that are all that stands after its last line's start.
 fn without_indent(starts_line: bool, text: &str) -> &str
     ensures { result.now ≡ spec.without_indent starts_line text.now }
 {
@@ -95,7 +95,7 @@ fn by_before<'t>(syntax: &SyntaxConfig, before: Option<Side>, text: &'t str) -> 
     }
 }
 
-/// What the tag behind a text leaves of it.
+/// What the tag after a text leaves of it.
 #[inline(always)]
 fn by_after<'t>(
     syntax: &SyntaxConfig,

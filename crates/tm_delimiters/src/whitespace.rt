@@ -16,7 +16,7 @@ pub enum Whitespace {
     Preserve,
 }
 
-/// The mark at the front, and what is left behind it.
+/// The mark at the front, and what is left after it.
 pub fn whitespace_at(text: &str) -> (Whitespace, &str)
     ensures value { (result.0, result.1.now) ≡ spec.whitespace_at text.now }
     ensures no_longer { length result.1.now ≤ length text.now }
@@ -28,7 +28,7 @@ pub fn whitespace_at(text: &str) -> (Whitespace, &str)
     }
 }
 
-/// The end delimiter at the front with a mark before it or none, and what is left behind it.
+/// The end delimiter at the front with a mark before it or none, and what is left after it.
 #[inline(always)]
 pub fn ending<'t>(end: &str, text: &'t str) -> Option<(Whitespace, &'t str)>
     ensures value { step_of result ≡ spec.ending end.now text.now }
@@ -58,7 +58,7 @@ fn last_whitespace(text: &str) -> Whitespace
     }
 }
 
-/// The mark before the first place of a comment's end delimiter, and what is left behind that.
+/// The mark before the first place of a comment's end delimiter, and what is left after that.
 pub fn comment_end<'t>(end: &str, text: &'t str) -> Option<(Whitespace, &'t str)>
     ensures value { step_of result ≡ spec.comment_end end.now text.now }
     ensures no_longer { IfSome result (λ x. length x.1.now ≤ length text.now) }

@@ -6,4 +6,4 @@ pub mod Spreading
 pub mod Opened
 pub mod PutTargets
 pub mod PutStatements
-pub mod NumberedBehind
+pub mod NumberedAfter

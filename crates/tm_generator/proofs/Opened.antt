@@ -19,8 +19,8 @@ use Rattle.tm_syntax.specs.declared.instruction.Instruction.{Instruction}
 use Rattle.tm_syntax.specs.declared.instruction.Instruction.TheVariants as i
 use Rattle.tm_syntax.specs.Forms.{chained, unary, conditional, plain, spread, item, slice, binary, compare, and_then, or_else}
 use Rattle.tm_syntax.specs.Fragments.{Fragment, straight, ◌⨾◌}
-use Rattle.tm_syntax.specs.Code.{rows_of, list_of_row, map_of_row, count, has_spread, row_behind, count_lists}
-use Rattle.tm_syntax.specs.Code.{keywords_behind, count_maps, merged_code, merged_count, together, count_by, passed_count}
+use Rattle.tm_syntax.specs.Code.{rows_of, list_of_row, map_of_row, count, has_spread, row_after, count_lists}
+use Rattle.tm_syntax.specs.Code.{keywords_after, count_maps, merged_code, merged_count, together, count_by, passed_count}
 use Rattle.tm_syntax.specs.Code.{RowEnd, row_end, caller_end, has_spread_keyword, passing_by, merging, arguments_code, listed_code, lists_code}
 use Rattle.tm_syntax.specs.Code.{keyword_code, keywords_code, passing_code, step_code, expr_code, steps_code, application_code, step_call_code, steps_call_code, call_code}
 use Rattle.tm_generator.specs.Building.{Builder, put, with_one}
@@ -32,23 +32,23 @@ use Rattle.tm_generator.specs.Opened.{steps_open, steps_call, steps_end, call_op
 keywords-open : {n : _} (end : RowEnd) (before : ℕ) (ks : Row_of-Keyword n) (b : Builder) →
     put (keywords_code end before ks) b ≡ put (end.code (map_open before ks)) (put (keywords_code no_end before ks) b)
 keywords-open end before no_keyword b = refl
-keywords-open end before (keyword_and k rest) b = keywords-open end (keywords_behind before k) rest (put (keyword_code before k) b)
+keywords-open end before (keyword_and k rest) b = keywords-open end (keywords_after before k) rest (put (keyword_code before k) b)
 
 maps-open : {n : _} (end : RowEnd) (before : ℕ) (ks : Row_of-Keyword n) →
     count_maps end before ks ≡ count_maps no_end before ks + end.maps (map_open before ks)
 maps-open end before no_keyword = omega (arith)
-maps-open end before (keyword_and k rest) = omega (arith, maps-open end (keywords_behind before k) rest)
+maps-open end before (keyword_and k rest) = omega (arith, maps-open end (keywords_after before k) rest)
 
 -- ---------------------------------------------------------------- arguments
 lists-open : {n : _} (before : ℕ) (xs : Row_of-Argument n) (m : ℕ) (c : Fragment) (b : Builder) →
     put (lists_code before xs m c) b ≡ put (straight (list_of_row (list_open before xs + m))) (put c (put (listing_code before xs) b))
 lists-open before no_argument m c b = refl
-lists-open before (argument a rest) m c b = lists-open (row_behind before a) rest m c (put (listed_code before a) b)
+lists-open before (argument a rest) m c b = lists-open (row_after before a) rest m c (put (listed_code before a) b)
 
 lists-ended : {n : _} (before : ℕ) (xs : Row_of-Argument n) (m : ℕ) →
     count_lists before xs m ≡ lists_ended before xs + rows_of (list_open before xs + m)
 lists-ended before no_argument m = omega (arith)
-lists-ended before (argument a rest) m = omega (arith, lists-ended (row_behind before a) rest m)
+lists-ended before (argument a rest) m = omega (arith, lists-ended (row_after before a) rest m)
 
 -- where none is spread there is one row
 one_row : {n : _} (before : ℕ) (xs : Row_of-Argument n) → has_spread xs ≡ false → list_open before xs ≡ count xs + before
@@ -78,7 +78,7 @@ module _ {n m : _} (end : RowEnd) (before : ℕ) (given : Row_of-Argument n) (na
   named_put b = ap {B = Builder} (λ d. put (straight (merged_code (has_spread_keyword named) (count_maps end 0 named))) d) (keywords-open end 0 named b)
       ∙ ap {B = Builder} (λ j. put (straight (merged_code (has_spread_keyword named) j)) (put (end.code (map_open 0 named)) (put (keywords_code no_end 0 named) b))) same_maps
 
-  -- all before the last rows end, and what is put behind that
+  -- all before the last rows end, and what is put after that
   abbrev rows_put : Builder → Builder
   rows_put b = put (straight (merged_code (has_spread_keyword named) (maps_in end call))) (put (end.code (map_open 0 named))
       (put (keywords_code no_end 0 named) (put (listing_code before given) b)))
@@ -251,7 +251,7 @@ module _ (ss before : List Step) (last : Step) (whole : ss ≡ before ++ last �
   pub last-end : (n : Option ℕ) → step_end last n ≡ steps_end (steps ss) n
   last-end n = sym (ap (λ l. steps_end (steps l) n) whole ∙ end-last_step before last n)
 
--- a value and the steps behind it
+-- a value and the steps after it
 chain-open : (b : Builder) (x : Expr) (ss : List Step) →
     put (call_open (e.Chain x ss)) b ≡ put (steps_open (steps ss)) (put (expr_code x) b)
 unfolding hidden hidden-the_row-Expr-0

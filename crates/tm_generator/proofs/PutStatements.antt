@@ -76,7 +76,7 @@ module _ (s s1 : StreamBuilder) (tag : CallBlock) (call call1 : OpenCall) (name 
   abbrev end : RowEnd
   end = caller_end (declared (codes "caller"))
 
-  -- the call with its ends, behind what was passed with its last rows open
+  -- the call with its ends, after what was passed with its last rows open
   abbrev ended : RowEnd → OpenCall → Builder → Builder
   ended e c b = put_code (ending e c ⨾ straight (call_end tag.call (ending_count e c))) b
 

@@ -13,8 +13,8 @@ use Rattle.tm_syntax.specs.declared.tree.Argument.TheBlock.{hidden-the_row-Argum
 use Rattle.tm_syntax.specs.declared.tree.Argument.TheBlock.{hidden-the_row-Keyword-4 as keywords, shape-the_row-Keyword-4}
 use Rattle.tm_syntax.specs.declared.instruction.Instruction.TheVariants as i
 use Rattle.tm_syntax.specs.Fragments.{straight}
-use Rattle.tm_syntax.specs.Code.{rows_of, list_of_row, map_of_row, is_spread, has_spread, row_behind, lists_at}
-use Rattle.tm_syntax.specs.Code.{is_spread_keyword, has_spread_keyword, keywords_behind, maps_at}
+use Rattle.tm_syntax.specs.Code.{rows_of, list_of_row, map_of_row, is_spread, has_spread, row_after, lists_at}
+use Rattle.tm_syntax.specs.Code.{is_spread_keyword, has_spread_keyword, keywords_after, maps_at}
 use Rattle.tm_syntax.specs.Code.{expr_code, listed_code, keyword_code, keywords_code}
 use Rattle.tm_generator.specs.Opened.{no_end, listing_code, lists_of, maps_of}
 use Rattle.tm_generator.specs.declared.passing.Rows.{Rows}
@@ -80,15 +80,15 @@ pub made-mapped : (b m1 m2 : Builder) (n : ℕ) (x : Expr) → m1 ≡ put (strai
 made-mapped b m1 m2 n x p q = q ∙ ap {B = Builder} (λ m. put (expr_code x) m) p ∙ sym (put-keyword-spread b n x)
 
 -- ---------------------------------------------------------------- rows of rows
--- behind so many rows
-abbrev pub behind : ℕ → Rows → Rows
-behind n rows = record { ended = n + rows.ended; pending = rows.pending }
+-- after so many rows
+abbrev pub after : ℕ → Rows → Rows
+after n rows = record { ended = n + rows.ended; pending = rows.pending }
 
-behind-twice : (n m : ℕ) (rows : Rows) → behind n (behind m rows) ≡ behind (n + m) rows
-behind-twice n m rows = ap {A = ℕ} {B = Rows} (λ j. record { ended = j; pending = rows.pending }) (omega (arith))
+after-twice : (n m : ℕ) (rows : Rows) → after n (after m rows) ≡ after (n + m) rows
+after-twice n m rows = ap {A = ℕ} {B = Rows} (λ j. record { ended = j; pending = rows.pending }) (omega (arith))
 
-behind-none : (n m : ℕ) → behind n (record { ended = 0; pending = m }) ≡ record { ended = n; pending = m }
-behind-none n m = ap {A = ℕ} {B = Rows} (λ j. record { ended = j; pending = m }) (omega (arith))
+after-none : (n m : ℕ) → after n (record { ended = 0; pending = m }) ≡ record { ended = n; pending = m }
+after-none n m = ap {A = ℕ} {B = Rows} (λ j. record { ended = j; pending = m }) (omega (arith))
 
 -- ---------------------------------------------------------------- whether one is spread
 spread-nil : has_spread (arguments []) ≡ false
@@ -140,7 +140,7 @@ unfolding hidden arguments shape-the_row-Argument-3
 listing-nil b n = refl
 
 listing-cons : (b : Builder) (n : ℕ) (x : Argument) (xs : List Argument) →
-    put (listing_code n (arguments (x ∷ xs))) b ≡ put (listing_code (row_behind n x) (arguments xs)) (put (listed_code n x) b)
+    put (listing_code n (arguments (x ∷ xs))) b ≡ put (listing_code (row_after n x) (arguments xs)) (put (listed_code n x) b)
 unfolding hidden arguments shape-the_row-Argument-3
 listing-cons b n x xs = refl
 
@@ -149,36 +149,36 @@ unfolding hidden arguments shape-the_row-Argument-3
 lists-nil n = refl
 
 lists-cons : (n : ℕ) (x : Argument) (xs : List Argument) →
-    lists_of n (arguments (x ∷ xs)) ≡ behind (lists_at n x) (lists_of (row_behind n x) (arguments xs))
+    lists_of n (arguments (x ∷ xs)) ≡ after (lists_at n x) (lists_of (row_after n x) (arguments xs))
 unfolding hidden arguments shape-the_row-Argument-3
 lists-cons n x xs = refl
 
 pub more-lists : (all rest : List Argument) (x : Argument) (n n1 : ℕ) (b b1 goal : Builder) → all ≡ x ∷ rest →
-    b1 ≡ put (listed_code n x) b → n1 ≡ row_behind n x → put (listing_code n (arguments all)) b ≡ goal →
+    b1 ≡ put (listed_code n x) b → n1 ≡ row_after n x → put (listing_code n (arguments all)) b ≡ goal →
     put (listing_code n1 (arguments rest)) b1 ≡ goal
 more-lists all rest x n n1 b b1 goal left p e g =
     ap {B = Builder} (λ j. put (listing_code j (arguments rest)) b1) e
-    ∙ ap {B = Builder} (λ d. put (listing_code (row_behind n x) (arguments rest)) d) p ∙ sym (listing-cons b n x rest)
+    ∙ ap {B = Builder} (λ d. put (listing_code (row_after n x) (arguments rest)) d) p ∙ sym (listing-cons b n x rest)
     ∙ ap {B = Builder} (λ xs. put (listing_code n (arguments xs)) b) (sym left) ∙ g
 
 pub more-list_rows : (all rest : List Argument) (x : Argument) (n n1 l l1 : ℕ) (goal : Rows) → all ≡ x ∷ rest → l1 ≡ l + lists_at n x →
-    n1 ≡ row_behind n x → behind l (lists_of n (arguments all)) ≡ goal → behind l1 (lists_of n1 (arguments rest)) ≡ goal
+    n1 ≡ row_after n x → after l (lists_of n (arguments all)) ≡ goal → after l1 (lists_of n1 (arguments rest)) ≡ goal
 more-list_rows all rest x n n1 l l1 goal left p e g =
-    ap {A = ℕ} {B = Rows} (λ j. behind j (lists_of n1 (arguments rest))) p
-    ∙ ap {A = ℕ} {B = Rows} (λ j. behind (l + lists_at n x) (lists_of j (arguments rest))) e
-    ∙ sym (behind-twice l (lists_at n x) (lists_of (row_behind n x) (arguments rest)))
-    ∙ ap {A = Rows} {B = Rows} (behind l) (sym (ap {B = Rows} (λ xs. lists_of n (arguments xs)) left ∙ lists-cons n x rest)) ∙ g
+    ap {A = ℕ} {B = Rows} (λ j. after j (lists_of n1 (arguments rest))) p
+    ∙ ap {A = ℕ} {B = Rows} (λ j. after (l + lists_at n x) (lists_of j (arguments rest))) e
+    ∙ sym (after-twice l (lists_at n x) (lists_of (row_after n x) (arguments rest)))
+    ∙ ap {A = Rows} {B = Rows} (after l) (sym (ap {B = Rows} (λ xs. lists_of n (arguments xs)) left ∙ lists-cons n x rest)) ∙ g
 
 pub no_more-lists : (rest : List Argument) (n : ℕ) (b goal : Builder) → rest ≡ [] → put (listing_code n (arguments rest)) b ≡ goal →
     b ≡ goal
 no_more-lists rest n b goal none g =
     sym (ap {B = Builder} (λ xs. put (listing_code n (arguments xs)) b) none ∙ listing-nil b n) ∙ g
 
-pub no_more-list_rows : (rest : List Argument) (n l : ℕ) (goal : Rows) → rest ≡ [] → behind l (lists_of n (arguments rest)) ≡ goal →
+pub no_more-list_rows : (rest : List Argument) (n l : ℕ) (goal : Rows) → rest ≡ [] → after l (lists_of n (arguments rest)) ≡ goal →
     ◌≡◌ {A = Rows} (record { ended = l; pending = n }) goal
 no_more-list_rows rest n l goal none g =
-    sym (ap {B = Rows} (λ xs. behind l (lists_of n (arguments xs))) none ∙ ap {A = Rows} {B = Rows} (behind l) (lists-nil n)
-    ∙ behind-none l n) ∙ g
+    sym (ap {B = Rows} (λ xs. after l (lists_of n (arguments xs))) none ∙ ap {A = Rows} {B = Rows} (after l) (lists-nil n)
+    ∙ after-none l n) ∙ g
 
 -- ---------------------------------------------------------------- maps
 naming-nil : (b : Builder) (n : ℕ) → put (keywords_code no_end n (keywords [])) b ≡ b
@@ -187,7 +187,7 @@ naming-nil b n = refl
 
 naming-cons : (b : Builder) (n : ℕ) (x : Keyword) (xs : List Keyword) →
     put (keywords_code no_end n (keywords (x ∷ xs))) b
-    ≡ put (keywords_code no_end (keywords_behind n x) (keywords xs)) (put (keyword_code n x) b)
+    ≡ put (keywords_code no_end (keywords_after n x) (keywords xs)) (put (keyword_code n x) b)
 unfolding hidden keywords shape-the_row-Keyword-4
 naming-cons b n x xs = refl
 
@@ -196,36 +196,36 @@ unfolding hidden keywords shape-the_row-Keyword-4
 maps-nil n = refl
 
 maps-cons : (n : ℕ) (x : Keyword) (xs : List Keyword) →
-    maps_of n (keywords (x ∷ xs)) ≡ behind (maps_at n x) (maps_of (keywords_behind n x) (keywords xs))
+    maps_of n (keywords (x ∷ xs)) ≡ after (maps_at n x) (maps_of (keywords_after n x) (keywords xs))
 unfolding hidden keywords shape-the_row-Keyword-4
 maps-cons n x xs = refl
 
 pub more-maps : (all rest : List Keyword) (x : Keyword) (n n1 : ℕ) (b b1 goal : Builder) → all ≡ x ∷ rest →
-    b1 ≡ put (keyword_code n x) b → n1 ≡ keywords_behind n x → put (keywords_code no_end n (keywords all)) b ≡ goal →
+    b1 ≡ put (keyword_code n x) b → n1 ≡ keywords_after n x → put (keywords_code no_end n (keywords all)) b ≡ goal →
     put (keywords_code no_end n1 (keywords rest)) b1 ≡ goal
 more-maps all rest x n n1 b b1 goal left p e g =
     ap {B = Builder} (λ j. put (keywords_code no_end j (keywords rest)) b1) e
-    ∙ ap {B = Builder} (λ d. put (keywords_code no_end (keywords_behind n x) (keywords rest)) d) p ∙ sym (naming-cons b n x rest)
+    ∙ ap {B = Builder} (λ d. put (keywords_code no_end (keywords_after n x) (keywords rest)) d) p ∙ sym (naming-cons b n x rest)
     ∙ ap {B = Builder} (λ xs. put (keywords_code no_end n (keywords xs)) b) (sym left) ∙ g
 
 pub more-map_rows : (all rest : List Keyword) (x : Keyword) (n n1 l l1 : ℕ) (goal : Rows) → all ≡ x ∷ rest → l1 ≡ l + maps_at n x →
-    n1 ≡ keywords_behind n x → behind l (maps_of n (keywords all)) ≡ goal → behind l1 (maps_of n1 (keywords rest)) ≡ goal
+    n1 ≡ keywords_after n x → after l (maps_of n (keywords all)) ≡ goal → after l1 (maps_of n1 (keywords rest)) ≡ goal
 more-map_rows all rest x n n1 l l1 goal left p e g =
-    ap {A = ℕ} {B = Rows} (λ j. behind j (maps_of n1 (keywords rest))) p
-    ∙ ap {A = ℕ} {B = Rows} (λ j. behind (l + maps_at n x) (maps_of j (keywords rest))) e
-    ∙ sym (behind-twice l (maps_at n x) (maps_of (keywords_behind n x) (keywords rest)))
-    ∙ ap {A = Rows} {B = Rows} (behind l) (sym (ap {B = Rows} (λ xs. maps_of n (keywords xs)) left ∙ maps-cons n x rest)) ∙ g
+    ap {A = ℕ} {B = Rows} (λ j. after j (maps_of n1 (keywords rest))) p
+    ∙ ap {A = ℕ} {B = Rows} (λ j. after (l + maps_at n x) (maps_of j (keywords rest))) e
+    ∙ sym (after-twice l (maps_at n x) (maps_of (keywords_after n x) (keywords rest)))
+    ∙ ap {A = Rows} {B = Rows} (after l) (sym (ap {B = Rows} (λ xs. maps_of n (keywords xs)) left ∙ maps-cons n x rest)) ∙ g
 
 pub no_more-maps : (rest : List Keyword) (n : ℕ) (b goal : Builder) → rest ≡ [] → put (keywords_code no_end n (keywords rest)) b ≡ goal →
     b ≡ goal
 no_more-maps rest n b goal none g =
     sym (ap {B = Builder} (λ xs. put (keywords_code no_end n (keywords xs)) b) none ∙ naming-nil b n) ∙ g
 
-pub no_more-map_rows : (rest : List Keyword) (n l : ℕ) (goal : Rows) → rest ≡ [] → behind l (maps_of n (keywords rest)) ≡ goal →
+pub no_more-map_rows : (rest : List Keyword) (n l : ℕ) (goal : Rows) → rest ≡ [] → after l (maps_of n (keywords rest)) ≡ goal →
     ◌≡◌ {A = Rows} (record { ended = l; pending = n }) goal
 no_more-map_rows rest n l goal none g =
-    sym (ap {B = Rows} (λ xs. behind l (maps_of n (keywords xs))) none ∙ ap {A = Rows} {B = Rows} (behind l) (maps-nil n)
-    ∙ behind-none l n) ∙ g
+    sym (ap {B = Rows} (λ xs. after l (maps_of n (keywords xs))) none ∙ ap {A = Rows} {B = Rows} (after l) (maps-nil n)
+    ∙ after-none l n) ∙ g
 
 -- ---------------------------------------------------------------- answers
 pub on_ok_always : {T E P : Type 0} (r : Result T E) → P → OnOk r P

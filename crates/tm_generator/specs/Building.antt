@@ -129,7 +129,7 @@ put break_loop b = left b
 put next_round b = continued b
 put (declares m c) b = let around = around_of b in with_all (building m.free m around.entry) (body_ended around (put c (body_begun b)))
 
--- what stands behind the body of a macro with these names
+-- what stands after the body of a macro with these names
 abbrev pub head_with : List ℕ → List Parameter → MacroNames → MacroHead
 head_with x ps names = record { name = x; parameters = parameter_names ps; free = names.free; caller = names.takes_caller }
 

@@ -14,7 +14,7 @@ abbrev pub made_or : Option Instruction → Instruction → Instruction
 made_or (Some y) x = y
 made_or None x = x
 
--- This is what stands in an instruction's place with its number, between these names that have theirs, whatever comes behind it.
+-- This is what stands in an instruction's place with its number, between these names that have theirs, whatever comes after it.
 abbrev pub IsNumberedOne : CacheNames → CacheNames → Instruction → Option Instruction → Type 0
 IsNumberedOne old new x made =
     (more : List Instruction) →

@@ -1,4 +1,4 @@
--- How the code of a call is put in two parts: what it is passed with its last rows open, and behind what else is passed their ends.
+-- How the code of a call is put in two parts: what it is passed with its last rows open, and after what else is passed their ends.
 use Rattle.std.specs.Prelude.{ℕ, ◌+◌, List, [], ◌∷◌, Bool, true, false, Option}
 use Rattle.tm_syntax.specs.declared.instruction.Instruction.{Instruction}
 use Rattle.tm_syntax.specs.declared.instruction.Instruction.TheVariants as i
@@ -9,25 +9,25 @@ use Rattle.tm_syntax.specs.declared.tree.Expr.{end_of-Step as no_step, more_of-S
 use Rattle.tm_syntax.specs.declared.tree.Step.{Step, Apply', Call' as Called}
 use Rattle.tm_syntax.specs.Forms.{chained}
 use Rattle.tm_syntax.specs.Fragments.{Fragment, straight, ◌⨾◌}
-use Rattle.tm_syntax.specs.Code.{rows_of, list_of_row, has_spread, row_behind, lists_at, has_spread_keyword, keywords_behind, RowEnd}
+use Rattle.tm_syntax.specs.Code.{rows_of, list_of_row, has_spread, row_after, lists_at, has_spread_keyword, keywords_after, RowEnd}
 use Rattle.tm_syntax.specs.Code.{count_maps, merged_code, merged_count, count_by, listed_code, keywords_code, expr_code, step_code}
 use Rattle.tm_syntax.specs.Code.{application_code}
 use Rattle.tm_generator.specs.declared.passing.Rows.{Rows}
 pub use Rattle.tm_generator.specs.declared.passing.OpenCall.{OpenCall}
 
 -- ---------------------------------------------------------------- rows
--- the code of arguments behind a row of so many, without that of the last row's end
+-- the code of arguments after a row of so many, without that of the last row's end
 abbrev pub listing_code : {n : _} → ℕ → Row_of-Argument n → Fragment
 listing_code before no_argument = straight []
-listing_code before (argument a rest) = listed_code before a ⨾ listing_code (row_behind before a) rest
+listing_code before (argument a rest) = listed_code before a ⨾ listing_code (row_after before a) rest
 
 abbrev pub lists_ended : {n : _} → ℕ → Row_of-Argument n → ℕ
 lists_ended before no_argument = 0
-lists_ended before (argument a rest) = lists_at before a + lists_ended (row_behind before a) rest
+lists_ended before (argument a rest) = lists_at before a + lists_ended (row_after before a) rest
 
 abbrev pub list_open : {n : _} → ℕ → Row_of-Argument n → ℕ
 list_open before no_argument = before
-list_open before (argument a rest) = list_open (row_behind before a) rest
+list_open before (argument a rest) = list_open (row_after before a) rest
 
 -- the same of keywords
 abbrev pub no_end : RowEnd
@@ -35,7 +35,7 @@ no_end = record { maps = λ n. 0; code = λ n. straight [] }
 
 abbrev pub map_open : {n : _} → ℕ → Row_of-Keyword n → ℕ
 map_open before no_keyword = before
-map_open before (keyword_and k rest) = map_open (keywords_behind before k) rest
+map_open before (keyword_and k rest) = map_open (keywords_after before k) rest
 
 abbrev pub lists_of : {n : _} → ℕ → Row_of-Argument n → Rows
 lists_of before given = record { ended = lists_ended before given; pending = list_open before given }
@@ -76,7 +76,7 @@ maps_in end call = call.maps.ended + end.maps call.maps.pending
 abbrev pub values_in : RowEnd → OpenCall → ℕ
 values_in end call = call.lists.pending + merged_count call.merges (maps_in end call)
 
--- the code of so many values in the last row, behind so many lists
+-- the code of so many values in the last row, after so many lists
 abbrev pub unpacked_code : Bool → ℕ → ℕ → Fragment
 unpacked_code false ended n = straight []
 unpacked_code true ended n = straight (list_of_row n) ⨾ straight (i.UnpackLists (ended + rows_of n) ∷ [])

@@ -27,8 +27,8 @@ ghost use Rattle.tm_syntax.specs.declared.tree.Argument.TheBlock.{hidden-the_row
 
 use crate::builder::{Builder, Out};
 use crate::passing::{
-    OpenCall, Rows, has_spread, has_spread_keyword, keywords_behind, lists_at, maps_at,
-    push_list_of_row, push_map_of_row, row_behind, sum,
+    OpenCall, Rows, has_spread, has_spread_keyword, keywords_after, lists_at, maps_at,
+    push_list_of_row, push_map_of_row, row_after, sum,
 };
 use std::alloc::AllocError;
 use tm_items::Items;
@@ -271,7 +271,7 @@ fn push_pairs(code: &mut Builder, entries: &[Pair]) -> Result<(), AllocError>
     Ok(())
 }
 
-/// Adds the code of an argument behind a row of so many, which a spread one ends; AllocError.
+/// Adds the code of an argument after a row of so many, which a spread one ends; AllocError.
 #[cycle(expressions)]
 fn push_listed(code: &mut Builder, row: usize, argument: &Argument) -> Result<(), AllocError>
     ensures { OnOk result (code.new ≡ put (listed_code row argument.now) code.old) }
@@ -285,7 +285,7 @@ fn push_listed(code: &mut Builder, row: usize, argument: &Argument) -> Result<()
     }
 }
 
-/// Adds the code of arguments behind a row of so many, without that of the last row's end, and
+/// Adds the code of arguments after a row of so many, without that of the last row's end, and
 /// gives their rows; AllocError.
 #[cycle(expressions)]
 #[inline(never)]
@@ -299,12 +299,12 @@ fn push_arguments(code: &mut Builder, before: usize, given: &[Argument]) -> Resu
     for argument in given {
         push_listed(code, pending, argument)?;
         ended = sum(ended, lists_at(pending, argument))?;
-        pending = row_behind(pending, argument)?;
+        pending = row_after(pending, argument)?;
     }
     Ok(Rows { ended, pending })
 }
 
-/// Adds the code of a keyword behind a row of so many, which a spread one ends; AllocError.
+/// Adds the code of a keyword after a row of so many, which a spread one ends; AllocError.
 #[cycle(expressions)]
 fn push_keyword(code: &mut Builder, row: usize, keyword: &Keyword) -> Result<(), AllocError>
     ensures { OnOk result (code.new ≡ put (keyword_code row keyword.now) code.old) }
@@ -335,7 +335,7 @@ fn push_keywords(code: &mut Builder, named: &[Keyword]) -> Result<Rows, AllocErr
     for keyword in named {
         push_keyword(code, pending, keyword)?;
         ended = sum(ended, maps_at(pending, keyword))?;
-        pending = keywords_behind(pending, keyword)?;
+        pending = keywords_after(pending, keyword)?;
     }
     Ok(Rows { ended, pending })
 }

@@ -19,7 +19,7 @@ use tm_syntax::{Argument, Instruction, Keyword};
 pub(crate) struct Rows {
     /// How many rows have ended.
     pub(crate) ended: usize,
-    /// How many values are pending behind them.
+    /// How many values are pending after them.
     pub(crate) pending: usize,
 }
 
@@ -91,7 +91,7 @@ fn push_merged(code: &mut Builder, merges: bool, maps: usize) -> Result<usize, A
     Ok(1)
 }
 
-/// Adds the code that unpacks so many lists and the values behind them where one is spread, and
+/// Adds the code that unpacks so many lists and the values after them where one is spread, and
 /// gives how many values there are; none where their number is on top. AllocError.
 fn push_unpacked(
     code: &mut Builder,
@@ -174,9 +174,9 @@ pub(crate) fn has_spread(given: &[Argument]) -> bool
     false
 }
 
-/// How many values wait to be a list behind an argument, behind a row of so many; AllocError.
-pub(crate) fn row_behind(row: usize, argument: &Argument) -> Result<usize, AllocError>
-    ensures { IfOk result (λ n. n ≡ code.row_behind row argument.now) }
+/// How many values wait to be a list after an argument, after a row of so many; AllocError.
+pub(crate) fn row_after(row: usize, argument: &Argument) -> Result<usize, AllocError>
+    ensures { IfOk result (λ n. n ≡ code.row_after row argument.now) }
 {
     match argument {
         Argument::Plain(_) => sum(row, 1),
@@ -184,7 +184,7 @@ pub(crate) fn row_behind(row: usize, argument: &Argument) -> Result<usize, Alloc
     }
 }
 
-/// How many lists an argument brings behind a row of so many.
+/// How many lists an argument brings after a row of so many.
 pub(crate) fn lists_at(row: usize, argument: &Argument) -> usize
     ensures { result ≡ code.lists_at row argument.now }
 {
@@ -216,9 +216,9 @@ pub(crate) fn has_spread_keyword(named: &[Keyword]) -> bool
     false
 }
 
-/// How many names wait to be a map behind a keyword, behind a row of so many; AllocError.
-pub(crate) fn keywords_behind(row: usize, keyword: &Keyword) -> Result<usize, AllocError>
-    ensures { IfOk result (λ n. n ≡ code.keywords_behind row keyword.now) }
+/// How many names wait to be a map after a keyword, after a row of so many; AllocError.
+pub(crate) fn keywords_after(row: usize, keyword: &Keyword) -> Result<usize, AllocError>
+    ensures { IfOk result (λ n. n ≡ code.keywords_after row keyword.now) }
 {
     match keyword {
         Keyword::Named(_, _) => sum(row, 1),
@@ -226,7 +226,7 @@ pub(crate) fn keywords_behind(row: usize, keyword: &Keyword) -> Result<usize, Al
     }
 }
 
-/// How many maps a keyword brings behind a row of so many.
+/// How many maps a keyword brings after a row of so many.
 pub(crate) fn maps_at(row: usize, keyword: &Keyword) -> usize
     ensures { result ≡ code.maps_at row keyword.now }
 {

@@ -27,7 +27,7 @@ pure x = record {
   shorter = pure_shorter x;
 }
 
--- One part, and behind it another, which the value of the first one chooses.
+-- One part, and after it another, which the value of the first one chooses.
 infixl 10 ◌>>=◌
 abbrev pub ◌>>=◌ : {T A B : Type 0} → Rule T A → (A → Rule T B) → Rule T B
 r >>= f = record {
@@ -42,7 +42,7 @@ r >>= f = record {
 abbrev pub first : {T A : Type 0} → (T → Option A) → Look T A
 first p = record { sees = first_sees p; nearer = first_nearer p }
 
--- the same, where behind it stands no token that q knows
+-- the same, where after it stands no token that q knows
 abbrev pub not_before : {T A B : Type 0} → (T → Option A) → (T → Option B) → Look T A
 not_before p q = record { sees = λ ts. not_before_sees q (first_sees p ts); nearer = not_before_nearer (first p) q }
 
@@ -51,7 +51,7 @@ abbrev pub provided : {T A : Type 0} → Bool → Rule T A → Rule T A
 provided true r = r
 provided false r = nothing
 
--- One rule behind what stands first, and another where it does not stand there.
+-- One rule after what stands first, and another where it does not stand there.
 abbrev pub branch : {T A B : Type 0} → Look T A → (A → Rule T B) → Rule T B → Rule T B
 branch p f other = record {
   spells = λ ts. branch_spells (λ a. (f a).spells) other.spells (p.sees ts) ts;
@@ -79,7 +79,7 @@ grow p part x = record {
 abbrev pub one_more : {T A : Type 0} → Rule T A → List A → Rule T (List A)
 one_more item xs = item >>= (λ x. pure (xs ++ x ∷ []))
 
--- items behind these ones, as many as there are, each behind what p sees
+-- items after these ones, as many as there are, each after what p sees
 abbrev pub many_from : {T A B : Type 0} → Look T A → (A → Rule T B) → List B → Rule T (List B)
 many_from p item xs = grow p (λ a ys. one_more (item a) ys) xs
 

@@ -18,17 +18,17 @@ module _ {T A B : Type 0} (p : Look T A) (part : A → B → Rule T B) where
   abbrev FoundBy : ℕ → Type 0
   FoundBy n = (x : B) (ts : List T) (z : B) (rest : List T) → read_by n x ts ≡ got z rest → spelled x ts z rest
 
-  found_behind : (n : ℕ) → FoundBy n → (x : B) (ts : List T) (z : B) (rest : List T) (s : A × List T) → p.sees ts ≡ Some s →
+  found_after : (n : ℕ) → FoundBy n → (x : B) (ts : List T) (z : B) (rest : List T) (s : A × List T) → p.sees ts ≡ Some s →
       (y : Read T B) → (part s.0 x).reads s.1 ≡ y → option_and_then (λ w. read_by n w.0 w.1) y ≡ got z rest → spelled x ts z rest
-  found_behind n ih x ts z rest s e None k h = absurd (not_got z rest h)
-  found_behind n ih x ts z rest s e (Some y) k h = grows e ((part s.0 x).sound s.1 y.0 y.1 k) (ih y.0 y.1 z rest h)
+  found_after n ih x ts z rest s e None k h = absurd (not_got z rest h)
+  found_after n ih x ts z rest s e (Some y) k h = grows e ((part s.0 x).sound s.1 y.0 y.1 k) (ih y.0 y.1 z rest h)
 
   found_at : (n : ℕ) → FoundBy n → (x : B) (ts : List T) (z : B) (rest : List T) (seen : Read T A) → p.sees ts ≡ seen →
       turn (λ a y. (part a y).reads) (read_by n) x ts seen ≡ got z rest → spelled x ts z rest
   found_at n ih x ts z rest None e h =
       let same = same_got x z ts rest h in
       stops e same.0 same.1
-  found_at n ih x ts z rest (Some s) e h = found_behind n ih x ts z rest s e ((part s.0 x).reads s.1) refl h
+  found_at n ih x ts z rest (Some s) e h = found_after n ih x ts z rest s e ((part s.0 x).reads s.1) refl h
 
   found_by : (n : ℕ) → FoundBy n
   unfolding grow_reads_by
@@ -40,11 +40,11 @@ module _ {T A B : Type 0} (p : Look T A) (part : A → B → Rule T B) where
   only_by zero x ts z rest small h = absurd (omega (arith, small))
   only_by (suc n) x ts z rest small (stops e same left) = ap (turn (λ a y. (part a y).reads) (read_by n) x ts) e ∙ pure_only x ts z rest
       (same, left)
-  only_by (suc n) x ts z rest small (grows {behind = behind} {between = between} {a = a} {y = y} e spells more) =
-      let closer : length behind < length ts = p.nearer ts a behind e in
-      let left : length between ≤ length behind = (part a x).shorter behind y between spells in
+  only_by (suc n) x ts z rest small (grows {after = after} {between = between} {a = a} {y = y} e spells more) =
+      let closer : length after < length ts = p.nearer ts a after e in
+      let left : length between ≤ length after = (part a x).shorter after y between spells in
       ap (turn (λ a y. (part a y).reads) (read_by n) x ts) e
-      ∙ ap (option_and_then (λ w. read_by n w.0 w.1)) ((part a x).complete behind y between spells)
+      ∙ ap (option_and_then (λ w. read_by n w.0 w.1)) ((part a x).complete after y between spells)
       ∙ only_by n y between z rest (omega (arith, closer, left, small)) more
 
   pub grow_found : (x : B) → Sound (spelled x) (read x)
@@ -57,8 +57,8 @@ module _ {T A B : Type 0} (p : Look T A) (part : A → B → Rule T B) where
 
   pub grow_shorter : (x : B) → Shorter (spelled x)
   grow_shorter x ts z rest (stops e same left) = omega (arith, ap length left)
-  grow_shorter x ts z rest (grows {behind = behind} {between = between} {a = a} {y = y} e spells more) =
-      omega (arith, p.nearer ts a behind e, (part a x).shorter behind y between spells, grow_shorter y between z rest more)
+  grow_shorter x ts z rest (grows {after = after} {between = between} {a = a} {y = y} e spells more) =
+      omega (arith, p.nearer ts a after e, (part a x).shorter after y between spells, grow_shorter y between z rest more)
 
   -- any number of turns that is large enough serves
   same_by : (n k : ℕ) (x : B) (ts : List T) → length ts < n → length ts < k → read_by n x ts ≡ read_by k x ts
@@ -74,21 +74,21 @@ module _ {T A B : Type 0} (p : Look T A) (part : A → B → Rule T B) where
   unfolding grow_reads grow_reads_by
   grow_none x ts e = ap (turn (λ a y. (part a y).reads) (read_by (length ts)) x ts) e
 
-  -- behind one part
-  pub grow_some : (x : B) (ts : List T) (a : A) (behind : List T) (y : B) (rest : List T) →
-      p.sees ts ≡ got a behind → (part a x).reads behind ≡ got y rest → read x ts ≡ read y rest
+  -- after one part
+  pub grow_some : (x : B) (ts : List T) (a : A) (after : List T) (y : B) (rest : List T) →
+      p.sees ts ≡ got a after → (part a x).reads after ≡ got y rest → read x ts ≡ read y rest
   unfolding grow_reads grow_reads_by
-  grow_some x ts a behind y rest e h =
-      let closer : length behind < length ts = p.nearer ts a behind e in
-      let left : length rest ≤ length behind = (part a x).shorter behind y rest ((part a x).sound behind y rest h) in
+  grow_some x ts a after y rest e h =
+      let closer : length after < length ts = p.nearer ts a after e in
+      let left : length rest ≤ length after = (part a x).shorter after y rest ((part a x).sound after y rest h) in
       ap (turn (λ a y. (part a y).reads) (read_by (length ts)) x ts) e
       ∙ ap (option_and_then (λ w. read_by (length ts) w.0 w.1)) h
       ∙ same_by (length ts) (suc (length rest)) y rest (omega (arith, closer, left)) (omega arith)
 
   -- where a part is refused
-  pub grow_fails : (x : B) (ts : List T) (a : A) (behind : List T) → p.sees ts ≡ got a behind → (part a x).reads behind ≡ None →
+  pub grow_fails : (x : B) (ts : List T) (a : A) (after : List T) → p.sees ts ≡ got a after → (part a x).reads after ≡ None →
       read x ts ≡ None
   unfolding grow_reads grow_reads_by
-  grow_fails x ts a behind e h =
+  grow_fails x ts a after e h =
       ap (turn (λ a y. (part a y).reads) (read_by (length ts)) x ts) e
       ∙ ap (option_and_then (λ w. read_by (length ts) w.0 w.1)) h

@@ -20,14 +20,14 @@ pub pure_shorter : {T A : Type 0} (x : A) → Shorter (pure_spells {T = T} x)
 pure_shorter x ts a rest h = omega (arith, ap length h.1)
 
 module _ {T A B : Type 0} (r : Rule T A) (f : A → Rule T B) where
-  found_behind : (ts : List T) (b : B) (rest : List T) (read : Read T A) → r.reads ts ≡ read →
+  found_after : (ts : List T) (b : B) (rest : List T) (read : Read T A) → r.reads ts ≡ read →
       option_and_then (λ x. (f x.0).reads x.1) read ≡ got b rest →
       bind_spells r.spells (λ a. (f a).spells) ts b rest
-  found_behind ts b rest None e h = absurd (not_got b rest h)
-  found_behind ts b rest (Some x) e h = (x.0, x.1, r.sound ts x.0 x.1 e, (f x.0).sound x.1 b rest h)
+  found_after ts b rest None e h = absurd (not_got b rest h)
+  found_after ts b rest (Some x) e h = (x.0, x.1, r.sound ts x.0 x.1 e, (f x.0).sound x.1 b rest h)
 
   pub bind_found : Sound (bind_spells r.spells (λ a. (f a).spells)) (bind_reads r.reads (λ a. (f a).reads))
-  bind_found ts b rest h = found_behind ts b rest (r.reads ts) refl h
+  bind_found ts b rest h = found_after ts b rest (r.reads ts) refl h
 
   pub bind_only : Complete (bind_spells r.spells (λ a. (f a).spells)) (bind_reads r.reads (λ a. (f a).reads))
   bind_only ts b rest h = ap (option_and_then (λ x. (f x.0).reads x.1)) (r.complete ts h.0 h.1 h.2) ∙ (f h.0).complete h.1 b rest h.3
@@ -44,7 +44,7 @@ pub first_nearer : {T A : Type 0} (p : T → Option A) → Nearer (first_sees p)
 first_nearer p [] a rest h = absurd (not_got a rest h)
 first_nearer p (t ∷ ts) a rest h = known_nearer t ts (p t) a rest h
 
-unless_got : {T A B : Type 0} (seen : Read T A) (behind : Read T B) (a : A) (rest : List T) → unless_seen seen behind ≡ got a rest →
+unless_got : {T A B : Type 0} (seen : Read T A) (after : Read T B) (a : A) (rest : List T) → unless_seen seen after ≡ got a rest →
     seen ≡ got a rest
 unless_got seen None a rest h = h
 unless_got seen (Some b) a rest h = absurd (not_got a rest h)

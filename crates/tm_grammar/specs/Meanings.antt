@@ -1,5 +1,5 @@
 -- What the combinators of a grammar mean. Each has two readings: `spells` relates tokens, a value and the tokens
--- that are left behind it; `reads` is the function that finds the value.
+-- that are left after it; `reads` is the function that finds the value.
 use Rattle.std.specs.Prelude.{◌≡◌, ℕ, zero, suc, List, [], ◌∷◌, length, Option, Some, None, option_and_then}
 
 -- a value and the tokens that are left, or none
@@ -19,14 +19,14 @@ Reads T A = List T → Read T A
 abbrev pub pure_spells : {T A : Type 0} → A → Derives T A
 pure_spells x ts a rest = (x ≡ a) × (ts ≡ rest)
 
--- One part, and behind it another, which the value of the first one chooses.
+-- One part, and after it another, which the value of the first one chooses.
 abbrev pub bind_spells : {T A B : Type 0} → Derives T A → (A → Derives T B) → Derives T B
 bind_spells {T = T} {A = A} first then ts b rest = (a : A) × (between : List T) × first ts a between × then a between b rest
 
 abbrev pub bind_reads : {T A B : Type 0} → Reads T A → (A → Reads T B) → Reads T B
 bind_reads first then ts = option_and_then (λ x. then x.0 x.1) (first ts)
 
--- What the first token is known as, and the tokens behind it.
+-- What the first token is known as, and the tokens after it.
 abbrev pub known : {T A : Type 0} → List T → Option A → Read T A
 known ts None = None
 known ts (Some a) = got a ts
@@ -35,7 +35,7 @@ abbrev pub first_sees : {T A : Type 0} → (T → Option A) → Reads T A
 first_sees p [] = None
 first_sees p (t ∷ ts) = known ts (p t)
 
--- The same, where behind it stands no token that q knows.
+-- The same, where after it stands no token that q knows.
 abbrev pub unless_seen : {T A B : Type 0} → Read T A → Read T B → Read T A
 unless_seen seen None = seen
 unless_seen seen (Some b) = None
@@ -44,7 +44,7 @@ abbrev pub not_before_sees : {T A B : Type 0} → (T → Option B) → Read T A 
 not_before_sees q None = None
 not_before_sees q (Some x) = unless_seen (got x.0 x.1) (first_sees q x.1)
 
--- One rule behind what stands first, where it was seen, and another where it was not.
+-- One rule after what stands first, where it was seen, and another where it was not.
 abbrev pub branch_spells : {T A B : Type 0} → (A → Derives T B) → Derives T B → Read T A → Derives T B
 branch_spells then other None ts b rest = other ts b rest
 branch_spells then other (Some x) ts b rest = then x.0 x.1 b rest
@@ -56,8 +56,8 @@ branch_reads then other (Some x) ts = then x.0 x.1
 -- A value grows by one part after another, for as long as what begins a part stands first.
 pub data Grows {T A B : Type 0} (sees : Reads T A) (part : A → B → Derives T B) : List T → B → B → List T → Type 0 where
   stops : {ts rest : List T} {x z : B} → sees ts ≡ None → x ≡ z → ts ≡ rest → Grows sees part ts x z rest
-  grows : {ts behind between rest : List T} {a : A} {x y z : B} →
-      sees ts ≡ got a behind → part a x behind y between → Grows sees part between y z rest → Grows sees part ts x z rest
+  grows : {ts after between rest : List T} {a : A} {x y z : B} →
+      sees ts ≡ got a after → part a x after y between → Grows sees part between y z rest → Grows sees part ts x z rest
 
 abbrev pub grow_spells : {T A B : Type 0} → Reads T A → (A → B → Derives T B) → B → Derives T B
 grow_spells sees part x ts z rest = Grows sees part ts x z rest

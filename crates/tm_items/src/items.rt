@@ -1,4 +1,4 @@
-//! A row of items.
+//! A list of items.
 ghost use Rattle.std.specs.Prelude.{◌≡◌, [], ◌∷◌, ◌++◌, ◌<◌, length, slice_get, slice_set, ◌↔◌, IsTrue, MatchOption, OnOk, OnErr, OnSome};
 ghost use Rattle.std.specs.Option.{option_copied};
 
@@ -32,7 +32,7 @@ impl<T: Drop> Drop for Items<T> {
 }
 
 impl<T> Items<T> {
-    /// No items.
+    /// The empty list, which takes no memory.
     pub fn new(alloc: Global) -> Items<T>
         ensures { result ≡ [] }
     {
@@ -41,14 +41,14 @@ impl<T> Items<T> {
         }
     }
 
-    /// Those of a `Vec`.
+    /// The items of a `Vec`, which isn't copied.
     pub fn from_vec(items: Vec<T>) -> Items<T>
         ensures { result ≡ items.items }
     {
         Items { items }
     }
 
-    /// The `Vec` of them.
+    /// The `Vec` of the items, which isn't copied.
     pub fn into_vec(self) -> Vec<T>
         ensures { result.items ≡ self }
     {
@@ -56,28 +56,28 @@ impl<T> Items<T> {
         items
     }
 
-    /// They are lent.
+    /// The items, lent.
     pub fn as_slice(&self) -> &[T]
         ensures { result.now ≡ self.now }
     {
         self.items.as_slice()
     }
 
-    /// How many they are.
+    /// How many items there are.
     pub fn len(&self) -> usize
         ensures { result ≡ length self.now }
     {
         self.items.len()
     }
 
-    /// Whether there are none.
+    /// Whether there is no item.
     pub fn is_empty(&self) -> bool
         ensures { IsTrue result ↔ (self.now ≡ []) }
     {
         self.items.is_empty()
     }
 
-    /// The item at a place.
+    /// The item at a place, counted from 0; `None` where there is none.
     pub fn get(&self, at: usize) -> Option<&T>
         ensures value { option_copied result ≡ slice_get self.now at }
         ensures within { OnSome result (at < length self.now) }
@@ -85,7 +85,7 @@ impl<T> Items<T> {
         self.items.get(at)
     }
 
-    /// Takes the last one.
+    /// Removes the last item; `None` where there is none.
     pub fn pop(&mut self) -> Option<T>
         ensures { MatchOption result
             ((self.old ≡ []) × (self.new ≡ []))
@@ -96,7 +96,7 @@ impl<T> Items<T> {
 }
 
 impl<T: Drop> Items<T> {
-    /// Puts an item in the place of another one.
+    /// Replaces the item at a place, counted from 0, which must be there.
     pub fn set(&mut self, at: usize, item: T)
         requires { at < length self.old }
         ensures { self.new ≡ slice_set self.old at item }
@@ -104,7 +104,8 @@ impl<T: Drop> Items<T> {
         self.items[at] = item;
     }
 
-    /// One item more, at the end.
+    /// Adds an item at the end. AllocError when out of memory: then the item is dropped and the
+    /// list stays as it was.
     pub fn push(&mut self, item: T) -> Result<(), AllocError>
         ensures ok { OnOk result (self.new ≡ self.old ++ item ∷ []) }
         ensures err { OnErr result (self.new ≡ self.old) }

@@ -1,4 +1,4 @@
-//! Rows that contracts see as lists, as trees hold them beside boxes.
+//! Lists that contracts see as those of their items, and boxes, as trees hold them.
 #![tactic(auto)]
 
 mod items;

@@ -38,11 +38,11 @@ name_of_p = i.LoadConst (text (codes "p") false)
 
 -- p is loaded, and then this is run
 abbrev pub extending : List Instruction → List Instruction
-extending behind = name_of_p ∷ i.LoadBlocks ∷ behind
+extending after = name_of_p ∷ i.LoadBlocks ∷ after
 
 -- "a" goes through a filter by its cache number
 abbrev pub capital : List ℕ → Instruction → List Instruction → List Instruction
-capital name last behind = i.LoadConst (text (codes "a") false) ∷ i.ApplyFilter name (Some 1) 0 ∷ last ∷ behind
+capital name last after = i.LoadConst (text (codes "a") false) ∷ i.ApplyFilter name (Some 1) 0 ∷ last ∷ after
 
 abbrev pub one_left : List Instruction → List Instruction
-one_left behind = i.LoadConst (number (pos 1)) ∷ behind
+one_left after = i.LoadConst (number (pos 1)) ∷ after

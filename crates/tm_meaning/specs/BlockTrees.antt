@@ -19,7 +19,7 @@ use Rattle.tm_meaning.specs.World.{Named, Object, World, callers, depth, name_of
 use Rattle.tm_meaning.specs.Inheritance.{place_in}
 use Rattle.tm_meaning.specs.declared.reply.Reply.TheVariants.{Further as asks_for, Value as gives}
 use Rattle.tm_meaning.specs.declared.reply.Call.TheVariants as further
-use Rattle.tm_meaning.specs.Rows.{Page, Says, Behind, host_of, trees, world_of, nothing, raw, named, one, two, literal, literal_number}
+use Rattle.tm_meaning.specs.Rows.{Page, Says, After, host_of, trees, world_of, nothing, raw, named, one, two, literal, literal_number}
 use Rattle.tm_meaning.specs.Rows.{literal_truth, and_one, if_one, else_one, x}
 use Rattle.tm_meaning.specs.Meaning.{Outcome}
 use Rattle.tm_meaning.specs.Runs.{rendered, rendered_block, chain_of}
@@ -94,16 +94,16 @@ with_q q body = among (template (codes "q") q ∷ []) body
 abbrev pub FailsAfter : Page → List ℕ → List ErrorKind → ℕ → Type 0
 FailsAfter p t chain charges = Says p 1000 t (1000 - charges) chain
 
--- the name of the template behind the page, and the places of its lists of blocks
+-- the name of the template after the page, and the places of its lists of blocks
 abbrev pub PageEndsIn : Page → List ℕ → Type 0
-PageEndsIn p name = Behind (λ w. name_of (host_of p) w ≡ name) p
+PageEndsIn p name = After (λ w. name_of (host_of p) w ≡ name) p
 
 abbrev pub places : World → List ℕ
 places w = each (λ b. place_in b.0 w.places) w.blocks
 
 -- every list of blocks is at its child's place, of so many
 abbrev pub AtChildren : Page → List ℕ → Type 0
-AtChildren p zeros = Behind (λ w. places w ≡ zeros) p
+AtChildren p zeros = After (λ w. places w ≡ zeros) p
 
 -- It is this text and chain, and leaves one scope, the template of a name, no block, and every list of blocks at its child's place.
 abbrev pub GivesIn : Page → Outcome → List ℕ → List ErrorKind → List ℕ → List ℕ → Type 0
@@ -156,8 +156,8 @@ in_macro =
     (raw (codes "]")))
 
 -- {% macro m() %}{% extends "base" %}{% endmacro %}{{ m() }}, and what follows
-abbrev pub behind_macro : Stmt → Page
-behind_macro s = laid_out (three (macro_one (codes "m") [] (extends (codes "base"))) (called (codes "m")) s)
+abbrev pub after_macro : Stmt → Page
+after_macro s = laid_out (three (macro_one (codes "m") [] (extends (codes "base"))) (called (codes "m")) s)
 
 -- ---------------------------------------------------------------- what `extends` refuses
 abbrev pub extends_only : Expr → Page
@@ -199,8 +199,8 @@ of_supers n = among (supers_from n) (one (extends (numbered n)))
 
 -- ---------------------------------------------------------------- blocks that call blocks
 -- {% block a %}x{% endblock %}{{ self.a() }}
-abbrev pub self_behind : Page
-self_behind = paged (two (block_one a (raw (codes "x"))) (EmitBlock a))
+abbrev pub self_after : Page
+self_after = paged (two (block_one a (raw (codes "x"))) (EmitBlock a))
 
 -- {% block a %}{{ e }}{% endblock %}
 abbrev pub only_block : Stmt → Page
@@ -253,7 +253,7 @@ divides_by_zero = sets (codes "s") (and_one (literal_number 1) (binary binaries.
 abbrev pub required_itself : Page
 required_itself = paged (one (Block' a true [] no_statement))
 
--- {% extends "req" %}, and {% block a %}ok{% endblock %} behind it
+-- {% extends "req" %}, and {% block a %}ok{% endblock %} after it
 abbrev pub required_by_parent : Page
 required_by_parent = laid_out (one (extends (codes "req")))
 
@@ -303,7 +303,7 @@ fault_in_hidden =
     let rounds = For' (To (codes "x")) (alone_in_list (literal_number 1)) None false (tt ∷ []) (statement fault no_statement) no_else in
     paged (two (if_one (literal_truth false) (block_one (codes "b") rounds) no_else) (raw (codes "ok")))
 
--- The state behind the page gives this for the block of a name, and then again, and stands in the same template.
+-- The state after the page gives this for the block of a name, and then again, and stands in the same template.
 abbrev pub GivesTwice : Page → List ℕ → List ℕ → List ErrorKind → List ℕ → List ℕ → Type 0
 GivesTwice p b t chain name zeros =
     let w = (rendered (host_of p) (trees p) (world_of p None)).world in

@@ -122,8 +122,8 @@ abbrev pub do_call : Page
 do_call = with_functions last_function last_function (page (two (Do (call_none (codes "f"))) (raw (codes "x"))) nothing)
 
 -- a{{ nope(f()) }}
-abbrev pub unknown_behind : Function → Page
-unknown_behind f = with_functions f f (page (two (raw (codes "a")) (EmitExpr
+abbrev pub unknown_after : Function → Page
+unknown_after f = with_functions f f (page (two (raw (codes "a")) (EmitExpr
     (Call' (codes "nope") (tt ∷ []) (argument (plain (call_none (codes "f"))) no_argument) [] no_keyword))) nothing)
 
 -- a method of no argument, and of these
@@ -240,8 +240,8 @@ tree_as_value =
     (step (binary binaries.Concatenate (literal (codes "]"))) no_step)))))))) (with_value (codes "tree") tree)
 
 -- {% set ns = namespace() %}{% for x in ["1"] recursive %}{{ x }}{% set ns.l = loop %}{% endfor %}{% set l = ns.l %}{{ l(["2", "3"]) }}
-abbrev pub called_behind_its_end : Page
-called_behind_its_end =
+abbrev pub called_after_its_end : Page
+called_after_its_end =
     with_languages (page (body_of
     (statement (Set (To (codes "ns")) (call_none (codes "namespace")))
     (statement (recursive_two (alone_in_list (literal (codes "1"))) (EmitExpr x) (Set (Member ns (codes "l")) (named (codes "loop"))))

@@ -41,14 +41,14 @@ pub data Callee : Type 0 where
   whole : StreamId → Callee
   macro_of : StreamId → ℕ → List Val → Callee
 
--- What is put back behind a run, from the world before it.
+-- What is put back after a run, from the world before it.
 pub data Undo : Type 0 where
   of_block : World → Undo
   of_super : World → Undo
   of_macro : World → Undo
   of_include : World → Undo
 
--- A run, what is put back behind it, the kind that is put before its fault, if one is, and what its text is where that is a value.
+-- A run, what is put back after it, the kind that is put before its fault, if one is, and what its text is where that is a value.
 pub record NestedCall : Type 0 where
   pub callee : Callee
   pub undo : Undo
@@ -67,7 +67,7 @@ abbrev pub ask : {A : Type 0} → Res A → (A → World → Asked) → Asked
 ask (Good a w) f = f a w
 ask (Bad chain w) f = refused chain w
 
--- ---------------------------------------------------------------- behind a run
+-- ---------------------------------------------------------------- after a run
 -- so many of the outermost scopes
 abbrev pub outermost : ℕ → List Scope → List Scope
 outermost n frames = drop (length frames - n) frames
@@ -76,12 +76,12 @@ outermost n frames = drop (length frames - n) frames
 abbrev pub cut_to : ℕ → ℕ → World → World
 cut_to n outer w = record w { scopes = record { frames = outermost n w.scopes.frames; outer = outer } }
 
--- the scopes, stream, block and escape of a world before, in one behind
+-- the scopes, stream, block and escape of a world before, in one after
 abbrev pub block_undone : World → World → World
 block_undone b w = record (cut_to (length b.scopes.frames) b.scopes.outer w) { stream = b.stream; block = b.block; escape = b.escape }
 
 -- these scopes, and of a world before the stream, the block, the escape, the lists of blocks, their places and the loaded names, in one
--- behind
+-- after
 abbrev pub run_undone : World → Scopes → World → World
 run_undone b scopes w = record w {
   scopes = scopes;
@@ -94,21 +94,21 @@ run_undone b scopes w = record w {
 }
 
 -- so many of the outermost scopes as there were before, at the depth of then, with the closure that was made in the innermost of them
-abbrev pub scopes_behind : Scopes → Scopes → Scopes
-scopes_behind before scopes = record {
+abbrev pub scopes_after : Scopes → Scopes → Scopes
+scopes_after before scopes = record {
   frames = owning (own_closure before.frames) (outermost (length before.frames) scopes.frames);
   outer = before.outer;
 }
 
--- However the run ended, only the scopes stay that stood before it, and stream, block, escape and outer depth are those before it; behind a
--- `super()` so are the places in lists of blocks; behind a macro, which has scopes of its own, and behind an include so are these lists
+-- However the run ended, only the scopes stay that stood before it, and stream, block, escape and outer depth are those before it; after a
+-- `super()` so are the places in lists of blocks; after a macro, which has scopes of its own, and after an include so are these lists
 -- too, their places and the loaded names. Names that an include gave to the innermost scope stay, whose closure is put back. Records, kept
 -- values and fuel go on.
 abbrev pub undone : Undo → World → World
 undone (of_block b) w = block_undone b w
 undone (of_super b) w = record (block_undone b w) { places = b.places }
 undone (of_macro b) w = run_undone b b.scopes w
-undone (of_include b) w = run_undone b (scopes_behind b.scopes w.scopes) w
+undone (of_include b) w = run_undone b (scopes_after b.scopes w.scopes) w
 
 -- the text of a run as a value
 abbrev pub run_value : RunText → List ℕ → World → Val
@@ -146,7 +146,7 @@ enter_block host b w =
 abbrev pub super_call : StreamId → World → NestedCall
 super_call s w = record { callee = whole s; undo = of_super w; wrap = Some EvalBlock; text = texts.Captured }
 
--- The block behind the one that runs, in a new scope, with the list one place on. Where no block runs, or none is behind it, or the scope
+-- The block after the one that runs, in a new scope, with the list one place on. Where no block runs, or none is after it, or the scope
 -- would lie too deep it is refused, before its run.
 abbrev pub enter_super : HostValue → World → Asked
 enter_super host w =
@@ -182,18 +182,18 @@ abbrev pub all_used : MacroData → List (Val × Val) → Bool
 all_used m [] = true
 all_used m (p ∷ ps) = is_used m (text_in p.0) && all_used m ps
 
-abbrev pub behind_first : Val → Option (List Val) → Option (List Val)
-behind_first v None = None
-behind_first v (Some vs) = Some (v ∷ vs)
+abbrev pub after_first : Val → Option (List Val) → Option (List Val)
+after_first v None = None
+after_first v (Some vs) = Some (v ∷ vs)
 
 -- What each of these names is bound to: a value by its place, or else the one given under the name, or else undefined. None where there are
 -- too many values, or a name is given twice.
 abbrev pub bound : List (List ℕ) → List Val → List (Val × Val) → Option (List Val)
 bound [] [] given = Some []
 bound [] (v ∷ vs) given = None
-bound (x ∷ xs) [] given = behind_first (or_undefined (find_key (text x false) given)) (bound xs [] given)
+bound (x ∷ xs) [] given = after_first (or_undefined (find_key (text x false) given)) (bound xs [] given)
 bound (x ∷ xs) (v ∷ vs) given =
-    choose (is_none (find_key (text x false) given)) (λ _. behind_first v (bound xs vs given)) (λ _. None)
+    choose (is_none (find_key (text x false) given)) (λ _. after_first v (bound xs vs given)) (λ _. None)
 
 -- the arguments of a macro that is called with these values, of which a keyword map that stands last gives some by their names
 abbrev pub bound_to : MacroData → List Val → Option (List Val)
@@ -307,7 +307,7 @@ as_printed (recurs n items w) = recurs n items w
 abbrev pub deeper : ℕ → World → World
 deeper n w = record w { scopes = record w.scopes { outer = n + w.scopes.outer } }
 
--- What was asked for from there: what is put back behind a run is the world that stood before, and so it is where none is needed.
+-- What was asked for from there: what is put back after a run is the world that stood before, and so it is where none is needed.
 abbrev pub from_deeper : World → Asked → Asked
 from_deeper w (has v _) = has v w
 from_deeper w (refused chain _) = refused chain w
@@ -320,7 +320,7 @@ further_call make n host (further.Filter x args) w = found_call make host (find 
 further_call make n host (further.Macro x args) w = as_printed (named_call make n host x args w)
 further_call make n host (further.Block b) w = from_deeper w (enter_block host b (deeper n w))
 
--- Each further call is one deeper, so only so many are made, one asked for by the other, behind so many that were made.
+-- Each further call is one deeper, so only so many are made, one asked for by the other, after so many that were made.
 abbrev pub further_calls : ℕ → ℕ → HostValue → MakesFurther
 further_calls zero n host c w = refused (InvalidOperation ∷ []) w
 further_calls (suc left) n host c w = further_call (further_calls left (suc n) host) (suc n) host c w

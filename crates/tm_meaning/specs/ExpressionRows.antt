@@ -39,21 +39,21 @@ left_at t (Finished vs ks w) = left vs t w.fuel []
 left_at t (Failed chain w) = left [] t w.fuel chain
 left_at t (Stuck w) = left [] t w.fuel (kind.BadStream ∷ [])
 
-abbrev pub left_behind : Option Final → Left
-left_behind None = left [] [] 0 []
-left_behind (Some o) = left_at o.text o.end
+abbrev pub left_after : Option Final → Left
+left_after None = left [] [] 0 []
+left_after (Some o) = left_at o.text o.end
 
 -- What an expression leaves under this fuel, as it means it and as its code comes to it; it writes nothing.
 abbrev pub Ends : Page → ℕ → List Val → ℕ → List ErrorKind → Type 0
 Ends p fuel vs n chain =
     (left_when (rendered (host_of p) (trees p) (world_of p (Some fuel))) ≡ left vs [] n chain)
-    × (left_behind (ended p (Some fuel)) ≡ left vs [] n chain)
+    × (left_after (ended p (Some fuel)) ≡ left vs [] n chain)
 
 -- Its value, at so many charges.
 abbrev pub EvaluatesTo : Page → Val → ℕ → Type 0
 EvaluatesTo p v charges = Ends p 1000 (v ∷ []) (1000 - charges) []
 
--- Its fault, behind so many charges.
+-- Its fault, after so many charges.
 abbrev pub EvaluationFails : Page → List ErrorKind → ℕ → Type 0
 EvaluationFails p chain charges = Ends p 1000 [] (1000 - charges) chain
 

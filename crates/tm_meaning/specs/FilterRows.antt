@@ -91,7 +91,7 @@ filtering e = filter_page (one (EmitExpr e))
 abbrev pub under : UndefinedBehavior → Page → Page
 under behavior p = record p { undefined = behavior }
 
--- a value passed to what a name stands for, alone, and with one argument behind it
+-- a value passed to what a name stands for, alone, and with one argument after it
 abbrev pub passed_alone : Application → Expr → List ℕ → Expr
 passed_alone k e x = and_one e (Apply' k x [] no_argument [] no_keyword)
 

@@ -68,15 +68,15 @@ calling_loop = calling_page (one (for_x (alone_in_list (literal_number 1)) (emit
 abbrev pub hidden_block : Stmt → Stmt
 hidden_block s = if_one a (Block' (codes "b") false (tt ∷ []) (statement s no_statement)) no_else
 
--- a block that isn't reached, of this content, and behind it {% autoescape "html" %}{{ x() }}{% endautoescape %}
+-- a block that isn't reached, of this content, and after it {% autoescape "html" %}{{ x() }}{% endautoescape %}
 abbrev pub calling_block : Stmt → List ℕ → Page
 calling_block s x = calling_page (two (hidden_block s) (escaped (emitted_call x)))
 
--- and behind it {{ x() }}
+-- and after it {{ x() }}
 abbrev pub calling_block_plain : Stmt → List ℕ → Page
 calling_block_plain s x = calling_page (two (hidden_block s) (emitted_call x))
 
--- and behind it {{ 1 is block }}
+-- and after it {{ 1 is block }}
 abbrev pub testing_block : Stmt → Page
 testing_block s = calling_page (two (hidden_block s) (EmitExpr (passed_alone applications.Test (literal_number 1) (codes "block"))))
 

@@ -285,7 +285,7 @@ nothing_imported = only (imports_as_m (literal (codes "e")))
 abbrev pub second_imported : Page
 second_imported = with_files (two (imports_as_m (no_or (literal (codes "f")))) (member_of_m (codes "q")))
 
--- {% import "f" as n.m %}, and with {% set n = namespace() %} before it and {{ n.m.q }} behind it
+-- {% import "f" as n.m %}, and with {% set n = namespace() %} before it and {{ n.m.q }} after it
 abbrev pub imports_as_member : Stmt
 imports_as_member = Import (literal (codes "f")) (Member (named (codes "n")) (codes "m"))
 

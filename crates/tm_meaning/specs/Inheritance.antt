@@ -12,15 +12,15 @@ use Rattle.tm_meaning.specs.World.{answered, name_of, or_is}
 abbrev pub place_in : List ℕ → Named ℕ → ℕ
 place_in x places = or_is (find x places) 0
 
--- a template's block stands behind those of its name
-abbrev pub behind_all : TemplateId → Option (List TemplateId) → List TemplateId
-behind_all t None = t ∷ []
-behind_all t (Some l) = l ++ t ∷ []
+-- a template's block stands after those of its name
+abbrev pub after_all : TemplateId → Option (List TemplateId) → List TemplateId
+after_all t None = t ∷ []
+after_all t (Some l) = l ++ t ∷ []
 
--- the blocks of a parent stand behind those that are there
+-- the blocks of a parent stand after those that are there
 abbrev pub with_blocks : TemplateId → Named Card → Named (List TemplateId) → Named (List TemplateId)
 with_blocks t [] ls = ls
-with_blocks t (b ∷ bs) ls = with_blocks t bs (put b.0 (behind_all t (find b.0 ls)) ls)
+with_blocks t (b ∷ bs) ls = with_blocks t bs (put b.0 (after_all t (find b.0 ls)) ls)
 
 -- ---------------------------------------------------------------- parents
 -- the name that a name stands for in the template that runs

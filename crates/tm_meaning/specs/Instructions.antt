@@ -101,7 +101,7 @@ take_counted None vs w f = on_top vs w (λ v us. on_count (count_in v) w (λ n. 
 abbrev pub build_list_of : Option ℕ → Config → Next
 build_list_of n c = take_counted n c.run.operands c.world (λ vs rest. goes (list_of_values vs ∷ rest) c.world c)
 
--- keys, each with its value behind it
+-- keys, each with its value after it
 abbrev pub paired : List Val → List (Val × Val)
 paired (k ∷ v ∷ vs) = (k, v) ∷ paired vs
 paired _ = []
@@ -109,7 +109,7 @@ paired _ = []
 abbrev pub build_map_of : ℕ → Config → Next
 build_map_of n c = take_n (n + n) c.run.operands c.world (λ vs rest. goes (map_of_pairs (paired vs) ∷ rest) c.world c)
 
--- names, each with its value behind it
+-- names, each with its value after it
 abbrev pub build_kwargs_of : ℕ → Config → Next
 build_kwargs_of n c = take_n (n + n) c.run.operands c.world (λ vs rest. goes (keyword_map (paired vs) ∷ rest) c.world c)
 
@@ -331,7 +331,7 @@ holding zero x (held ∷ more) = Some x ∷ more
 holding (suc n) x [] = None ∷ holding n x []
 holding (suc n) x (held ∷ more) = held ∷ holding n x more
 
--- The caches behind a use of a name by its number; none where that is no number of a cache, or its cache holds another name.
+-- The caches after a use of a name by its number; none where that is no number of a cache, or its cache holds another name.
 abbrev pub used : ℕ → List ℕ → Caches → Option Caches
 used cache x held =
     if nat_eq cache no_cache then Some held
@@ -363,7 +363,7 @@ call_block_of p f b c =
     (λ _. asked_in_place p f c c.run.operands (enter_block p.host b c.world))
     (λ _. goes c.run.operands c.world c)
 
--- the block behind the one that runs, in place
+-- the block after the one that runs, in place
 abbrev pub fast_super_of : Program → Base → Config → Next
 fast_super_of p f c = asked_in_place p f c c.run.operands (enter_super p.host c.world)
 

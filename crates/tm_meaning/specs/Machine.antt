@@ -20,7 +20,7 @@ pub record Capture : Type 0 where
   pub heard : Bool
   pub text : List ℕ
 
--- Where a loop goes on that was called: the run as it was, and whether the text is a value, behind which the parent is as it was too.
+-- Where a loop goes on that was called: the run as it was, and whether the text is a value, after which the parent is as it was too.
 pub record Return : Type 0 where
   pub place : ℕ
   pub operands : List Val
@@ -29,7 +29,7 @@ pub record Return : Type 0 where
   pub parent : Option TemplateId
   pub value : Bool
 
--- The names that caches hold, each at the cache's number; behind them all caches are empty.
+-- The names that caches hold, each at the cache's number; after them all caches are empty.
 abbrev pub Caches : Type 0
 Caches = List (Option (List ℕ))
 
@@ -59,7 +59,7 @@ pub data End : Type 0 where
   Failed : List ErrorKind → World → End
   Stuck : World → End
 
--- Where to go on behind a nested run: the run that waits, its place moved on, the call, and whether the text is a value.
+-- Where to go on after a nested run: the run that waits, its place moved on, the call, and whether the text is a value.
 pub record Back : Type 0 where
   pub run : Activation
   pub call : NestedCall
@@ -135,7 +135,7 @@ first_heard (k ∷ ks) = k.heard
 abbrev pub audible : Base → Config → Bool
 audible f c = choose (nat_lt f.captures (length c.captures)) (λ _. first_heard c.captures) (λ _. f.heard && none_waits c.run.parent)
 
--- the captures behind a text, and what the writer gets of it
+-- the captures after a text, and what the writer gets of it
 abbrev pub put_in : List Capture → List ℕ → List Capture
 put_in [] t = []
 put_in (k ∷ ks) t = record k { text = k.text ++ t } ∷ ks
@@ -190,7 +190,7 @@ new_capture heard = record { heard = heard; text = [] }
 abbrev pub captured_value : Capture → World → Val
 captured_value k w = choose k.heard (λ _. captured_text k.text w) (λ _. undefined false)
 
--- the run that waits goes on behind the call, over these operands
+-- the run that waits goes on after the call, over these operands
 abbrev pub waiting : List Val → Config → Activation
 waiting vs c = record c.run { place = c.run.place + 1; operands = vs }
 
@@ -213,7 +213,7 @@ nested_as_value p vs c k w =
 abbrev pub pushed : Val → Activation → Activation
 pushed v r = record r { operands = v ∷ r.operands }
 
--- what the end of a nested run leads to, behind what is put back; its operands are dropped
+-- what the end of a nested run leads to, after what is put back; its operands are dropped
 abbrev pub back_with : Bool → RunText → Activation → List Capture → World → Next
 back_with false t r ks w = More [] (record { run = r; captures = ks; world = w })
 back_with true t r [] w = stuck w
@@ -224,7 +224,7 @@ back_to back (Finished vs ks w) = back_with back.value back.call.text back.run k
 back_to back (Failed chain w) = Over (Failed (wrapped back.call.wrap chain) (undone back.call.undo w))
 back_to back (Stuck w) = stuck (undone back.call.undo w)
 
--- A loop is called over items: it begins at its place, over no operands, and goes on here behind it. One that can't be called there isn't.
+-- A loop is called over items: it begins at its place, over no operands, and goes on here after it. One that can't be called there isn't.
 abbrev pub recursion : Program → Config → Bool → List Val → List Capture → ℕ → Option LoopPlace → List Val → World → Next
 recursion p c value vs ks n None items w = Over (Failed (InvalidOperation ∷ []) w)
 recursion p c value vs ks n (Some l) items w =

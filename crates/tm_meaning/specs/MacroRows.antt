@@ -94,9 +94,9 @@ mentions_caller args = declared 0 m [] [] true (emitted (codes "caller")) ++ cal
 abbrev pub calls_caller : List Instruction
 calls_caller = declared 0 m [] [] true (called (codes "caller") []) ++ called m []
 
--- {% set x = 1 %}{% macro m() %}{{ x }}{% endmacro %}, where x is free or is not, and what is behind it
+-- {% set x = 1 %}{% macro m() %}{{ x }}{% endmacro %}, where x is free or is not, and what is after it
 abbrev pub reads_x : List (List ℕ) → List Instruction → List Instruction
-reads_x free behind = load 1 ∷ i.StoreLocal x ∷ (declared 2 m [] free false (emitted x) ++ behind)
+reads_x free after = load 1 ∷ i.StoreLocal x ∷ (declared 2 m [] free false (emitted x) ++ after)
 
 -- {% set x = 2 %}{{ m() }}, and the same in a scope of its own
 abbrev pub set_and_called : List Instruction
@@ -145,12 +145,12 @@ calls_macro other args =
     declared 0 m (x ∷ []) [] false (i.StoreLocal x ∷ emitted x)
     ++ (i.LoadConst (macro other) ∷ each i.LoadConst args) ++ i.CallObject (Some (length args + 1)) ∷ i.Emit ∷ []
 
--- {% with a = 1 %}{% macro m() %}{{ a }}{% set b = 3 %}{{ q.z }}{% endmacro %}{{ m() }}{% endwith %}: what stands behind a fault in a macro
+-- {% with a = 1 %}{% macro m() %}{{ a }}{% set b = 3 %}{{ q.z }}{% endmacro %}{{ m() }}{% endwith %}: what stands after a fault in a macro
 abbrev pub faults_within : List Instruction
 faults_within = declared 0 m [] [] false (i.PushWith ∷ i.Lookup (codes "q") ∷ i.GetAttr (codes "z") ∷ i.Emit ∷ []) ++ called m []
 
-abbrev pub StaysBehind : List Instruction → Type 0
-StaysBehind code =
+abbrev pub StaysAfter : List Instruction → Type 0
+StaysAfter code =
     let page = under_limit 500 in
     let w = world_of page (Some 1000) in
     let left = left_by (end_of page escapes.None 1000 code) w in

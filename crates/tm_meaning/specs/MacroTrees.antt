@@ -100,8 +100,8 @@ default_before =
     paged (two (macro_one m (parameter (codes "a") ∷ defaulting (codes "b") (named (codes "a")) ∷ []) (writes (codes "b")))
     (EmitExpr (with_one m (literal_number 1))))
 
-abbrev pub default_behind : Page
-default_behind =
+abbrev pub default_after : Page
+default_after =
     paged (two (macro_one m (defaulting (codes "a") (named (codes "b")) ∷ defaulting (codes "b") (literal_number 1) ∷ [])
     (writes (codes "a"))) (called m))
 
@@ -133,17 +133,17 @@ caller_with_argument =
     (call_one (call_none m) (parameter (codes "n") ∷ [])
     (EmitExpr (and_one (named (codes "n")) (binary binaries.Add (literal_number 1))))))
 
--- {% for x in [1,2] %}{% call m() %}{{ x }}{% endcall %}{% endfor %} behind the brackets
+-- {% for x in [1,2] %}{% call m() %}{{ x }}{% endcall %}{% endfor %} after the brackets
 abbrev pub called_in_loop : Page
 called_in_loop = paged (two brackets (for_x (numbers 1 2) (call_one (call_none m) [] (writes (codes "x"))) no_else))
 
--- {% set x %}{% call m() %}a{% endcall %}{% endset %}{{ x }} behind the brackets
+-- {% set x %}{% call m() %}a{% endcall %}{% endset %}{{ x }} after the brackets
 abbrev pub called_in_capture : Page
 called_in_capture =
     paged (three brackets (CaptureBlock' (uses.Assign (To (codes "x"))) [] (tt ∷ [])
     (statement (call_one (call_none m) [] (raw (codes "a"))) no_statement)) (writes (codes "x")))
 
--- {% call m() %}x{% endcall %}, alone and behind {% macro m() %}{% endmacro %}
+-- {% call m() %}x{% endcall %}, alone and after {% macro m() %}{% endmacro %}
 abbrev pub called_unknown : Page
 called_unknown = paged (one (call_one (call_none m) [] (raw (codes "x"))))
 
@@ -158,7 +158,7 @@ called_function = record (paged (one (call_one (one_named (codes "dict") (codes 
       functions = languages own.Dict ∷ [];
     }
 
--- {% set n = {"f": m} %}{% call n.f() %}a{% endcall %}{% call n["f"]() %}b{% endcall %} behind the brackets
+-- {% set n = {"f": m} %}{% call n.f() %}a{% endcall %}{% call n["f"]() %}b{% endcall %} after the brackets
 abbrev pub map_of_macro : Expr
 map_of_macro = Map' (tt ∷ []) (with_pair (literal (codes "f")) (named m) no_pair)
 

@@ -125,38 +125,38 @@ say run t out = choose (audible run) (λ _. out ++ t) (λ _. out)
 
 -- ---------------------------------------------------------------- calls
 -- a run that was needed, as a value; what it replaced is put back, also where it ended in a fault
-abbrev pub value_behind : Ending → NestedCall → Outcome → Res Val
-value_behind (fault chain) c o = Bad (wrapped c.wrap chain) (undone c.undo o.world)
-value_behind e c o = Good (run_value c.text o.text (undone c.undo o.world)) (undone c.undo o.world)
+abbrev pub value_after : Ending → NestedCall → Outcome → Res Val
+value_after (fault chain) c o = Bad (wrapped c.wrap chain) (undone c.undo o.world)
+value_after e c o = Good (run_value c.text o.text (undone c.undo o.world)) (undone c.undo o.world)
 
 -- a run inside a capture of its own, which takes what is written or not
 abbrev pub capturing : Bool → Run → Run
 capturing heard run = record run { heard = heard; inside = true }
 
 -- what was heard, where no fault was
-abbrev pub heard_behind : Ending → Outcome → Res (List ℕ)
-heard_behind (fault chain) o = Bad chain o.world
-heard_behind e o = Good o.text o.world
+abbrev pub heard_after : Ending → Outcome → Res (List ℕ)
+heard_after (fault chain) o = Bad chain o.world
+heard_after e o = Good o.text o.world
 
 -- and as a value, as of a loop that was called
-abbrev pub text_behind : Ending → Outcome → Res Val
-text_behind e o = bind (heard_behind e o) (λ t w. Good (captured_text t w) w)
+abbrev pub text_after : Ending → Outcome → Res Val
+text_after e o = bind (heard_after e o) (λ t w. Good (captured_text t w) w)
 
 abbrev pub value_of : Under → Run → Asked → Res Val
 value_of u run (has v w) = Good v w
 value_of u run (refused chain w) = Bad chain w
-value_of u run (runs c w) = let o = u.nests c.callee true [] w in value_behind o.ending c o
-value_of u run (recurs n items w) = let o = u.again n items (capturing true run) [] w in text_behind o.ending o
+value_of u run (runs c w) = let o = u.nests c.callee true [] w in value_after o.ending c o
+value_of u run (recurs n items w) = let o = u.again n items (capturing true run) [] w in text_after o.ending o
 
 -- a run that was needed, in place
-abbrev pub behind : Ending → NestedCall → Run → Outcome → Outcome
-behind (fault chain) c run o = ended (fault (wrapped c.wrap chain)) run o.text (undone c.undo o.world)
-behind e c run o = so_far run o.text (undone c.undo o.world)
+abbrev pub after : Ending → NestedCall → Run → Outcome → Outcome
+after (fault chain) c run o = ended (fault (wrapped c.wrap chain)) run o.text (undone c.undo o.world)
+after e c run o = so_far run o.text (undone c.undo o.world)
 
 abbrev pub in_place_of : Under → Run → List ℕ → Asked → Outcome
 in_place_of u run out (has v w) = so_far run out w
 in_place_of u run out (refused chain w) = ended (fault chain) run out w
-in_place_of u run out (runs c w) = let o = u.nests c.callee (audible run) out w in behind o.ending c run o
+in_place_of u run out (runs c w) = let o = u.nests c.callee (audible run) out w in after o.ending c run o
 in_place_of u run out (recurs n items w) = u.again n items run out w
 
 -- A block's tag does nothing unheard, nor where a parent waits; nor does `self.b()`.
@@ -165,11 +165,11 @@ block_tag u run b out w =
     choose (none_waits run.parent && audible run) (λ _. in_place_of u run out (enter_block u.host b w)) (λ _. so_far run out w)
 
 -- ---------------------------------------------------------------- expressions
--- What arguments by their names become in the end, behind a row of names with their values.
+-- What arguments by their names become in the end, after a row of names with their values.
 abbrev pub RowValues : Type 0
 RowValues = List (Val × Val) → World → Res (List Val)
 
--- what is guarded where the condition is true, with the jump behind it, and else what stands for it
+-- what is guarded where the condition is true, with the jump after it, and else what stands for it
 abbrev pub under_condition : HostValue → (World → Res Val) → (World → Res Val) → (World → Res Val) → World → Res Val
 under_condition host test guarded other w =
     bind (test w) (λ v world1. ticked world1 (λ world2. bind (truth host v world2) (λ b world3.
@@ -188,7 +188,7 @@ abbrev mutual
       ticked world1 (λ world2. value_of u run (call_named u.host f vs world2)))
   eval u run (SelfBlock b) w =
       ticked w (λ world1. let o = block_tag u (capturing true run) b [] world1 in
-      bind (text_behind o.ending o) (λ v world2. ticked world2 (λ world3. Good v world3)))
+      bind (text_after o.ending o) (λ v world2. ticked world2 (λ world3. Good v world3)))
   eval u run (unary op a) w = bind (eval u run a w) (λ v world1. ticked world1 (λ world2. applied_unary u.host op v world2))
   eval u run (chained a _ ss) w = bind (eval u run a w) (λ v world1. eval_steps u run ss v world1)
   eval u run (conditional a _ cs) w = eval_conditions u run cs (λ world1. eval u run a world1) w
@@ -221,7 +221,7 @@ abbrev mutual
   eval_arguments u run (argument a more) w =
       bind (eval_argument u run a w) (λ v world1. bind (eval_arguments u run more world1) (λ vs world2. Good (v ∷ vs) world2))
 
-  -- behind a row of values: each row as a list, and each value that is spread; what stands under a name is in the last row
+  -- after a row of values: each row as a list, and each value that is spread; what stands under a name is in the last row
   pub eval_lists : {n : _} → Under → Run → List Val → Row_of-Argument n → (World → Res (List Val)) → World → Res (List Val)
   eval_lists u run row no_argument by_name w = bind (by_name w) (λ ks world1. listed (row ++ ks) world1)
   eval_lists u run row (argument (plain a) more) by_name w =
@@ -230,7 +230,7 @@ abbrev mutual
       bind (listed row w) (λ ls world1. bind (eval u run a world1) (λ v world2.
       bind (eval_lists u run [] more by_name world2) (λ vs world3. Good (ls ++ v ∷ vs) world3)))
 
-  -- behind a row of names with their values, a name being charged: each row as a map, and each value that is spread; so the last row ends
+  -- after a row of names with their values, a name being charged: each row as a map, and each value that is spread; so the last row ends
   pub eval_keywords : {n : _} → Under → Run → RowValues → List (Val × Val) → Row_of-Keyword n → World → Res (List Val)
   eval_keywords u run end row no_keyword w = end row w
   eval_keywords u run end row (keyword_and (keyword x a) more) w =
@@ -262,7 +262,7 @@ abbrev mutual
       ticked w (λ world1. bind (truth u.host v world1) (λ b world2. choose b (λ _. Good v world2) (λ _. eval u run a world2)))
 
   -- Comparisons in a row, from the first: each but the last charges its test; where it is false it is the value, and dropping its right
-  -- side is charged. Behind the last one the jump is.
+  -- side is charged. After the last one the jump is.
   pub eval_links : {n : _} → Under → Run → BinaryOperator → Row_of-Comparison n → Val → Val → World → Res Val
   eval_links u run op no_comparison x y w =
       ticked w (λ world1. bind (applied_binary u.host op x y world1) (λ v world2. ticked world2 (λ world3. Good v world3)))
@@ -319,7 +319,7 @@ include u run e missing out w =
 abbrev pub included : Under → Run → Expr → World → Res (List ℕ)
 included u run e w =
     bind (push u.host (plain_scope (undefined false)) w) (λ _ world1.
-    let o = include u run e false [] world1 in heard_behind o.ending o)
+    let o = include u run e false [] world1 in heard_after o.ending o)
 
 -- What a template exports, as a module, is given to a target.
 abbrev pub import : Under → Run → Expr → AssignmentTarget → World → Res (Unit {0})
@@ -368,18 +368,18 @@ take_parameters u run (p ∷ ps) [] w = Good tt w
 take_parameters u run (p ∷ ps) (v ∷ vs) w = bind (take_parameters u run ps vs w) (λ _ world1. take_parameter u run p v world1)
 
 -- ---------------------------------------------------------------- calls that are given a macro
--- behind a row of names with their values the macro of a number, under the name `caller`
+-- after a row of names with their values the macro of a number, under the name `caller`
 abbrev pub with_caller : HostValue → ℕ → MacroHead → RowValues
 with_caller host n m row w =
     ticked w (λ world1. bind (declared host n m world1) (λ v world2. mapped (row ++ (text (codes "caller") false, v) ∷ []) world2))
 
--- What a call is passed, behind values before the arguments, where those by their names end so.
+-- What a call is passed, after values before the arguments, where those by their names end so.
 abbrev pub passed_so : {n m : _} → Under → Run → RowValues → List Val → Row_of-Argument n → Row_of-Keyword m → World → Res (List Val)
 passed_so u run end before given named w =
     passed u.host before given named (λ world1. eval_arguments u run given world1)
     (λ world1. eval_keywords u run end [] named world1) (λ by_name world1. eval_lists u run before given by_name world1) w
 
--- a value is called with what is behind its arguments alone
+-- a value is called with what is after its arguments alone
 abbrev pub call_alone : Under → Run → RowValues → Val → World → Res Val
 call_alone u run end v w =
     bind (end [] w) (λ ks world1. ticked world1 (λ world2. value_of u run (call_callee u.host (v ∷ ks) world2)))
@@ -408,7 +408,7 @@ call u run end (chained a _ ss) w = bind (eval u run a w) (λ v world1. steps_ca
 call u run end e w = bind (eval u run e w) (λ v world1. call_alone u run end v world1)
 
 -- ---------------------------------------------------------------- statements
--- What is closed behind a body, however it ended, but for a fault.
+-- What is closed after a body, however it ended, but for a fault.
 abbrev pub closing_by : Ending → (World → World) → Outcome → Outcome
 closing_by (fault chain) close o = o
 closing_by e close o = record o { world = close o.world }
@@ -416,7 +416,7 @@ closing_by e close o = record o { world = close o.world }
 abbrev pub closing : (World → World) → Outcome → Outcome
 closing close o = closing_by o.ending close o
 
--- A capture: its text goes on; where its body left a loop or went on with the next item the text is dropped, behind the charge of the
+-- A capture: its text goes on; where its body left a loop or went on with the next item the text is dropped, after the charge of the
 -- capture's end.
 abbrev pub captured_by : Ending → Outcome → Run → List ℕ → (Run → List ℕ → World → Outcome) → Outcome
 captured_by (done vs) o run out f = f run o.text o.world
@@ -436,10 +436,10 @@ abbrev pub use_text : Under → Run → CaptureUse → Val → List ℕ → Worl
 use_text u run uses.Emit v out w = emit u run out v w
 use_text u run (uses.Assign t) v out w = use_it (assign u run t v w) run out (λ _ world1. so_far run out world1)
 
--- behind the first part of an `if` that has a second
-abbrev pub behind_first : Otherwise → Run → Outcome → Outcome
-behind_first no_else run o = o
-behind_first (otherwise _ body) run o =
+-- after the first part of an `if` that has a second
+abbrev pub after_first : Otherwise → Run → Outcome → Outcome
+after_first no_else run o = o
+after_first (otherwise _ body) run o =
     then_do run o (λ run1 out1 world1. use_it (tick world1) run1 out1 (λ _ world2. so_far run1 out1 world2))
 
 -- ---------------------------------------------------------------- loops
@@ -507,14 +507,14 @@ abbrev mutual
   exec u at (If' c _ body other) run out w =
       use_it (eval u run c w) run out (λ v world1. use_it (tick world1) run out (λ _ world2.
       use_it (truth u.host v world2) run out (λ b world3.
-      choose b (λ _. behind_first other run (exec_all u at body run out world3)) (λ _. exec_else u (pasts at body) other run out world3))))
+      choose b (λ _. after_first other run (exec_all u at body run out world3)) (λ _. exec_else u (pasts at body) other run out world3))))
   exec u at (For' t e c recursive _ body other) run out w =
       use_it (loop_items u at.loops run t e c w) run out (λ vs world1.
       then_do run
       (loop_over u.host (at.loops + passes c) recursive (λ item run1 out1 world2.
       use_it (assign u run1 t item world2) run1 out1 (λ _ world3. exec_all u (within_loop c at) body run1 out1 world3))
       vs run out world1)
-      (λ run1 out1 world2. exec_behind_loop u (pasts (within_loop c at) body) other (has_none vs) run1 out1 world2))
+      (λ run1 out1 world2. exec_after_loop u (pasts (within_loop c at) body) other (has_none vs) run1 out1 world2))
   exec u at Break run out w = ended leave run out w
   exec u at Continue run out w = ended next run out w
   exec u at (Block' b required _ body) run out w = use_it (tick w) run out (λ _ world1. block_tag u run b out world1)
@@ -555,8 +555,8 @@ abbrev mutual
   exec_else u at no_else run out w = so_far run out w
   exec_else u at (otherwise _ body) run out w = exec_all u at body run out w
 
-  -- what runs where a loop had no items, behind its test, which is charged
-  pub exec_behind_loop : Under → Numbers → Otherwise → Bool → Run → List ℕ → World → Outcome
-  exec_behind_loop u at no_else none_taken run out w = so_far run out w
-  exec_behind_loop u at (otherwise _ body) none_taken run out w =
+  -- what runs where a loop had no items, after its test, which is charged
+  pub exec_after_loop : Under → Numbers → Otherwise → Bool → Run → List ℕ → World → Outcome
+  exec_after_loop u at no_else none_taken run out w = so_far run out w
+  exec_after_loop u at (otherwise _ body) none_taken run out w =
       use_it (tick w) run out (λ _ world1. choose none_taken (λ _. exec_all u at body run out world1) (λ _. so_far run out world1))

@@ -1,4 +1,4 @@
--- Want of memory, and the kinds that are put before a fault.
+-- Running out of memory, and the kinds that are put before a fault.
 use Rattle.std.specs.Prelude.{Bool, true, false, List, [], ◌∷◌, ◌&&◌}
 use Rattle.tm_values.specs.Chain.{is_memory}
 use Rattle.tm_values.specs.declared.error.ErrorKind.{ErrorKind}
@@ -18,7 +18,7 @@ is_wrapping kinds.BadInclude = true
 is_wrapping kinds.InvalidOperation = true
 is_wrapping _ = false
 
--- The chain is OutOfMemory, behind kinds alone that wrap.
+-- The chain is OutOfMemory, after kinds alone that wrap.
 abbrev pub is_want_of_memory : List ErrorKind → Bool
 is_want_of_memory [] = false
 is_want_of_memory (k ∷ []) = is_memory k

@@ -118,12 +118,12 @@ abbrev pub merged_by : Bool → HostValue → List Val → World → Res (List V
 merged_by false host ms w = Good ms w
 merged_by true host ms w = ticked w (λ world1. bind (merged_values host ms world1) (λ v world2. Good (v ∷ []) world2))
 
--- What stands under a name is evaluated behind what stands at a place.
+-- What stands under a name is evaluated after what stands at a place.
 abbrev pub both_passed : List Val → (World → Res (List Val)) → (World → Res (List Val)) → World → Res (List Val)
 both_passed before by_place by_name w =
     bind (by_place w) (λ vs world1. bind (by_name world1) (λ ks world2. Good (before ++ (vs ++ ks)) world2))
 
--- What a call is passed, behind values before the arguments: one by one; or the items of lists, charged, where some are spread.
+-- What a call is passed, after values before the arguments: one by one; or the items of lists, charged, where some are spread.
 abbrev pub passed_by : Bool → HostValue → List Val → (World → Res (List Val)) → (World → Res (List Val)) →
     ((World → Res (List Val)) → World → Res (List Val)) → World → Res (List Val)
 passed_by false host before by_place by_name lists w = both_passed before by_place by_name w

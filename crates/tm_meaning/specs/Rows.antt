@@ -146,7 +146,7 @@ Charges p t charges = Says p 1000 t (1000 - charges) []
 abbrev pub Fails : Page → List ℕ → List ErrorKind → Type 0
 Fails p t chain = ((meant p None).text ≡ t) × ((meant p None).chain ≡ chain) × ((ran p None).text ≡ t) × ((ran p None).chain ≡ chain)
 
--- the world behind the page, as it means it and as its code comes to it
+-- the world after the page, as it means it and as its code comes to it
 abbrev pub left_at : End → World
 left_at (Finished vs ks w) = w
 left_at (Failed chain w) = w
@@ -156,26 +156,26 @@ abbrev pub left_by : Option Final → World → World
 left_by None w = w
 left_by (Some o) w = left_at o.end
 
-abbrev pub Behind : (World → Type 0) → Page → Type 0
-Behind Holds p = Holds (rendered (host_of p) (trees p) (world_of p None)).world × Holds (left_by (ended p None) (world_of p None))
+abbrev pub After : (World → Type 0) → Page → Type 0
+After Holds p = Holds (rendered (host_of p) (trees p) (world_of p None)).world × Holds (left_by (ended p None) (world_of p None))
 
--- what is kept by names behind it
+-- what is kept by names after it
 abbrev pub LeavesNames : Page → Bindings → Type 0
-LeavesNames p temps = Behind (λ w. w.temps ≡ temps) p
+LeavesNames p temps = After (λ w. w.temps ≡ temps) p
 
--- a name that a look-up doesn't find behind it
+-- a name that a look-up doesn't find after it
 abbrev pub Lacks : Page → List ℕ → Type 0
-Lacks p x = Behind (λ w. find_name (view_of (host_of p) w) x ≡ Ok None) p
+Lacks p x = After (λ w. find_name (view_of (host_of p) w) x ≡ Ok None) p
 
 -- the fuel consumed and the fuel left, of so much that was set
 abbrev pub Spends : Page → ℕ → Option (ℕ × ℕ) → Type 0
 Spends p fuel levels = fuel_levels (rendered (host_of p) (trees p) (world_of p (Some fuel))).world ≡ levels
 
--- a state whose scopes, stream, block and escape are behind it those before it
+-- a state whose scopes, stream, block and escape are after it those before it
 abbrev pub Restores : Page → Type 0
 Restores p =
     let old = world_of p None in
-    Behind (λ w. (w.scopes ≡ old.scopes) × (w.stream ≡ old.stream) × (w.block ≡ old.block) × (w.escape ≡ old.escape)) p
+    After (λ w. (w.scopes ≡ old.scopes) × (w.stream ≡ old.stream) × (w.block ≡ old.block) × (w.escape ≡ old.escape)) p
 
 -- and where all is done
 abbrev pub Shows : Page → List ℕ → Type 0

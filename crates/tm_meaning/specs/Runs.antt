@@ -10,7 +10,7 @@ use Rattle.tm_meaning.specs.World.{choose, TemplateId, StreamId, root_of, World,
 use Rattle.tm_meaning.specs.Calls.{whole, macro_of, has, runs, own_blocks}
 use Rattle.tm_meaning.specs.Inheritance.{names_left}
 use Rattle.tm_meaning.specs.Tree.{StreamTree, statements, expression, empty, Trees}
-use Rattle.tm_meaning.specs.Meaning.{Run, Ending, left_by, Outcome, Nests, Again, Under, ended, use_it, behind, block_tag, eval, assign}
+use Rattle.tm_meaning.specs.Meaning.{Run, Ending, left_by, Outcome, Nests, Again, Under, ended, use_it, after, block_tag, eval, assign}
 use Rattle.tm_meaning.specs.Meaning.{take_parameters, call, loop_over, exec_all, done, fault}
 
 -- ---------------------------------------------------------------- runs
@@ -84,7 +84,7 @@ abbrev pub restarting : Ending → Outcome → (TemplateId → Outcome) → Outc
 restarting (fault chain) o f = o
 restarting e o f = to_parent o.parent o f
 
--- A stream, and behind it the root of the parent that it asks for, in the scopes that are left and heard as the run was at its start; over
+-- A stream, and after it the root of the parent that it asks for, in the scopes that are left and heard as the run was at its start; over
 -- so many names that were not loaded before. Each parent's name was not, so with none left no parent is asked for.
 abbrev pub run_of : HostValue → Nests → Trees → ℕ → StreamId → Run → List ℕ → World → Outcome
 run_of host nests trees zero s run out w =

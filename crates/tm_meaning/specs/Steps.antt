@@ -183,7 +183,7 @@ effect p f i.EndCapture c = end_capture_of c
 effect p f i.PushAutoEscape c = push_auto_escape_of f c
 effect p f i.PopAutoEscape c = pop_auto_escape_of c
 
--- Behind the last instruction, with all closed that the run opened, it is over, or restarts in the parent that waits.
+-- After the last instruction, with all closed that the run opened, it is over, or restarts in the parent that waits.
 abbrev pub finish : ℕ → Base → Config → Next
 finish size f c = choose (nat_eq c.run.place size && closed f c) (λ _. parent_next c.run.parent c) (λ _. stuck c.world)
 

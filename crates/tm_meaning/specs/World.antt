@@ -183,7 +183,7 @@ answered (Ok a) w = Good a w
 answered (Err chain) w = Bad chain w
 
 -- ---------------------------------------------------------------- fuel
--- The fuel that is left behind a charge: all of it where the charge is 0; and none, with the fuel out, where no more than the charge was
+-- The fuel that is left after a charge: all of it where the charge is 0; and none, with the fuel out, where no more than the charge was
 -- left.
 abbrev pub charged : ℕ → ℕ → Option ℕ
 charged charge left = if nat_eq charge 0 then Some left else if nat_lt charge left then Some (left - charge) else None
@@ -430,7 +430,7 @@ new_loop items flags number w = record {
   kept = None;
 }
 
--- A loop of a number in a scope of its own, with a record behind all others; where there is no room for the scope there is no record.
+-- A loop of a number in a scope of its own, with a record after all others; where there is no room for the scope there is no record.
 abbrev pub open_loop : HostValue → List Val → LoopFlags → ℕ → World → Res (Unit {0})
 open_loop host items flags number w =
     bind (push host (loop_scope (record { number = length w.loops; variable = flags.variable })) w) (λ _ world1.
@@ -483,7 +483,7 @@ abbrev pub set_member : List ℕ → Val → Val → World → Res (Unit {0})
 set_member x v o w =
     bind (answered (settable (records_of w) o) w) (λ n world1. Good tt (record world1 { namespaces = with_member n x v world1.namespaces }))
 
--- A namespace more, of these pairs, behind all others.
+-- A namespace more, of these pairs, after all others.
 abbrev pub make_namespace : List (Val × Val) → World → Res Val
 make_namespace ps w = Good (namespace w.id (length w.namespaces)) (record w { namespaces = w.namespaces ++ ps ∷ [] })
 
@@ -501,7 +501,7 @@ abbrev pub is_there : StreamId → List StreamId → Bool
 is_there s [] = false
 is_there s (t ∷ ts) = same_stream s t || is_there s ts
 
--- the streams that declared macros, with this one behind them unless it is there
+-- the streams that declared macros, with this one after them unless it is there
 abbrev pub with_stream : StreamId → List StreamId → List StreamId
 with_stream s ts = if is_there s ts then ts else ts ++ s ∷ []
 
@@ -520,7 +520,7 @@ make_macro number closure x arguments caller w =
     })) (record w { streams = with_stream w.stream w.streams })
 
 -- ---------------------------------------------------------------- emission
--- an answer behind a verdict
+-- an answer after a verdict
 abbrev pub where_fine : {A : Type 0} → Verdict → A → Answer A
 where_fine (Ok u) a = Ok a
 where_fine (Err chain) a = Err chain

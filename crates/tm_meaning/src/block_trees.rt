@@ -13,15 +13,15 @@ ghost use Rattle.tm_meaning.specs.Rows.{Charges, Fails, Says, Shows, said, liter
 ghost use Rattle.tm_meaning.specs.FilterRows.{with_limit};
 ghost use Rattle.tm_meaning.specs.MacroTrees.{called, m, paged};
 ghost use Rattle.tm_meaning.specs.BlockTrees.{FailsAfter, PageEndsIn, AtChildren, of_base, of_mid, over_mid, over_mid_joined, mid_alone};
-ghost use Rattle.tm_meaning.specs.BlockTrees.{of_either, in_round, in_block_before, in_macro, behind_macro, extends_only, two_parents};
-ghost use Rattle.tm_meaning.specs.BlockTrees.{in_capture, extends_itself, of_chain, of_supers, self_behind, only_block, super_of_one};
+ghost use Rattle.tm_meaning.specs.BlockTrees.{of_either, in_round, in_block_before, in_macro, after_macro, extends_only, two_parents};
+ghost use Rattle.tm_meaning.specs.BlockTrees.{in_capture, extends_itself, of_chain, of_supers, self_after, only_block, super_of_one};
 ghost use Rattle.tm_meaning.specs.BlockTrees.{super_member, self_of_one, self_as_value, self_while_waiting, super_as_value};
 ghost use Rattle.tm_meaning.specs.BlockTrees.{fault_in_super, while_waiting, divides_by_zero, required_itself, required_by_parent};
 ghost use Rattle.tm_meaning.specs.BlockTrees.{required_given, set_before_parent, in_scope_of_parent, in_loop_of_parent};
 ghost use Rattle.tm_meaning.specs.BlockTrees.{macro_of_child, escaped_by_child, calls_block, extends, GivesTwice, fault_in_hidden};
 
 /// Blocks of a child in the layout of its parents, at their charges and with too little fuel; the
-/// state behind has the last parent's name.
+/// state after has the last parent's name.
 pub fn layout_rows()
     ensures base { Charges of_base (codes "B:[x" ++ decimal 1 ++ codes "]") 13 }
     ensures twelve { Says of_base 12 (codes "B:[x") 0 (OutOfFuel ∷ []) }
@@ -60,7 +60,7 @@ pub fn refused_extends_rows()
 
 /// `super()` and `self.a()` in place: alone, with arguments, and where there is no such block.
 pub fn super_rows()
-    ensures again { Charges self_behind (codes "xx") 4 }
+    ensures again { Charges self_after (codes "xx") 4 }
     ensures no_block { FailsAfter (paged (one (EmitBlock (codes "q")))) [] (UnknownBlock ∷ []) 1 }
     ensures nowhere { FailsAfter (paged (one EmitSuper)) [] (InvalidOperation ∷ []) 1 }
     ensures last { FailsAfter (only_block EmitSuper) [] (InvalidOperation ∷ []) 2 }
@@ -76,11 +76,11 @@ pub fn block_value_rows()
     ensures next { Charges super_as_value (codes "B:[x]") 11 }
 {}
 
-/// What stands behind a fault in a block or behind `extends`: every list is at its child's place.
+/// What stands after a fault in a block or after `extends`: every list is at its child's place.
 pub fn block_fault_rows()
     ensures fault { FailsAfter fault_in_super (codes "12") (EvalBlock ∷ UndefinedError ∷ []) 8 }
     ensures places { AtChildren fault_in_super (0 ∷ []) }
-    ensures places_behind { AtChildren over_mid (0 ∷ []) }
+    ensures places_after { AtChildren over_mid (0 ∷ []) }
     ensures unknown { FailsAfter (while_waiting (called (codes "nope"))) []
         (UnknownFunction ∷ []) 2 }
     ensures zero { FailsAfter (while_waiting divides_by_zero) [] (InvalidOperation ∷ []) 4 }
@@ -140,11 +140,11 @@ pub fn further_block_call_rows()
     ensures missing { Fails (calls_block escapes.None (codes "no")) [] (UnknownBlock ∷ []) }
 {}
 
-/// What was loaded is forgotten behind a macro, and not behind a block.
+/// What was loaded is forgotten after a macro, and not after a block.
 pub fn loaded_rows()
-    ensures again { Shows (behind_macro (called m)) [] }
-    ensures parent { Shows (behind_macro (extends (codes "base"))) (codes "B:x") }
-    ensures no_block { Fails (behind_macro (EmitBlock (codes "a"))) [] (UnknownBlock ∷ []) }
+    ensures again { Shows (after_macro (called m)) [] }
+    ensures parent { Shows (after_macro (extends (codes "base"))) (codes "B:x") }
+    ensures no_block { Fails (after_macro (EmitBlock (codes "a"))) [] (UnknownBlock ∷ []) }
     ensures block { Fails (in_block_before (EmitBlock (codes "a"))) (codes "P")
         (InvalidOperation ∷ []) }
 {}

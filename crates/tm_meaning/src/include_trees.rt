@@ -31,7 +31,7 @@ ghost use Rattle.tm_meaning.specs.IncludeTrees.{sees_round, stores_in_scope, sto
 ghost use Rattle.tm_meaning.specs.IncludeTrees.{super_of_another};
 
 /// A template that is included, with too little fuel and depth, and one whose fault it is; the
-/// page's scopes, name and escape are there behind it.
+/// page's scopes, name and escape are there after it.
 pub fn include_rows()
     ensures text { Charges (including (codes "i")) (codes "ab" ++ decimal 1) 5 }
     ensures four { Says (including (codes "i")) 4 (codes "ab") 0 (BadInclude ∷ OutOfFuel ∷ []) }

@@ -8,7 +8,7 @@ ghost use Rattle.tm_meaning.specs.Rows.{Charges, Fails, Shows, literal, literal_
 ghost use Rattle.tm_meaning.specs.CallRows.{call_none, one_named};
 ghost use Rattle.tm_meaning.specs.FilterRows.{under, with_limit};
 ghost use Rattle.tm_meaning.specs.MacroTrees.{m, with_one, with_two, one_text, two_parameters, given_twice, list_and_name, from_map};
-ghost use Rattle.tm_meaning.specs.MacroTrees.{default_before, default_behind, default_for_undefined, parameter_caller, no_caller};
+ghost use Rattle.tm_meaning.specs.MacroTrees.{default_before, default_after, default_for_undefined, parameter_caller, no_caller};
 ghost use Rattle.tm_meaning.specs.MacroTrees.{caller_with_argument, called_in_loop, called_in_capture, called_unknown};
 ghost use Rattle.tm_meaning.specs.MacroTrees.{called_without_caller, called_function, called_by_value, macro_in_map};
 ghost use Rattle.tm_meaning.specs.MacroTrees.{stored_later, set_again, set_within, calls_itself, one_calls_other, one_in_another};
@@ -31,7 +31,7 @@ pub fn parameter_rows()
     ensures unused { Fails (two_parameters (one_named m (codes "z") (literal_number 1))) []
         (TooManyArguments ∷ []) }
     ensures before { Charges default_before [] 14 }
-    ensures behind { Charges default_behind (decimal 1) 17 }
+    ensures after { Charges default_after (decimal 1) 17 }
     ensures undefined { Charges default_for_undefined (decimal 1 ++ codes "none") 21 }
     ensures strict { Fails (under Strict (two_parameters (call_none m))) [] (UndefinedError ∷ []) }
 {}

@@ -7,7 +7,7 @@ ghost use Rattle.tm_values.specs.declared.error.ErrorKind.TheVariants.{BadStream
 ghost use Rattle.tm_syntax.specs.declared.instruction.Instruction.TheVariants as i;
 ghost use Rattle.tm_meaning.specs.Calls.{bound_to};
 ghost use Rattle.tm_meaning.specs.Rows.{said};
-ghost use Rattle.tm_meaning.specs.MacroRows.{CodeWrites, FailsWith, StaysBehind, run_under, m, x, whole_number, load, names, given};
+ghost use Rattle.tm_meaning.specs.MacroRows.{CodeWrites, FailsWith, StaysAfter, run_under, m, x, whole_number, load, names, given};
 ghost use Rattle.tm_meaning.specs.MacroRows.{one_text, two_arguments, named_caller, mentions_caller, calls_caller, reads_x};
 ghost use Rattle.tm_meaning.specs.MacroRows.{set_and_called, called_within, enclosed_twice, one_in_another, in_order, endless};
 ghost use Rattle.tm_meaning.specs.MacroRows.{escaped_text, by_function, macro_at, calls_macro, faults_within, a_macro};
@@ -48,7 +48,7 @@ pub fn closure_rows()
 {}
 
 /// A macro's text is safe where an escape is in force, and not where a further call asked for it; each is known by its state, stream, entry,
-/// closure and number of arguments, in this order behind its arguments; and what a fault in it leaves.
+/// closure and number of arguments, in this order after its arguments; and what a fault in it leaves.
 pub fn macro_call_rows()
     ensures escaped { run_under 500 escapes.Html escaped_text ≡ said (codes "<&lt;") 991 [] }
     ensures further { CodeWrites by_function (codes "<" ++ decimal 5 ++ codes ">") 11 }
@@ -70,7 +70,7 @@ pub fn macro_call_rows()
     ensures closure { FailsWith (calls_macro (macro_at 0 0 (Some 0)) []) InvalidOperation 6 }
     ensures count { FailsWith (calls_macro (a_macro [] false) []) InvalidOperation 6 }
     ensures fault { FailsWith faults_within UndefinedError 7 }
-    ensures put_back { StaysBehind faults_within }
+    ensures put_back { StaysAfter faults_within }
 {}
 
 /// What arguments are bound to: by their places, by their names, and undefined; keys that are no texts are ignored.

@@ -19,9 +19,9 @@ ghost use Rattle.tm_meaning.specs.CallRows.{changed_or_not, by_turns, by_no_turn
 ghost use Rattle.tm_meaning.specs.CallRows.{method_of_undefined, called_in_place, called_over_a_number};
 ghost use Rattle.tm_meaning.specs.CallRows.{not_recursive, no_loop_to_call, called_with_too_many};
 ghost use Rattle.tm_meaning.specs.CallRows.{depth_inside_recursive, tree_in_place, tree_as_value};
-ghost use Rattle.tm_meaning.specs.CallRows.{called_behind_its_end, range_of_three, range_by_name, dict_by_names};
+ghost use Rattle.tm_meaning.specs.CallRows.{called_after_its_end, range_of_three, range_by_name, dict_by_names};
 ghost use Rattle.tm_meaning.specs.CallRows.{summed, do_call, last_function, faulty, calling, keep_and_read};
-ghost use Rattle.tm_meaning.specs.CallRows.{unknown_behind};
+ghost use Rattle.tm_meaning.specs.CallRows.{unknown_after};
 ghost use Rattle.tm_meaning.specs.FilterRows.{in_capitals, one_after_the_other, not_odd, divided, not_divided};
 ghost use Rattle.tm_meaning.specs.Rows.{x};
 ghost use Rattle.tm_meaning.specs.SpreadRows.{sum_of_lists, sum_of_both, sum_of_items, spread_to_filter};
@@ -95,7 +95,7 @@ pub fn attribute_rows()
     ensures missing { Charges (shown a_b (with_value (codes "a") (map no_pairs))) [] 3 }
 {}
 
-/// `{{ 1 < 2 < 3 }}`, `{{ 3 < 2 < 1 }}` and `{{ 1 < 2 < 3 < 0 < nope.x }}`: what stands behind a false comparison isn't asked for.
+/// `{{ 1 < 2 < 3 }}`, `{{ 3 < 2 < 1 }}` and `{{ 1 < 2 < 3 < 0 < nope.x }}`: what stands after a false comparison isn't asked for.
 pub fn chain_rows()
     ensures true_row { Charges (shown (three_in_a_row 1 2 3) nothing) (codes "true") 8 }
     ensures false_row { Charges (shown (three_in_a_row 3 2 1) nothing) (codes "false") 6 }
@@ -112,7 +112,7 @@ pub fn conditional_rows()
 {}
 
 /// `{% block b %}x{{ a }}{% endblock %}y`, a block that isn't reached, and one whose run ends in a fault within an escape and a scope,
-/// behind which all that the run replaced is put back.
+/// after which all that the run replaced is put back.
 pub fn block_rows()
     ensures charges { Charges (in_block 500) (codes "xy") 5 }
     ensures deep_enough { Charges (in_block 2) (codes "xy") 5 }
@@ -224,9 +224,9 @@ pub fn call_rows()
     ensures kept { Charges keep_and_read (decimal 2 ++ decimal 1) 4 }
     ensures left { LeavesNames keep_and_read ((codes "k", number (pos 1)) ∷ []) }
     ensures no_name { Lacks keep_and_read (codes "k") }
-    ensures arguments_first { Fails (unknown_behind (faulty (MissingArgument ∷ []))) (codes "a")
+    ensures arguments_first { Fails (unknown_after (faulty (MissingArgument ∷ []))) (codes "a")
         (MissingArgument ∷ []) }
-    ensures not_found { Fails (unknown_behind last_function) (codes "a") (UnknownFunction ∷ []) }
+    ensures not_found { Fails (unknown_after last_function) (codes "a") (UnknownFunction ∷ []) }
 {}
 
 /// `{{ "a"|upper }}`, `{{ 1|second("b")|upper }}`, `{{ 1 is not odd }}`, `{{ 6 is divisible 3 }}`,
@@ -395,7 +395,7 @@ pub fn formatter_rows()
 
 /// Loops that are called: `{{ loop(x) }}` in place, over `[[]]`, a number, in a loop that can't be
 /// called and outside of loops; `loop(x, 1)`; `loop.depth`; a tree in place and as values; a loop
-/// called behind its end.
+/// called after its end.
 pub fn recursion_rows()
     ensures in_place { Charges called_in_place (codes "a") 10 }
     ensures number { Fails called_over_a_number [] (InvalidOperation ∷ InvalidOperation ∷ []) }
@@ -405,5 +405,5 @@ pub fn recursion_rows()
     ensures depth { Shows depth_inside_recursive (decimal 2) }
     ensures tree { Shows tree_in_place (codes "1(2())3()") }
     ensures as_value { Shows tree_as_value (codes "1[2[]]3[]") }
-    ensures behind_its_end { Shows called_behind_its_end (codes "123") }
+    ensures after_its_end { Shows called_after_its_end (codes "123") }
 {}

@@ -272,20 +272,20 @@ dotted-cons : (x : List ℕ) (f : Step) (fs : List Step) →
 unfolding hidden steps shape-the_row-Step-5
 dotted-cons x f fs = refl
 
-dotted-behind : (all rest : List Step) (f : Step) (o : Option (List ℕ)) (x goal : List ℕ) → all ≡ f ∷ rest → o ≡ attribute_of f →
+dotted-after : (all rest : List Step) (f : Step) (o : Option (List ℕ)) (x goal : List ℕ) → all ≡ f ∷ rest → o ≡ attribute_of f →
     dotted x (steps all) ≡ goal → dotted_on o (method_of f) x (λ y. dotted y (steps rest)) ≡ goal
-dotted-behind all rest f o x goal left is g =
+dotted-after all rest f o x goal left is g =
     ap (λ a. dotted_on a (method_of f) x (λ y. dotted y (steps rest))) is ∙ sym (dotted-cons x f rest)
     ∙ ap (λ l. dotted x (steps l)) (sym left) ∙ g
 
 pub more-dotted : (all rest : List Step) (f : Step) (a x y goal : List ℕ) → all ≡ f ∷ rest → Some a ≡ attribute_of f → y ≡ dot x a →
     dotted x (steps all) ≡ goal → dotted y (steps rest) ≡ goal
 more-dotted all rest f a x y goal left is p g =
-    ap (λ z. dotted z (steps rest)) p ∙ dotted-behind all rest f (Some a) x goal left is g
+    ap (λ z. dotted z (steps rest)) p ∙ dotted-after all rest f (Some a) x goal left is g
 
 pub last-dotted : (all rest : List Step) (f : Step) (x y goal : List ℕ) → all ≡ f ∷ rest → None ≡ attribute_of f →
     y ≡ with_member (method_of f) x → dotted x (steps all) ≡ goal → y ≡ goal
-last-dotted all rest f x y goal left is p g = p ∙ dotted-behind all rest f None x goal left is g
+last-dotted all rest f x y goal left is p g = p ∙ dotted-after all rest f None x goal left is g
 
 pub no_more-dotted : (rest : List Step) (x goal : List ℕ) → rest ≡ [] → dotted x (steps rest) ≡ goal → x ≡ goal
 no_more-dotted rest x goal none g = sym (dotted-nil x) ∙ ap (λ l. dotted x (steps l)) (sym none) ∙ g

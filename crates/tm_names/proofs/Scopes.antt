@@ -202,7 +202,7 @@ mutual
   else_within d no_else k = refl
   else_within d (otherwise _ body) k = all_within d body k
 
--- behind statements in a scope of their own the scopes are open that were
+-- after statements in a scope of their own the scopes are open that were
 pub scope_forgets : {n : _} → (d : Bool) (ss : Row_of-Stmt n) (k : Walk) →
     (close_scope (walk_all d ss (open_scope k))).assigned ≡ k.assigned
 scope_forgets d ss k = all_within d ss (open_scope k)

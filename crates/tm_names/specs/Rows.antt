@@ -159,7 +159,7 @@ from_renames = refl
 macro_reads : undeclared false (statement (macro_writes (codes "x")) no_statement) ≡ codes "x" ∷ []
 macro_reads = refl
 
--- the same with `m` and with `caller` in the place of `x`, and {{ m }} behind it
+-- the same with `m` and with `caller` in the place of `x`, and {{ m }} after it
 own_name : undeclared false (statement (macro_writes (codes "m")) (alone (codes "m"))) ≡ []
 own_name = refl
 
@@ -171,8 +171,8 @@ default_before : undeclared false (statement (Macro' (codes "m") reads_later (tt
     ≡ codes "b" ∷ []
 default_before = refl
 
-default_behind : undeclared false (statement (Macro' (codes "m") reads_earlier (tt ∷ []) (alone (codes "b"))) no_statement) ≡ []
-default_behind = refl
+default_after : undeclared false (statement (Macro' (codes "m") reads_earlier (tt ∷ []) (alone (codes "b"))) no_statement) ≡ []
+default_after = refl
 
 -- {% macro m(a, b=a) %}{{ b }}{% endmacro %}{{ b }}
 parameters_close : undeclared false (statement (Macro' (codes "m") reads_earlier (tt ∷ []) (alone (codes "b"))) (alone (codes "b")))

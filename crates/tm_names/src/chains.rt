@@ -1,4 +1,4 @@
-//! Names with the attributes behind them.
+//! Names with the attributes after them.
 ghost use Rattle.std.specs.Option.{option_copied};
 ghost use Rattle.std.specs.Prelude.{◌≡◌, [], ◌∷◌, IfOk, OnOk};
 ghost use Rattle.std.specs.String.{string_bytes};
@@ -96,7 +96,7 @@ fn push_last(text: &mut String, step: &Step) -> Result<(), AllocError>
     }
 }
 
-/// A name with the attributes that stand first behind it, and a method directly behind these;
+/// A name with the attributes that stand first after it, and a method directly after these;
 /// AllocError.
 pub(crate) fn dotted(alloc: Global, name: &Name, after: &[Step]) -> Result<String, AllocError>
     ensures { IfOk result (λ text. string_bytes text ≡ dotted name.now (steps after.now)) }

@@ -28,7 +28,7 @@ impl Walker {
         self.read(name.as_str())
     }
 
-    /// Reads a name with steps behind it; AllocError.
+    /// Reads a name with steps after it; AllocError.
     fn read_chain(&mut self, nested: bool, name: &Name, after: &[Step]) -> Result<(), AllocError>
         ensures { OnOk result
             (self.new ≡ read_chain nested name.now (steps after.now) self.old) }

@@ -10,7 +10,7 @@ use Rattle.tm_values.specs.Val.{Val}
 use Rattle.tm_values.specs.declared.error.ErrorKind.{ErrorKind}
 use Rattle.tm_values.specs.declared.error.ErrorKind.TheVariants.{OutOfMemory}
 
--- what is still to be added behind these
+-- what is still to be added after these
 abbrev pub to_add : {A : Type 0} → (Val → Answer (List A)) → List A → List Val → Answer (List A)
 to_add f all left = given (joined f left) (λ ys. Ok (all ++ ys))
 

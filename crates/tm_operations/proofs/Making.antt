@@ -20,7 +20,7 @@ use Rattle.tm_operations.specs.declared.mapped.Kind.{Kind}
 use Rattle.tm_operations.specs.declared.mapped.Kind.TheVariants as kind
 use Rattle.tm_operations.specs.declared.mapped.Next.{Next}
 use Rattle.tm_operations.specs.declared.mapped.Next.TheVariants as next
-use Rattle.tm_operations.specs.Begun.{before_items, before_pairs, made_of, list_behind, map_behind, resumed, outermost, part_next, comes_to}
+use Rattle.tm_operations.specs.Begun.{before_items, before_pairs, made_of, list_after, map_after, resumed, outermost, part_next, comes_to}
 use Rattle.tm_operations.specs.Begun.{Ascends, AllAscend, weight, items_weight, pairs_weight, namespace_weight, left_in, left_in_all, left_of_next, left_to_make}
 use Rattle.tm_operations.specs.Begun.{items_left, pairs_left}
 
@@ -62,9 +62,9 @@ none_left [] e = refl
 none_left (x ∷ xs) e = absurd (cc e)
 
 pub list_made : (r : RecordData) (bs : List Begun) (levels : ℕ) (done rest : List Val) (v : Val) → length rest ≡ 0 → v ≡ list (vals_of done) →
-    comes_to r bs (next.Made v) ≡ outermost r bs (list_behind r levels done (vals_of rest))
+    comes_to r bs (next.Made v) ≡ outermost r bs (list_after r levels done (vals_of rest))
 list_made r bs levels done rest v over is =
-    ap (outermost r bs) (ap Ok (is ∙ ap list (sym (before_none done))) ∙ ap (λ vs. list_behind r levels done (vals_of vs)) (sym (none_left rest over)))
+    ap (outermost r bs) (ap Ok (is ∙ ap list (sym (before_none done))) ∙ ap (λ vs. list_after r levels done (vals_of vs)) (sym (none_left rest over)))
 
 item_first : (done : List Val) (a : Answer Val) (m : Answer Vals) →
     with_ok a (λ x. map_ok (λ vs. list (before_items (done ++ x ∷ []) vs)) m)
@@ -76,18 +76,18 @@ item_first done (Ok x) (Ok vs) = ap (λ ws. Ok (list ws)) (before_last done x vs
 module _ (r : RecordData) (bs new : List Begun) (levels : ℕ) where
   pub list_next : (done rest more : List Val) (item : Bor Val) (b : BegunList) → b.levels ≡ levels → b.done.items ≡ done →
       b.rest.now ≡ more → new ≡ bs ++ begun.List b ∷ [] → rest ≡ item.now ∷ more →
-      comes_to r new (next.Part item levels) ≡ outermost r bs (list_behind r levels done (vals_of rest))
-  list_next done rest more item b at before behind grown first =
+      comes_to r new (next.Part item levels) ≡ outermost r bs (list_after r levels done (vals_of rest))
+  list_next done rest more item b at before following grown first =
       ap (λ cs. outermost r cs (mapped_within r levels item.now)) grown
       ∙ outermost_last r bs (begun.List b) (mapped_within r levels item.now)
-      ∙ ap (outermost r bs) (rw (at, before, behind, first) (item_first done (mapped_within r levels item.now)
+      ∙ ap (outermost r bs) (rw (at, before, following, first) (item_first done (mapped_within r levels item.now)
       (mapped_items (namespace_mapped r levels) (vals_of more))))
 
   pub list_less : (rest more : List Val) (item : Bor Val) (b : BegunList) → b.levels ≡ levels → b.rest.now ≡ more →
       new ≡ bs ++ begun.List b ∷ [] → rest ≡ item.now ∷ more →
       left_to_make r new (next.Part item levels) ≤ left_in_all r bs + items_left r levels (vals_of rest)
-  list_less rest more item b at behind grown first =
-      rw (grown, left_last r bs (begun.List b), at, behind, first) (omega arith)
+  list_less rest more item b at following grown first =
+      rw (grown, left_last r bs (begun.List b), at, following, first) (omega arith)
 
 -- ---------------------------------------------------------------- maps
 pairs_before_none : (xs : List (Val × Val)) → before_pairs xs no_pairs ≡ pairs_of xs
@@ -100,10 +100,10 @@ pairs_before_last (y ∷ xs) k x ps = ap (pair y.0 y.1) (pairs_before_last xs k 
 
 pub map_made : (r : RecordData) (bs : List Begun) (k : Kind) (levels : ℕ) (done rest : List (Val × Val)) (v : Val) → length rest ≡ 0 →
     v ≡ made_of k (pairs_of done) →
-    comes_to r bs (next.Made v) ≡ outermost r bs (map_behind r k levels done (pairs_of rest))
+    comes_to r bs (next.Made v) ≡ outermost r bs (map_after r k levels done (pairs_of rest))
 map_made r bs k levels done rest v over is =
     ap (outermost r bs)
-    (ap Ok (is ∙ ap (made_of k) (sym (pairs_before_none done))) ∙ ap (λ ps. map_behind r k levels done (pairs_of ps)) (sym (none_left rest over)))
+    (ap Ok (is ∙ ap (made_of k) (sym (pairs_before_none done))) ∙ ap (λ ps. map_after r k levels done (pairs_of ps)) (sym (none_left rest over)))
 
 value_first : (k : Kind) (done : List (Val × Val)) (key : Val) (a : Answer Val) (m : Answer Pairs) →
     with_ok a (λ x. map_ok (λ ps. made_of k (before_pairs (done ++ (key, x) ∷ []) ps)) m)
@@ -116,18 +116,18 @@ module _ (r : RecordData) (bs new : List Begun) (levels : ℕ) where
   pub map_next : (k : Kind) (done rest more : List (Val × Val)) (first : Val × Val) (n : Next) (b : BegunMap) → b.kind ≡ k →
       b.levels ≡ levels → b.key ≡ first.0 → part_next r n ≡ mapped_within r levels first.1 → b.done.items ≡ done → b.rest.now ≡ more →
       new ≡ bs ++ begun.Map b ∷ [] → rest ≡ first ∷ more →
-      comes_to r new n ≡ outermost r bs (map_behind r k levels done (pairs_of rest))
-  map_next k done rest more first n b of at key is before behind grown begins =
+      comes_to r new n ≡ outermost r bs (map_after r k levels done (pairs_of rest))
+  map_next k done rest more first n b of at key is before following grown begins =
       ap (λ cs. outermost r cs (part_next r n)) grown
       ∙ outermost_last r bs (begun.Map b) (part_next r n)
-      ∙ ap (outermost r bs) (rw (of, at, key, is, before, behind, begins) (value_first k done first.0 (mapped_within r levels first.1)
+      ∙ ap (outermost r bs) (rw (of, at, key, is, before, following, begins) (value_first k done first.0 (mapped_within r levels first.1)
       (mapped_pairs (namespace_mapped r levels) (pairs_of more))))
 
   pub map_less : (rest more : List (Val × Val)) (first : Val × Val) (n : Next) (b : BegunMap) → b.levels ≡ levels →
       left_of_next r n ≡ weight (namespace_weight r levels) first.1 → b.rest.now ≡ more → new ≡ bs ++ begun.Map b ∷ [] →
       rest ≡ first ∷ more → left_to_make r new n ≤ left_in_all r bs + pairs_left r levels (pairs_of rest)
-  map_less rest more first n b at is behind grown begins =
-      rw (grown, left_last r bs (begun.Map b), at, is, behind, begins) (omega arith)
+  map_less rest more first n b at is following grown begins =
+      rw (grown, left_last r bs (begun.Map b), at, is, following, begins) (omega arith)
 
 above_same : (p k v w : Val) (ds rs : List (Val × Val)) → IsAbove p (ds ++ (k, v) ∷ rs) → IsAbove p (ds ++ (k, w) ∷ rs)
 above_same p k v w [] rs h = h
@@ -140,8 +140,8 @@ key_stays k v w (d ∷ ds) rs h = (above_same d.0 k v w ds rs h.0, key_stays k v
 pub map_ascends : (bs new : List Begun) (done rest more : List (Val × Val)) (first : Val × Val) (b : BegunMap) → b.key ≡ first.0 →
     b.done.items ≡ done → b.rest.now ≡ more → new ≡ bs ++ begun.Map b ∷ [] → rest ≡ first ∷ more → IsMap (done ++ rest) →
     AllAscend bs → AllAscend new
-map_ascends bs new done rest more first b key before behind grown begins ascend all =
-    rw grown (ascend_last bs (begun.Map b) all (λ v. rw (key, before, behind)
+map_ascends bs new done rest more first b key before following grown begins ascend all =
+    rw grown (ascend_last bs (begun.Map b) all (λ v. rw (key, before, following)
     (key_stays first.0 first.1 v done more (subst (λ (ps : List (Val × Val)). IsMap (done ++ ps)) begins ascend))))
 
 pub list_ascends : (bs new : List Begun) (b : BegunList) → new ≡ bs ++ begun.List b ∷ [] → AllAscend bs → AllAscend new
@@ -192,20 +192,20 @@ if_ok (Err e) f h = tt
 
 module _ (r : RecordData) (levels : ℕ) where
   pub list_within : (v : Val) (done rest : List Val) → done ≡ [] → v ≡ list (vals_of rest) →
-      list_behind r levels done (vals_of rest) ≡ mapped_within r levels v
+      list_after r levels done (vals_of rest) ≡ mapped_within r levels v
   list_within v done rest e f = rw (e, f) refl
 
   pub list_lighter : (v : Val) (rest : List Val) (bound left : ℕ) → v ≡ list (vals_of rest) →
       left ≤ bound + items_left r levels (vals_of rest) → left < bound + weight (namespace_weight r levels) v
   list_lighter v rest bound left e h = rw e (omega (arith, h))
 
-  made_within : (k : Kind) (ps : Pairs) → map_behind r k levels [] ps ≡ mapped_within r levels (made_of k ps)
+  made_within : (k : Kind) (ps : Pairs) → map_after r k levels [] ps ≡ mapped_within r levels (made_of k ps)
   made_within kind.Map ps = refl
   made_within kind.Keywords ps = refl
   made_within (kind.Module s) ps = refl
 
   pub map_within : (k : Kind) (v : Val) (rest : List (Val × Val)) → v ≡ made_of k (pairs_of rest) →
-      map_behind r k levels [] (pairs_of rest) ≡ mapped_within r levels v
+      map_after r k levels [] (pairs_of rest) ≡ mapped_within r levels v
   map_within k v rest e = made_within k (pairs_of rest) ∙ ap (mapped_within r levels) (sym e)
 
   made_weight : (k : Kind) (ps : Pairs) → weight (namespace_weight r levels) (made_of k ps) ≡ pairs_weight (namespace_weight r levels) ps + 2
@@ -220,7 +220,7 @@ module _ (r : RecordData) (levels : ℕ) where
 -- ---------------------------------------------------------------- namespaces
 module _ (r : RecordData) (levels below s n : ℕ) (ps : List (Val × Val)) (deep : levels ≡ suc below)
     (there : namespace_at r s n ≡ Some ps) where
-  pub namespace_within : map_behind r kind.Map below [] (pairs_of ps) ≡ namespace_mapped r levels s n
+  pub namespace_within : map_after r kind.Map below [] (pairs_of ps) ≡ namespace_mapped r levels s n
   namespace_within = rw (deep, there) refl
 
   pub namespace_lighter : (bound left : ℕ) → left ≤ bound + pairs_left r below (pairs_of ps) → left < bound + namespace_weight r levels s n

@@ -33,23 +33,23 @@ has-cut [] n b = at_front n (n ++ b) (begins-front n b)
     at_front : (n s : List ℕ) → begins n s ≡ true → has_part n s ≡ true
     at_front n [] h = h
     at_front n (y ∷ s) h = rw h
-has-cut (x ∷ a) n b = behind (begins n (x ∷ (a ++ (n ++ b)))) (has_part n (a ++ (n ++ b))) (has-cut a n b)
+has-cut (x ∷ a) n b = after (begins n (x ∷ (a ++ (n ++ b)))) (has_part n (a ++ (n ++ b))) (has-cut a n b)
   where
-    behind : (x y : Bool) → y ≡ true → x || y ≡ true
-    behind true y h = refl
-    behind false y h = h
+    after : (x y : Bool) → y ≡ true → x || y ≡ true
+    after true y h = refl
+    after false y h = h
 
 pub has-part : (n s : List ℕ) → HasSubslice s n → has_part n s ≡ true
 has-part n s h = subst (λ (l : List ℕ). has_part n l ≡ true) (sym h.2) (has-cut h.0 n h.1)
 
-front_or_behind : (n : List ℕ) (y : ℕ) (s : List ℕ) (e : Bool) → begins n (y ∷ s) ≡ e → e || has_part n s ≡ true →
+front_or_after : (n : List ℕ) (y : ℕ) (s : List ℕ) (e : Bool) → begins n (y ∷ s) ≡ e → e || has_part n s ≡ true →
     (has_part n s ≡ true → HasSubslice s n) → HasSubslice (y ∷ s) n
-front_or_behind n y s true e h rest = let front = front-begins n (y ∷ s) e in ([], front.0, front.1)
-front_or_behind n y s false e h rest = let found = rest h in (y ∷ found.0, found.1, ap (λ (l : List ℕ). y ∷ l) found.2)
+front_or_after n y s true e h rest = let front = front-begins n (y ∷ s) e in ([], front.0, front.1)
+front_or_after n y s false e h rest = let found = rest h in (y ∷ found.0, found.1, ap (λ (l : List ℕ). y ∷ l) found.2)
 
 pub part-has : (n s : List ℕ) → has_part n s ≡ true → HasSubslice s n
 part-has n [] h = let front = front-begins n [] h in ([], front.0, front.1)
-part-has n (y ∷ s) h = front_or_behind n y s (begins n (y ∷ s)) refl h (λ e. part-has n s e)
+part-has n (y ∷ s) h = front_or_after n y s (begins n (y ∷ s)) refl h (λ e. part-has n s e)
 
 -- two tests of one fact are equal
 pub same_test : (r : Bool) (n s : List ℕ) → ((r ≡ true) → HasSubslice s n) → (HasSubslice s n → (r ≡ true)) → r ≡ has_part n s

@@ -1,4 +1,4 @@
--- Keywords behind plain arguments, and maps put one after the other.
+-- Keywords after plain arguments, and maps put one after the other.
 use Rattle.std.proofs.Common.{Vec, Global, ◌≡◌, ◌++◌, nat_lt, Bool, true, false, cond, List, [], ◌∷◌, length, Ok, Err, Less, Greater, refl}
 use Rattle.std.proofs.Common.{sym, ap, subst, ◌∙◌, append_assoc, slice_get}
 use Rattle.std.proofs.lemmas.List.{append-nil}
@@ -58,18 +58,18 @@ put-last : (k v : Val) (ps : List (Val × Val)) → IsBelow k ps → put k v ps 
 put-last k v [] h = refl
 put-last k v (p ∷ ps) h = rw h.0 (ap (λ l. p ∷ l) (put-last k v ps h.1))
 
-put_each-behind : (done m : List (Val × Val)) → AreBelow done m → IsMap m → put_each done m ≡ done ++ m
-put_each-behind done [] b m = sym (append-nil done)
-put_each-behind done (p ∷ ps) b m =
+put_each-after : (done m : List (Val × Val)) → AreBelow done m → IsMap m → put_each done m ≡ done ++ m
+put_each-after done [] b m = sym (append-nil done)
+put_each-after done (p ∷ ps) b m =
     rw (put-last p.0 p.1 done b.0)
-    (put_each-behind (done ++ p ∷ []) ps (more_below p done ps m.0 b.1) m.1 ∙ append_assoc done (p ∷ []) ps)
+    (put_each-after (done ++ p ∷ []) ps (more_below p done ps m.0 b.1) m.1 ∙ append_assoc done (p ∷ []) ps)
 
 put_each-append : (m a b : List (Val × Val)) → put_each m (a ++ b) ≡ put_each (put_each m a) b
 put_each-append m [] b = refl
 put_each-append m (p ∷ ps) b = put_each-append (put p.0 p.1 m) ps b
 
 pub map_with_keywords : IsMapWithKeywords
-map_with_keywords m ks h = put_each-append [] m ks ∙ ap (λ (l : List (Val × Val)). put_each l ks) (put_each-behind [] m (none_below m) h)
+map_with_keywords m ks h = put_each-append [] m ks ∙ ap (λ (l : List (Val × Val)). put_each l ks) (put_each-after [] m (none_below m) h)
 
 -- ---- what is made is a map
 
@@ -112,7 +112,7 @@ pub named : (r : RecordData) (vs : List Val) (ps kept : List (Val × Val)) (resu
     → OkOrOutOfMemory result (λ m. m ≡ put_all kept) → IsAnswer result (namespace_of r vs)
 named r vs ps kept (Ok m) e k h =
     let same : put_all (text_pairs ps)
-    ≡ text_pairs ps = put_each-behind [] (text_pairs ps) (none_below (text_pairs ps)) (map-text_pairs ps (dict_is_map r vs ps e)) in
+    ≡ text_pairs ps = put_each-after [] (text_pairs ps) (none_below (text_pairs ps)) (map-text_pairs ps (dict_is_map r vs ps e)) in
     rw e (ap Ok (sym (h ∙ (ap put_all k ∙ same))))
 named r vs ps kept (Err chain) e k h = λ m. absurd (cc (m, h))
 

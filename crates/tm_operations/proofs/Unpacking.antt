@@ -1,4 +1,4 @@
--- What unpacks is what `for` goes over; answers read, behind a test for being undefined.
+-- What unpacks is what `for` goes over; answers read, after a test for being undefined.
 use Rattle.std.proofs.Common.{◌≡◌, ℕ, Bool, true, false, cond, ◌==◌, List, length, Option, None, Some, Ok, Err, refl}
 use Rattle.tm_definitions.specs.Iteration.{IsAnswerRead, exactly, namespace_keys, UnpacksAsIterated}
 use Rattle.tm_values.specs.Defined.{unless}

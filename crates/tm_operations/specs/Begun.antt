@@ -32,19 +32,19 @@ made_of kind.Keywords ps = keywords ps
 made_of (kind.Module s) ps = exports ps s
 
 -- the list of these items, and of those that are left
-abbrev pub list_behind : RecordData → ℕ → List Val → Vals → Answer Val
-list_behind r levels done rest = map_ok (λ vs. list (before_items done vs)) (mapped_items (namespace_mapped r levels) rest)
+abbrev pub list_after : RecordData → ℕ → List Val → Vals → Answer Val
+list_after r levels done rest = map_ok (λ vs. list (before_items done vs)) (mapped_items (namespace_mapped r levels) rest)
 
 -- the same of pairs
-abbrev pub map_behind : RecordData → Kind → ℕ → List (Val × Val) → Pairs → Answer Val
-map_behind r k levels done rest = map_ok (λ ps. made_of k (before_pairs done ps)) (mapped_pairs (namespace_mapped r levels) rest)
+abbrev pub map_after : RecordData → Kind → ℕ → List (Val × Val) → Pairs → Answer Val
+map_after r k levels done rest = map_ok (λ ps. made_of k (before_pairs done ps)) (mapped_pairs (namespace_mapped r levels) rest)
 
 -- ---------------------------------------------------------------- what was begun
 -- what it becomes, once its part is made
 abbrev pub resumed : RecordData → Begun → Answer Val → Answer Val
-resumed r (begun.List b) part = with_ok part (λ x. list_behind r b.levels (b.done.items ++ x ∷ []) (vals_of b.rest.now))
+resumed r (begun.List b) part = with_ok part (λ x. list_after r b.levels (b.done.items ++ x ∷ []) (vals_of b.rest.now))
 resumed r (begun.Map b) part =
-    with_ok part (λ x. map_behind r b.kind b.levels (b.done.items ++ (b.key, x) ∷ []) (pairs_of b.rest.now))
+    with_ok part (λ x. map_after r b.kind b.levels (b.done.items ++ (b.key, x) ∷ []) (pairs_of b.rest.now))
 
 -- what the outermost becomes, once the innermost's part is made, which stands last
 abbrev pub outermost : RecordData → List Begun → Answer Val → Answer Val

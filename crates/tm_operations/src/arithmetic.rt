@@ -165,21 +165,21 @@ fn not_numbers(alloc: Global) -> Error
 fn add_text(alloc: Global, mut content: SharedText, right: &Value) -> Result<Value, Error>
     ensures { IsAnswer result (text_added content (text_in right.now)) }
 {
-    let Some(behind) = right.as_str() else {
+    let Some(after) = right.as_str() else {
         return Err(not_numbers(alloc));
     };
-    content.append(behind)?;
+    content.append(after)?;
     Ok(Value::shared_text(content, false))
 }
 
 fn add_list(alloc: Global, items: &[Value], right: &Value) -> Result<Value, Error>
     ensures { IsAnswer result (list_added items.now (list_in right.now)) }
 {
-    let Some(behind) = right.as_list() else {
+    let Some(after) = right.as_list() else {
         return Err(not_numbers(alloc));
     };
     let mut joined = Vec::with_capacity(alloc, items.len())?;
     share_all(items, &mut joined)?;
-    share_all(behind, &mut joined)?;
+    share_all(after, &mut joined)?;
     Value::list(alloc, joined)
 }

@@ -3,7 +3,7 @@
 ghost use Rattle.std.specs.Prelude.{◌≡◌, ◌+◌, ◌<◌, ◌≤◌, ◌++◌, ◌∷◌, [], false, length, IfErr, IfOk, Ok, OnOk};
 ghost use Rattle.tm_definitions.specs.Mapped.{mapped_within, namespace_mapped, with_maps};
 ghost use Rattle.tm_operations.specs.Begun.{AllAscend, Ascends, comes_to, items_left, left_in, left_in_all};
-ghost use Rattle.tm_operations.specs.Begun.{left_to_make, list_behind, made_of, map_behind, outermost, pairs_left};
+ghost use Rattle.tm_operations.specs.Begun.{left_to_make, list_after, made_of, map_after, outermost, pairs_left};
 ghost use Rattle.tm_operations.specs.Begun.{left_of_next, namespace_weight, part_next, resumed, weight};
 ghost use Rattle.tm_values.specs.Answer.{IsAnswer, OkOrOutOfMemory, is_memory_alone};
 ghost use Rattle.tm_values.specs.Map.{IsMap};
@@ -29,7 +29,7 @@ pub enum Kind {
 pub struct BegunList<'a> {
     /// How deep namespaces may lie in it.
     pub levels: usize,
-    /// The items behind that one.
+    /// The items after that one.
     pub rest: &'a [Value],
     /// What the items before it are.
     pub done: Vec<Value>,
@@ -44,7 +44,7 @@ pub struct BegunMap<'a> {
     pub levels: usize,
     /// The key of that value.
     pub key: Value,
-    /// The pairs behind that key's.
+    /// The pairs after that key's.
     pub rest: &'a [(Value, Value)],
     /// What the pairs before it are.
     pub done: Vec<(Value, Value)>,
@@ -162,7 +162,7 @@ fn all_pairs<'a>(
 ) -> Result<Next<'a>, Error>
     requires { IsMap pairs.now }
     ensures ok { IfOk result (λ n. (r : RecordData) → comes_to r begun.new.items n
-        ≡ outermost r begun.old.items (map_behind r kind levels [] (pairs_of pairs.now))) }
+        ≡ outermost r begun.old.items (map_after r kind levels [] (pairs_of pairs.now))) }
     ensures err { IfErr result (λ e. e ≡ ErrorKind.OutOfMemory ∷ []) }
     ensures ascend { AllAscend begun.old.items → OnOk result (AllAscend begun.new.items) }
     ensures no_more { IfOk result (λ n. (r : RecordData) → left_to_make r begun.new.items n
@@ -219,7 +219,7 @@ fn next_item<'a>(
     begun: &mut Vec<Begun<'a>>,
 ) -> Result<Next<'a>, Error>
     ensures ok { IfOk result (λ n. (r : RecordData) → comes_to r begun.new.items n
-        ≡ outermost r begun.old.items (list_behind r levels done.items (vals_of rest.now))) }
+        ≡ outermost r begun.old.items (list_after r levels done.items (vals_of rest.now))) }
     ensures err { IfErr result (λ e. e ≡ ErrorKind.OutOfMemory ∷ []) }
     ensures ascend { AllAscend begun.old.items → OnOk result (AllAscend begun.new.items) }
     ensures no_more { IfOk result (λ n. (r : RecordData) → left_to_make r begun.new.items n
@@ -243,7 +243,7 @@ fn next_pair<'a>(
 ) -> Result<Next<'a>, Error>
     requires { IsMap (done.items ++ rest.now) }
     ensures ok { IfOk result (λ n. (r : RecordData) → comes_to r begun.new.items n
-        ≡ outermost r begun.old.items (map_behind r kind levels done.items (pairs_of rest.now))) }
+        ≡ outermost r begun.old.items (map_after r kind levels done.items (pairs_of rest.now))) }
     ensures err { IfErr result (λ e. e ≡ ErrorKind.OutOfMemory ∷ []) }
     ensures ascend { AllAscend begun.old.items → OnOk result (AllAscend begun.new.items) }
     ensures no_more { IfOk result (λ n. (r : RecordData) → left_to_make r begun.new.items n

@@ -77,7 +77,7 @@ fn base<'a, R: Records>(
     }
 }
 
-/// Puts a second owner of each pair behind those that are there. Fails by OutOfMemory alone.
+/// Puts a second owner of each pair after those that are there. Fails by OutOfMemory alone.
 pub(crate) fn share_pairs(
     pairs: &[(Value, Value)],
     out: &mut Vec<(Value, Value)>,

@@ -13,7 +13,7 @@ use tm_values::{
     find_namespace,
 };
 
-/// The items of values that stand behind `*` in a call, one after the other: those that `for` goes
+/// The items of values that stand after `*` in a call, one after the other: those that `for` goes
 /// over, and none of undefined. InvalidOperation for values without items and for a namespace
 /// whose record isn't there, or OutOfMemory.
 pub fn spread_items<R: Records>(
@@ -48,7 +48,7 @@ fn add_items<R: Records>(
     share_values(found.as_slice(), all)
 }
 
-// Puts a second owner of each value behind those that are there.
+// Puts a second owner of each value after those that are there.
 fn share_values(values: &[Value], all: &mut Vec<Value>) -> Result<(), Error>
     ensures { AddsValues result (Ok values.now) all.old.items all.new.items }
 {
@@ -59,7 +59,7 @@ fn share_values(values: &[Value], all: &mut Vec<Value>) -> Result<(), Error>
     Ok(())
 }
 
-/// The map of what stands behind `**` in a call, and of keywords: the pairs of maps, keyword maps,
+/// The map of what stands after `**` in a call, and of keywords: the pairs of maps, keyword maps,
 /// modules and namespaces; of equal keys the last value counts. UndefinedError where a value is
 /// undefined and the behaviour refuses that; InvalidOperation for other values and for a namespace
 /// whose record isn't there, or OutOfMemory.

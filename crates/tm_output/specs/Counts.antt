@@ -7,7 +7,7 @@ pub record Tally (W : Type 0) : Type 0 where
   pub writer : W
   pub failures : ℕ
 
--- a sink behind a limit, how many bytes it may still take, and how many calls failed or took nothing
+-- a sink after a limit, how many bytes it may still take, and how many calls failed or took nothing
 pub record Bounded (S : Type 0) : Type 0 where
   pub sink : S
   pub left : ℕ

@@ -55,7 +55,7 @@ appends_then_beginning a b c x y first (n, second) = (
       (appends_then a b c x (take n y) first second),
 )
 
--- the same, with a text behind both
+-- the same, with a text after both
 pub appends_then_beginning_longer :
     (a b c : Option (List ℕ)) (x y z : List ℕ)
     → Appends a b x → AppendsBeginning b c y → AppendsBeginning a c (x ++ (y ++ z))

@@ -33,15 +33,15 @@ StringGrows bytes old text new = Grows (bytes old) text (bytes new)
 abbrev pub StringGrowsInPart : {S : Type 0} → (S → List ℕ) → S → List ℕ → S → Type 0
 StringGrowsInPart bytes old text new = GrowsInPart (bytes old) text (bytes new)
 
--- a writer is told the text, and no call failed
+-- a writer was given the text, and no call failed
 abbrev pub IsToldWhole : Option (List ℕ) → ℕ → List ℕ → Option (List ℕ) → ℕ → Type 0
 IsToldWhole old failures text new count = Appends old new text × (count ≡ failures)
 
--- a writer is told a beginning of the text, and a call failed
+-- a writer was given a beginning of the text, and a call failed
 abbrev pub IsToldInPart : Option (List ℕ) → ℕ → List ℕ → Option (List ℕ) → ℕ → Type 0
 IsToldInPart old failures text new count = AppendsBeginning old new text × (count ≡ saturating_increment failures)
 
--- the same of a writer, before and after, seen by what it was told and by its failures
+-- the same of a writer, before and after, seen by what it was given and by its failures
 abbrev pub WriterTakes :
     {S : Type 0} → (S → Option (List ℕ)) → (S → ℕ) → S → List ℕ → S → Type 0
 WriterTakes told failures old text new = IsToldWhole (told old) (failures old) text (told new) (failures new)

@@ -19,7 +19,7 @@ pub trait Target {
     // What it is after it took a beginning of the text and then failed.
     ghost stopped: { Self → List ℕ → Self → Type 0 };
 
-    /// Takes the text behind what it took before; where it fails, it took a beginning.
+    /// Takes the text after what it took before; where it fails, it took a beginning.
     fn take_text(&mut self, text: &str) -> Result<(), TargetFailed>
         ensures { Takes took stopped result self.old text.now self.new };
 

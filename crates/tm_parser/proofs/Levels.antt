@@ -105,15 +105,15 @@ module _ (i : Inside) where
       option_and_then (λ y. go y.0 y.1) (option_and_then (λ x. option_and_then (λ s. got (chained x.0 s.0) s.1) (steps x.1)) o) ≡
       option_and_then (λ x. option_and_then (λ s. go (chained x.0 s.0) s.1) (steps x.1)) o
   regrouped steps go None = refl
-  regrouped steps go (Some x) = behind (steps x.1)
+  regrouped steps go (Some x) = after (steps x.1)
     where
-      behind : (o : Read Token (List Step)) →
+      after : (o : Read Token (List Step)) →
           option_and_then (λ y. go y.0 y.1) (option_and_then (λ s. got (chained x.0 s.0) s.1) o) ≡
           option_and_then (λ s. go (chained x.0 s.0) s.1) o
-      behind None = refl
-      behind (Some s) = refl
+      after None = refl
+      after (Some s) = refl
 
-  -- an operand of a level, and the steps of levels behind it, from an operand of a lower level on
+  -- an operand of a level, and the steps of levels after it, from an operand of a lower level on
   down : (n all m level k : ℕ) (ts : List Token) → all ≡ n + m → level ≡ n + k →
       ((j : ℕ) → k < j → j ≤ level → (prefix j).sees ts ≡ None) →
       (operand i level >>= climbed i m level).reads ts ≡ (operand i k >>= climbed i all k).reads ts

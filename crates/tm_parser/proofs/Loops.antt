@@ -28,18 +28,18 @@ module _ {T A B : Type 0} (p : Look T A) (part : A → B → Rule T B) where
   abbrev becomes : B → List T → Read T B
   becomes x = (grow p part x).reads
 
-  pub grows_on : (x : B) (ts : List T) (whole : Read T B) (a : A) (behind : List T) (y : B) (rest : List T) →
-      becomes x ts ≡ whole → p.sees ts ≡ got a behind → (part a x).reads behind ≡ got y rest → becomes y rest ≡ whole
-  grows_on x ts whole a behind y rest so seen read = sym (growth.grow_some p part x ts a behind y rest seen read) ∙ so
+  pub grows_on : (x : B) (ts : List T) (whole : Read T B) (a : A) (after : List T) (y : B) (rest : List T) →
+      becomes x ts ≡ whole → p.sees ts ≡ got a after → (part a x).reads after ≡ got y rest → becomes y rest ≡ whole
+  grows_on x ts whole a after y rest so seen read = sym (growth.grow_some p part x ts a after y rest seen read) ∙ so
 
-  pub grows_nearer : (x : B) (ts : List T) (a : A) (behind : List T) (y : B) (rest : List T) →
-      p.sees ts ≡ got a behind → (part a x).reads behind ≡ got y rest → length rest < length ts
-  grows_nearer x ts a behind y rest seen read =
-      omega (arith, p.nearer ts a behind seen, (part a x).shorter behind y rest ((part a x).sound behind y rest read))
+  pub grows_nearer : (x : B) (ts : List T) (a : A) (after : List T) (y : B) (rest : List T) →
+      p.sees ts ≡ got a after → (part a x).reads after ≡ got y rest → length rest < length ts
+  grows_nearer x ts a after y rest seen read =
+      omega (arith, p.nearer ts a after seen, (part a x).shorter after y rest ((part a x).sound after y rest read))
 
-  pub grows_not : (x : B) (ts : List T) (whole : Read T B) (a : A) (behind : List T) (chain : List ErrorKind) →
-      becomes x ts ≡ whole → p.sees ts ≡ got a behind → Refused chain ((part a x).reads behind ≡ None) → Refused chain (whole ≡ None)
-  grows_not x ts whole a behind chain so seen refused = because chain (λ none. sym so ∙ growth.grow_fails p part x ts a behind seen none)
+  pub grows_not : (x : B) (ts : List T) (whole : Read T B) (a : A) (after : List T) (chain : List ErrorKind) →
+      becomes x ts ≡ whole → p.sees ts ≡ got a after → Refused chain ((part a x).reads after ≡ None) → Refused chain (whole ≡ None)
+  grows_not x ts whole a after chain so seen refused = because chain (λ none. sym so ∙ growth.grow_fails p part x ts a after seen none)
       refused
 
   pub is_grown : (x : B) (ts : List T) (whole : Read T B) (rest : List T) → becomes x ts ≡ whole → (p.sees ts ≡ None) × (rest ≡ ts) →
@@ -54,16 +54,16 @@ module _ {T A B : Type 0} (p : Look T A) (item : A → Rule T B) where
   abbrev longer : A → List B → Rule T (List B)
   longer a xs = one_more (item a) xs
 
-  pub goes_on : (xs : List B) (ts : List T) (whole : Read T (List B)) (a : A) (behind : List T) (ys : List B) (rest : List T) →
-      reads xs ts ≡ whole → p.sees ts ≡ got a behind → (one_more (item a) xs).reads behind ≡ got ys rest → reads ys rest ≡ whole
+  pub goes_on : (xs : List B) (ts : List T) (whole : Read T (List B)) (a : A) (after : List T) (ys : List B) (rest : List T) →
+      reads xs ts ≡ whole → p.sees ts ≡ got a after → (one_more (item a) xs).reads after ≡ got ys rest → reads ys rest ≡ whole
   goes_on = grows_on p longer
 
-  pub comes_nearer : (xs : List B) (ts : List T) (a : A) (behind : List T) (ys : List B) (rest : List T) →
-      p.sees ts ≡ got a behind → (one_more (item a) xs).reads behind ≡ got ys rest → length rest < length ts
+  pub comes_nearer : (xs : List B) (ts : List T) (a : A) (after : List T) (ys : List B) (rest : List T) →
+      p.sees ts ≡ got a after → (one_more (item a) xs).reads after ≡ got ys rest → length rest < length ts
   comes_nearer = grows_nearer p longer
 
-  pub refuses : (xs : List B) (ts : List T) (whole : Read T (List B)) (a : A) (behind : List T) (chain : List ErrorKind) →
-      reads xs ts ≡ whole → p.sees ts ≡ got a behind → Refused chain ((one_more (item a) xs).reads behind ≡ None) →
+  pub refuses : (xs : List B) (ts : List T) (whole : Read T (List B)) (a : A) (after : List T) (chain : List ErrorKind) →
+      reads xs ts ≡ whole → p.sees ts ≡ got a after → Refused chain ((one_more (item a) xs).reads after ≡ None) →
       Refused chain (whole ≡ None)
   refuses = grows_not p longer
 
@@ -73,21 +73,21 @@ module _ {T A B : Type 0} (p : Look T A) (item : A → Rule T B) where
 
 -- the same of items between commas
 module _ {A : Type 0} (close : Sign) (item : Rule Token A) where
-  pub comma_goes_on : (xs ys : List A) (ts behind rest : List Token) (whole : Read Token (List A)) →
+  pub comma_goes_on : (xs ys : List A) (ts after rest : List Token) (whole : Read Token (List A)) →
       (more_items close item xs).reads ts ≡ whole →
-      (comma close).sees ts ≡ got tt behind → (one_more item xs).reads behind ≡ got ys rest → (more_items close item ys).reads rest ≡ whole
+      (comma close).sees ts ≡ got tt after → (one_more item xs).reads after ≡ got ys rest → (more_items close item ys).reads rest ≡ whole
   unfolding more_items
-  comma_goes_on xs ys ts behind rest whole = goes_on (comma close) (λ _. item) xs ts whole tt behind ys rest
+  comma_goes_on xs ys ts after rest whole = goes_on (comma close) (λ _. item) xs ts whole tt after ys rest
 
-  pub comma_comes_nearer : (xs ys : List A) (ts behind rest : List Token) → (comma close).sees ts ≡ got tt behind →
-      (one_more item xs).reads behind ≡ got ys rest → length rest < length ts
-  comma_comes_nearer xs ys ts behind rest = comes_nearer (comma close) (λ _. item) xs ts tt behind ys rest
+  pub comma_comes_nearer : (xs ys : List A) (ts after rest : List Token) → (comma close).sees ts ≡ got tt after →
+      (one_more item xs).reads after ≡ got ys rest → length rest < length ts
+  comma_comes_nearer xs ys ts after rest = comes_nearer (comma close) (λ _. item) xs ts tt after ys rest
 
-  pub comma_refuses : (xs : List A) (ts behind : List Token) (whole : Read Token (List A)) (chain : List ErrorKind) →
+  pub comma_refuses : (xs : List A) (ts after : List Token) (whole : Read Token (List A)) (chain : List ErrorKind) →
       (more_items close item xs).reads ts ≡ whole →
-      (comma close).sees ts ≡ got tt behind → Refused chain ((one_more item xs).reads behind ≡ None) → Refused chain (whole ≡ None)
+      (comma close).sees ts ≡ got tt after → Refused chain ((one_more item xs).reads after ≡ None) → Refused chain (whole ≡ None)
   unfolding more_items
-  comma_refuses xs ts behind whole chain = refuses (comma close) (λ _. item) xs ts whole tt behind chain
+  comma_refuses xs ts after whole chain = refuses (comma close) (λ _. item) xs ts whole tt after chain
 
   pub comma_ends : (xs : List A) (ts rest : List Token) (whole : Read Token (List A)) → (more_items close item xs).reads ts ≡ whole →
       ((comma close).sees ts ≡ None) × (rest ≡ ts) → whole ≡ got xs rest
@@ -98,22 +98,22 @@ pub ruleset commas = (comma_goes_on, comma_comes_nearer, comma_refuses, comma_en
 
 -- the same of targets
 module _ (i : Inside) where
-  pub target_goes_on : (xs ys : List AssignmentTarget) (ts behind rest : List Token) (whole : Read Token (List AssignmentTarget)) →
+  pub target_goes_on : (xs ys : List AssignmentTarget) (ts after rest : List Token) (whole : Read Token (List AssignmentTarget)) →
       (more_targets i xs).reads ts ≡ whole →
-      target_comma.sees ts ≡ got tt behind → (one_more (single i) xs).reads behind ≡ got ys rest → (more_targets i ys).reads rest ≡ whole
+      target_comma.sees ts ≡ got tt after → (one_more (single i) xs).reads after ≡ got ys rest → (more_targets i ys).reads rest ≡ whole
   unfolding more_targets
-  target_goes_on xs ys ts behind rest whole = goes_on target_comma (λ _. single i) xs ts whole tt behind ys rest
+  target_goes_on xs ys ts after rest whole = goes_on target_comma (λ _. single i) xs ts whole tt after ys rest
 
-  pub target_comes_nearer : (xs ys : List AssignmentTarget) (ts behind rest : List Token) → target_comma.sees ts ≡ got tt behind →
-      (one_more (single i) xs).reads behind ≡ got ys rest → length rest < length ts
-  target_comes_nearer xs ys ts behind rest = comes_nearer target_comma (λ _. single i) xs ts tt behind ys rest
+  pub target_comes_nearer : (xs ys : List AssignmentTarget) (ts after rest : List Token) → target_comma.sees ts ≡ got tt after →
+      (one_more (single i) xs).reads after ≡ got ys rest → length rest < length ts
+  target_comes_nearer xs ys ts after rest = comes_nearer target_comma (λ _. single i) xs ts tt after ys rest
 
-  pub target_refuses : (xs : List AssignmentTarget) (ts behind : List Token) (whole : Read Token (List AssignmentTarget))
+  pub target_refuses : (xs : List AssignmentTarget) (ts after : List Token) (whole : Read Token (List AssignmentTarget))
       (chain : List ErrorKind) →
       (more_targets i xs).reads ts ≡ whole →
-      target_comma.sees ts ≡ got tt behind → Refused chain ((one_more (single i) xs).reads behind ≡ None) → Refused chain (whole ≡ None)
+      target_comma.sees ts ≡ got tt after → Refused chain ((one_more (single i) xs).reads after ≡ None) → Refused chain (whole ≡ None)
   unfolding more_targets
-  target_refuses xs ts behind whole chain = refuses target_comma (λ _. single i) xs ts whole tt behind chain
+  target_refuses xs ts after whole chain = refuses target_comma (λ _. single i) xs ts whole tt after chain
 
   pub target_ends : (xs : List AssignmentTarget) (ts rest : List Token) (whole : Read Token (List AssignmentTarget)) →
       (more_targets i xs).reads ts ≡ whole →
@@ -125,20 +125,20 @@ pub ruleset target_commas = (target_goes_on, target_comes_nearer, target_refuses
 
 -- the same of arguments
 module _ (i : Inside) where
-  pub passed_goes_on : (x y : Passed) (ts behind rest : List Token) (all : Read Token Passed) → (more_passed i x).reads ts ≡ all →
-      (comma sign.CloseRound).sees ts ≡ got tt behind → (one_passed i x).reads behind ≡ got y rest → (more_passed i y).reads rest ≡ all
+  pub passed_goes_on : (x y : Passed) (ts after rest : List Token) (all : Read Token Passed) → (more_passed i x).reads ts ≡ all →
+      (comma sign.CloseRound).sees ts ≡ got tt after → (one_passed i x).reads after ≡ got y rest → (more_passed i y).reads rest ≡ all
   unfolding more_passed
-  passed_goes_on x y ts behind rest all = grows_on (comma sign.CloseRound) (λ _ xs. one_passed i xs) x ts all tt behind y rest
+  passed_goes_on x y ts after rest all = grows_on (comma sign.CloseRound) (λ _ xs. one_passed i xs) x ts all tt after y rest
 
-  pub passed_comes_nearer : (x y : Passed) (ts behind rest : List Token) → (comma sign.CloseRound).sees ts ≡ got tt behind →
-      (one_passed i x).reads behind ≡ got y rest → length rest < length ts
-  passed_comes_nearer x y ts behind rest = grows_nearer (comma sign.CloseRound) (λ _ xs. one_passed i xs) x ts tt behind y rest
+  pub passed_comes_nearer : (x y : Passed) (ts after rest : List Token) → (comma sign.CloseRound).sees ts ≡ got tt after →
+      (one_passed i x).reads after ≡ got y rest → length rest < length ts
+  passed_comes_nearer x y ts after rest = grows_nearer (comma sign.CloseRound) (λ _ xs. one_passed i xs) x ts tt after y rest
 
-  pub passed_refuses : (x : Passed) (ts behind : List Token) (all : Read Token Passed) (chain : List ErrorKind) →
+  pub passed_refuses : (x : Passed) (ts after : List Token) (all : Read Token Passed) (chain : List ErrorKind) →
       (more_passed i x).reads ts ≡ all →
-      (comma sign.CloseRound).sees ts ≡ got tt behind → Refused chain ((one_passed i x).reads behind ≡ None) → Refused chain (all ≡ None)
+      (comma sign.CloseRound).sees ts ≡ got tt after → Refused chain ((one_passed i x).reads after ≡ None) → Refused chain (all ≡ None)
   unfolding more_passed
-  passed_refuses x ts behind all chain = grows_not (comma sign.CloseRound) (λ _ xs. one_passed i xs) x ts all tt behind chain
+  passed_refuses x ts after all chain = grows_not (comma sign.CloseRound) (λ _ xs. one_passed i xs) x ts all tt after chain
 
   pub passed_ends : (x : Passed) (ts rest : List Token) (all : Read Token Passed) → (more_passed i x).reads ts ≡ all →
       ((comma sign.CloseRound).sees ts ≡ None) × (rest ≡ ts) → all ≡ got x rest
@@ -149,21 +149,21 @@ pub ruleset arguments = (passed_goes_on, passed_comes_nearer, passed_refuses, pa
 
 -- the same of what a loop goes over
 module _ (i : Inside) where
-  pub iterated_goes_on : (xs ys : List Expr) (ts behind rest : List Token) (all : Read Token (List Expr)) →
+  pub iterated_goes_on : (xs ys : List Expr) (ts after rest : List Token) (all : Read Token (List Expr)) →
       (more_iterated i xs).reads ts ≡ all →
-      iterated_comma.sees ts ≡ got tt behind → (one_more (whole i) xs).reads behind ≡ got ys rest → (more_iterated i ys).reads rest ≡ all
+      iterated_comma.sees ts ≡ got tt after → (one_more (whole i) xs).reads after ≡ got ys rest → (more_iterated i ys).reads rest ≡ all
   unfolding more_iterated
-  iterated_goes_on xs ys ts behind rest all = goes_on iterated_comma (λ _. whole i) xs ts all tt behind ys rest
+  iterated_goes_on xs ys ts after rest all = goes_on iterated_comma (λ _. whole i) xs ts all tt after ys rest
 
-  pub iterated_comes_nearer : (xs ys : List Expr) (ts behind rest : List Token) → iterated_comma.sees ts ≡ got tt behind →
-      (one_more (whole i) xs).reads behind ≡ got ys rest → length rest < length ts
-  iterated_comes_nearer xs ys ts behind rest = comes_nearer iterated_comma (λ _. whole i) xs ts tt behind ys rest
+  pub iterated_comes_nearer : (xs ys : List Expr) (ts after rest : List Token) → iterated_comma.sees ts ≡ got tt after →
+      (one_more (whole i) xs).reads after ≡ got ys rest → length rest < length ts
+  iterated_comes_nearer xs ys ts after rest = comes_nearer iterated_comma (λ _. whole i) xs ts tt after ys rest
 
-  pub iterated_refuses : (xs : List Expr) (ts behind : List Token) (all : Read Token (List Expr)) (chain : List ErrorKind) →
+  pub iterated_refuses : (xs : List Expr) (ts after : List Token) (all : Read Token (List Expr)) (chain : List ErrorKind) →
       (more_iterated i xs).reads ts ≡ all →
-      iterated_comma.sees ts ≡ got tt behind → Refused chain ((one_more (whole i) xs).reads behind ≡ None) → Refused chain (all ≡ None)
+      iterated_comma.sees ts ≡ got tt after → Refused chain ((one_more (whole i) xs).reads after ≡ None) → Refused chain (all ≡ None)
   unfolding more_iterated
-  iterated_refuses xs ts behind all chain = refuses iterated_comma (λ _. whole i) xs ts all tt behind chain
+  iterated_refuses xs ts after all chain = refuses iterated_comma (λ _. whole i) xs ts all tt after chain
 
   pub iterated_ends : (xs : List Expr) (ts rest : List Token) (all : Read Token (List Expr)) → (more_iterated i xs).reads ts ≡ all →
       (iterated_comma.sees ts ≡ None) × (rest ≡ ts) → all ≡ got xs rest
@@ -174,23 +174,23 @@ pub ruleset iterations = (iterated_goes_on, iterated_comes_nearer, iterated_refu
 
 -- the same of filters
 module _ (i : Inside) where
-  pub filter_goes_on : (xs ys : List Step) (ts behind rest : List Token) (all : Read Token (List Step)) →
+  pub filter_goes_on : (xs ys : List Step) (ts after rest : List Token) (all : Read Token (List Step)) →
       (more_filters i xs).reads ts ≡ all →
-      (first (is sign.Bar)).sees ts ≡ got tt behind → (one_more i.filter xs).reads behind ≡ got ys rest →
+      (first (is sign.Bar)).sees ts ≡ got tt after → (one_more i.filter xs).reads after ≡ got ys rest →
       (more_filters i ys).reads rest ≡ all
   unfolding more_filters
-  filter_goes_on xs ys ts behind rest all = goes_on (first (is sign.Bar)) (λ _. i.filter) xs ts all tt behind ys rest
+  filter_goes_on xs ys ts after rest all = goes_on (first (is sign.Bar)) (λ _. i.filter) xs ts all tt after ys rest
 
-  pub filter_comes_nearer : (xs ys : List Step) (ts behind rest : List Token) → (first (is sign.Bar)).sees ts ≡ got tt behind →
-      (one_more i.filter xs).reads behind ≡ got ys rest → length rest < length ts
-  filter_comes_nearer xs ys ts behind rest = comes_nearer (first (is sign.Bar)) (λ _. i.filter) xs ts tt behind ys rest
+  pub filter_comes_nearer : (xs ys : List Step) (ts after rest : List Token) → (first (is sign.Bar)).sees ts ≡ got tt after →
+      (one_more i.filter xs).reads after ≡ got ys rest → length rest < length ts
+  filter_comes_nearer xs ys ts after rest = comes_nearer (first (is sign.Bar)) (λ _. i.filter) xs ts tt after ys rest
 
-  pub filter_refuses : (xs : List Step) (ts behind : List Token) (all : Read Token (List Step)) (chain : List ErrorKind) →
+  pub filter_refuses : (xs : List Step) (ts after : List Token) (all : Read Token (List Step)) (chain : List ErrorKind) →
       (more_filters i xs).reads ts ≡ all →
-      (first (is sign.Bar)).sees ts ≡ got tt behind → Refused chain ((one_more i.filter xs).reads behind ≡ None) →
+      (first (is sign.Bar)).sees ts ≡ got tt after → Refused chain ((one_more i.filter xs).reads after ≡ None) →
       Refused chain (all ≡ None)
   unfolding more_filters
-  filter_refuses xs ts behind all chain = refuses (first (is sign.Bar)) (λ _. i.filter) xs ts all tt behind chain
+  filter_refuses xs ts after all chain = refuses (first (is sign.Bar)) (λ _. i.filter) xs ts all tt after chain
 
   pub filter_ends : (xs : List Step) (ts rest : List Token) (all : Read Token (List Step)) → (more_filters i xs).reads ts ≡ all →
       ((first (is sign.Bar)).sees ts ≡ None) × (rest ≡ ts) → all ≡ got xs rest
@@ -200,20 +200,20 @@ module _ (i : Inside) where
 pub ruleset bars = (filter_goes_on, filter_comes_nearer, filter_refuses, filter_ends)
 
 -- the same of the names of a dotted name
-pub part_goes_on : (x y : List ℕ) (ts behind rest : List Token) (all : Read Token (List ℕ)) → (more_parts x).reads ts ≡ all →
-    (first (is sign.Dot)).sees ts ≡ got tt behind → (one_part x).reads behind ≡ got y rest → (more_parts y).reads rest ≡ all
+pub part_goes_on : (x y : List ℕ) (ts after rest : List Token) (all : Read Token (List ℕ)) → (more_parts x).reads ts ≡ all →
+    (first (is sign.Dot)).sees ts ≡ got tt after → (one_part x).reads after ≡ got y rest → (more_parts y).reads rest ≡ all
 unfolding more_parts
-part_goes_on x y ts behind rest all = grows_on (first (is sign.Dot)) (λ _ name. one_part name) x ts all tt behind y rest
+part_goes_on x y ts after rest all = grows_on (first (is sign.Dot)) (λ _ name. one_part name) x ts all tt after y rest
 
-pub part_comes_nearer : (x y : List ℕ) (ts behind rest : List Token) → (first (is sign.Dot)).sees ts ≡ got tt behind →
-    (one_part x).reads behind ≡ got y rest → length rest < length ts
-part_comes_nearer x y ts behind rest = grows_nearer (first (is sign.Dot)) (λ _ name. one_part name) x ts tt behind y rest
+pub part_comes_nearer : (x y : List ℕ) (ts after rest : List Token) → (first (is sign.Dot)).sees ts ≡ got tt after →
+    (one_part x).reads after ≡ got y rest → length rest < length ts
+part_comes_nearer x y ts after rest = grows_nearer (first (is sign.Dot)) (λ _ name. one_part name) x ts tt after y rest
 
-pub part_refuses : (x : List ℕ) (ts behind : List Token) (all : Read Token (List ℕ)) (chain : List ErrorKind) →
+pub part_refuses : (x : List ℕ) (ts after : List Token) (all : Read Token (List ℕ)) (chain : List ErrorKind) →
     (more_parts x).reads ts ≡ all →
-    (first (is sign.Dot)).sees ts ≡ got tt behind → Refused chain ((one_part x).reads behind ≡ None) → Refused chain (all ≡ None)
+    (first (is sign.Dot)).sees ts ≡ got tt after → Refused chain ((one_part x).reads after ≡ None) → Refused chain (all ≡ None)
 unfolding more_parts
-part_refuses x ts behind all chain = grows_not (first (is sign.Dot)) (λ _ name. one_part name) x ts all tt behind chain
+part_refuses x ts after all chain = grows_not (first (is sign.Dot)) (λ _ name. one_part name) x ts all tt after chain
 
 pub part_ends : (x : List ℕ) (ts rest : List Token) (all : Read Token (List ℕ)) → (more_parts x).reads ts ≡ all →
     ((first (is sign.Dot)).sees ts ≡ None) × (rest ≡ ts) → all ≡ got x rest

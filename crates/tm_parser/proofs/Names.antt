@@ -30,17 +30,17 @@ pub names_of_if_else : (x : Expr) (body other : List Stmt) → names_of (stmts.I
 unfolding hidden row shape-the_row-Stmt-0
 names_of_if_else x body other = refl
 
-pub names_behind : Option (List Stmt) → List (List ℕ)
-names_behind None = []
-names_behind (Some other) = block_names other
+pub names_after : Option (List Stmt) → List (List ℕ)
+names_after None = []
+names_after (Some other) = block_names other
 
 for_either : (l : ForLoop) (other : Option (List Stmt)) → names_of (stmts.For (record l { other = other })) ≡ block_names l.body ++
-    names_behind other
-unfolding hidden row shape-the_row-Stmt-0 names_behind
+    names_after other
+unfolding hidden row shape-the_row-Stmt-0 names_after
 for_either l None = refl
 for_either l (Some other) = refl
 
-pub names_of_for : (l : ForLoop) → names_of (stmts.For l) ≡ block_names l.body ++ names_behind l.other
+pub names_of_for : (l : ForLoop) → names_of (stmts.For l) ≡ block_names l.body ++ names_after l.other
 names_of_for l = for_either l l.other
 
 pub names_of_block : (name : List ℕ) (required : Bool) (body : List Stmt) →
@@ -58,7 +58,7 @@ names_of_call c = refl
 
 pub ruleset forms = (names_of_if, names_of_if_else, names_of_for, names_of_block, names_of_macro, names_of_call)
 
--- the loop over statements: what is left behind one, and behind the last
+-- the loop over statements: what is left after one, and after the last
 pub one_more : (old new goal : List (List ℕ)) (ss : List Stmt) (k : ℕ) (s : Stmt) → k < length ss → s ≡ get_or ss k s →
     new ≡ old ++ names_of s →
     old ++ block_names (drop k ss) ≡ goal → new ++ block_names (drop (k + 1) ss) ≡ goal

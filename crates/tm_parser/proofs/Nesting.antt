@@ -1,4 +1,4 @@
--- One nesting less, what stands behind a value or a comparison, and what is a target.
+-- One nesting less, what stands after a value or a comparison, and what is a target.
 use Rattle.std.specs.Prelude.{option_map}
 use Rattle.std.proofs.Common.{◌≡◌, ℕ, zero, suc, ◌-◌, Bool, true, false, List, [], ◌∷◌, ◌++◌, None, Some, refl, sym, ap, arith, ◌∙◌}
 use Rattle.tm_syntax.specs.declared.token.Tag.{Tag}
@@ -102,21 +102,21 @@ pub ruleset targets = (no_target, inner_target)
 pub lone_of : (x : Expr) (ss : List Step) → ss ≡ [] → target_of x ss ≡ lone_target x
 lone_of x ss h = ap (target_of x) h
 
-behind_all : (x : Expr) (before : List Step) (s : Step) → target_of x (before ++ s ∷ []) ≡ last_target x before s
-behind_all x [] s = refl
-behind_all x (b ∷ before) s = ap (λ (w : List Step × Step). last_target x w.0 w.1) (last_split b before s)
+after_all : (x : Expr) (before : List Step) (s : Step) → target_of x (before ++ s ∷ []) ≡ last_target x before s
+after_all x [] s = refl
+after_all x (b ∷ before) s = ap (λ (w : List Step × Step). last_target x w.0 w.1) (last_split b before s)
   where
     last_split : (b : Step) (before : List Step) (s : Step) → split_last b (before ++ s ∷ []) ≡ (b ∷ before, s)
     last_split b [] s = refl
     last_split b (c ∷ before) s = ap (λ (w : List Step × Step). (b ∷ w.0, w.1)) (last_split c before s)
 
 pub no_attribute : (x : Expr) (ss before : List Step) (s : Step) → ss ≡ before ++ s ∷ [] → attribute_name s ≡ None → target_of x ss ≡ None
-no_attribute x ss before s h none = ap (target_of x) h ∙ behind_all x before s ∙ ap
+no_attribute x ss before s h none = ap (target_of x) h ∙ after_all x before s ∙ ap
     (option_map (λ name. target_forms.Attribute (chained x before) name)) none
 
 pub an_attribute : (x : Expr) (ss before : List Step) (s : Step) (name : List ℕ) → ss ≡ before ++ s ∷ [] → attribute_name s ≡ Some name →
     target_of x ss ≡ Some (target_forms.Attribute (chained x before) name)
-an_attribute x ss before s name h some = ap (target_of x) h ∙ behind_all x before s ∙ ap
+an_attribute x ss before s name h some = ap (target_of x) h ∙ after_all x before s ∙ ap
     (option_map (λ name. target_forms.Attribute (chained x before) name)) some
 
 pub ruleset members = (lone_of, no_attribute, an_attribute)

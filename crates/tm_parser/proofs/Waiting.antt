@@ -1,4 +1,4 @@
--- What is left to be read behind operators that wait for their right sides.
+-- What is left to be read after operators that wait for their right sides.
 use Rattle.std.specs.Prelude.{is_some, nat_lt, option_and_then, option_map, Result, Ok, Err, IfOk}
 use Rattle.std.proofs.Common.{◌≡◌, ℕ, ◌+◌, ◌-◌, ◌<◌, ◌≤◌, true, false, List, [], ◌∷◌, ◌++◌, length, Option, None, Some}
 use Rattle.std.proofs.Common.{refl, sym, ap, subst, arith, ◌∙◌, length-append}
@@ -27,25 +27,25 @@ use Rattle.tm_grammar.specs.Rule.{Rule, Look}
 use Rattle.tm_grammar.specs.Growth as growth
 use Rattle.tm_grammar.specs.Combinators.{◌>>=◌, pure, grow, one_more, many_from}
 use Rattle.tm_parser.specs.Tokens.{link, postfix_level}
-use Rattle.tm_parser.specs.Grammar.{Inside, operand, step, steps_from, chained, compared, comparisons_from, behind_comparison}
+use Rattle.tm_parser.specs.Grammar.{Inside, operand, step, steps_from, chained, compared, comparisons_from, after_comparison}
 use Rattle.tm_parser.specs.Grammar.{operation, comparison, conjunction, disjunction, another_comparison}
 use Rattle.tm_parser.specs.Levels.{levels, climbed, operand_start, postfixed, GoesOnAt, EndsBefore}
-use Rattle.tm_parser.specs.Waiting.{role_of, made, again, step_of, completed, gone_on, behind_made, resumed, resumed_all, reached_from}
-use Rattle.tm_parser.specs.Waiting.{behind_postfix, AllAbove, size, IsLess}
+use Rattle.tm_parser.specs.Waiting.{role_of, made, again, step_of, completed, gone_on, after_made, resumed, resumed_all, reached_from}
+use Rattle.tm_parser.specs.Waiting.{after_postfix, AllAbove, size, IsLess}
 use Rattle.tm_parser.specs.declared.expressions.OperandStart.{OperandStart}
 use Rattle.tm_parser.proofs.Levels.{at_found, climbs, ends_climb, operand_from}
 
--- one part behind another, and that behind a third
+-- one part after another, and that after a third
 regrouped : {T A B C : Type 0} (f : A → List T → Read T B) (g : B → List T → Read T C) (o : Read T A) →
     option_and_then (λ y. g y.0 y.1) (option_and_then (λ x. f x.0 x.1) o) ≡
     option_and_then (λ x. option_and_then (λ y. g y.0 y.1) (f x.0 x.1)) o
 regrouped f g None = refl
 regrouped f g (Some x) = refl
 
-same_behind : {T A B : Type 0} (f g : A → List T → Read T B) → ((x : A) (ts : List T) → f x ts ≡ g x ts) → (o : Read T A) →
+same_after : {T A B : Type 0} (f g : A → List T → Read T B) → ((x : A) (ts : List T) → f x ts ≡ g x ts) → (o : Read T A) →
     option_and_then (λ x. f x.0 x.1) o ≡ option_and_then (λ x. g x.0 x.1) o
-same_behind f g same None = refl
-same_behind f g same (Some x) = same x.0 x.1
+same_after f g same None = refl
+same_after f g same (Some x) = same x.0 x.1
 
 itself : {T A : Type 0} (o : Read T A) → option_and_then (λ x. got x.0 x.1) o ≡ o
 itself None = refl
@@ -53,23 +53,23 @@ itself (Some x) = refl
 
 -- a value that grows by a part
 module _ {T A B : Type 0} (p : Look T A) (part : A → B → Rule T B) where
-  grows : (x : B) (ts : List T) (a : A) (behind : List T) → p.sees ts ≡ got a behind →
-      (grow p part x).reads ts ≡ option_and_then (λ y. (grow p part y.0).reads y.1) ((part a x).reads behind)
-  grows x ts a behind seen = by_part ((part a x).reads behind) refl
+  grows : (x : B) (ts : List T) (a : A) (after : List T) → p.sees ts ≡ got a after →
+      (grow p part x).reads ts ≡ option_and_then (λ y. (grow p part y.0).reads y.1) ((part a x).reads after)
+  grows x ts a after seen = by_part ((part a x).reads after) refl
     where
-      by_part : (o : Read T B) → (part a x).reads behind ≡ o →
-          (grow p part x).reads ts ≡ option_and_then (λ y. (grow p part y.0).reads y.1) ((part a x).reads behind)
-      by_part None e = growth.grow_fails p part x ts a behind seen e ∙ sym (ap (option_and_then (λ y. (grow p part y.0).reads y.1)) e)
+      by_part : (o : Read T B) → (part a x).reads after ≡ o →
+          (grow p part x).reads ts ≡ option_and_then (λ y. (grow p part y.0).reads y.1) ((part a x).reads after)
+      by_part None e = growth.grow_fails p part x ts a after seen e ∙ sym (ap (option_and_then (λ y. (grow p part y.0).reads y.1)) e)
       by_part (Some y) e =
-          growth.grow_some p part x ts a behind y.0 y.1 seen e ∙ sym (ap (option_and_then (λ y. (grow p part y.0).reads y.1)) e)
+          growth.grow_some p part x ts a after y.0 y.1 seen e ∙ sym (ap (option_and_then (λ y. (grow p part y.0).reads y.1)) e)
 
 -- a list that grows by an item
-longer : {T A B : Type 0} (p : Look T A) (item : A → Rule T B) (xs : List B) (ts : List T) (a : A) (behind : List T) →
-    p.sees ts ≡ got a behind →
-    (many_from p item xs).reads ts ≡ (item a >>= (λ x. many_from p item (xs ++ x ∷ []))).reads behind
-longer p item xs ts a behind seen =
-    grows p (λ a ys. one_more (item a) ys) xs ts a behind seen
-    ∙ regrouped (λ x rest. got (xs ++ x ∷ []) rest) (λ ys rest. (many_from p item ys).reads rest) ((item a).reads behind)
+longer : {T A B : Type 0} (p : Look T A) (item : A → Rule T B) (xs : List B) (ts : List T) (a : A) (after : List T) →
+    p.sees ts ≡ got a after →
+    (many_from p item xs).reads ts ≡ (item a >>= (λ x. many_from p item (xs ++ x ∷ []))).reads after
+longer p item xs ts a after seen =
+    grows p (λ a ys. one_more (item a) ys) xs ts a after seen
+    ∙ regrouped (λ x rest. got (xs ++ x ∷ []) rest) (λ ys rest. (many_from p item ys).reads rest) ((item a).reads after)
 
 pub above_more : (ws : List Waiting) (w : Waiting) → AllAbove ws → postfix_level < w.before.level → AllAbove (ws ++ w ∷ [])
 above_more [] w all above = (above, tt)
@@ -89,7 +89,7 @@ again_level r (makes.Step s) k next h = by_role (role_of k) h
     by_role None g = absurd (cc g)
     by_role (Some role) g = let same : stepped r s role ≡ next = cc in ap (λ (w : Waiting). w.before.level) (sym same)
 again_level r (makes.Row row) (links.Comparison op) next h =
-    let same : record { before = r; role = roles.Behind row op } ≡ next = cc in ap (λ (w : Waiting). w.before.level) (sym same)
+    let same : record { before = r; role = roles.After row op } ≡ next = cc in ap (λ (w : Waiting). w.before.level) (sym same)
 again_level r (makes.Row row) links.Member next h = absurd (cc h)
 again_level r (makes.Row row) links.Item next h = absurd (cc h)
 again_level r (makes.Row row) links.Call next h = absurd (cc h)
@@ -117,19 +117,19 @@ module _ (i : Inside) where
   role_step l links.Or role ts h =
       let same : roles.Or ≡ role = cc in ap (λ r. (operand i l >>= (λ y. completed i l (made r y))).reads ts) same
 
-  -- behind an operator of the level
-  gone_more : (r : Reading) (ss : List Step) (k : Link) (role : Role) (ts behind : List Token) →
-      (link r.level).sees ts ≡ got k behind → role_of k ≡ Some role →
+  -- after an operator of the level
+  gone_more : (r : Reading) (ss : List Step) (k : Link) (role : Role) (ts after : List Token) →
+      (link r.level).sees ts ≡ got k after → role_of k ≡ Some role →
       (gone_on i r ss).reads ts ≡
-      (operand i r.level >>= (λ y. completed i r.level (made role y) >>= (λ s. gone_on i r (ss ++ s ∷ [])))).reads behind
-  gone_more r ss k role ts behind seen h =
+      (operand i r.level >>= (λ y. completed i r.level (made role y) >>= (λ s. gone_on i r (ss ++ s ∷ [])))).reads after
+  gone_more r ss k role ts after seen h =
       ap (option_and_then (λ a. (levels i r.next r.end (chained r.value a.0)).reads a.1))
-      (longer (link r.level) (step i (operand i r.level) r.level) ss ts k behind seen)
+      (longer (link r.level) (step i (operand i r.level) r.level) ss ts k after seen)
       ∙ regrouped (λ s. (steps_from i (operand i r.level) r.level (ss ++ s ∷ [])).reads)
-      (λ a. (levels i r.next r.end (chained r.value a)).reads) ((step i (operand i r.level) r.level k).reads behind)
-      ∙ ap (option_and_then (λ s. (gone_on i r (ss ++ s.0 ∷ [])).reads s.1)) (role_step r.level k role behind h)
+      (λ a. (levels i r.next r.end (chained r.value a)).reads) ((step i (operand i r.level) r.level k).reads after)
+      ∙ ap (option_and_then (λ s. (gone_on i r (ss ++ s.0 ∷ [])).reads s.1)) (role_step r.level k role after h)
       ∙ regrouped (λ y. (completed i r.level (made role y)).reads) (λ s. (gone_on i r (ss ++ s ∷ [])).reads)
-      ((operand i r.level).reads behind)
+      ((operand i r.level).reads after)
 
   -- where no other one of the level stands
   gone_none : (r : Reading) (ss : List Step) (ts : List Token) → (link r.level).sees ts ≡ None →
@@ -140,76 +140,76 @@ module _ (i : Inside) where
   completed_none : (l : ℕ) (m : Made) (ts : List Token) → (link l).sees ts ≡ None → (completed i l m).reads ts ≡ got (step_of m) ts
   completed_none l (makes.Step s) ts none = refl
   completed_none l (makes.Row row) ts none = ap (option_and_then (λ cs. got (compared row.operator row.right cs.0) cs.1))
-      (growth.grow_none (link l) (λ a. one_more (behind_comparison (operand i l) a)) row.behind ts none)
+      (growth.grow_none (link l) (λ a. one_more (after_comparison (operand i l) a)) row.after ts none)
 
   made_ends : (r : Reading) (m : Made) (ts : List Token) → (link r.level).sees ts ≡ None →
-      (behind_made i r m).reads ts ≡ (levels i r.next r.end (chained r.value (r.steps ++ step_of m ∷ []))).reads ts
+      (after_made i r m).reads ts ≡ (levels i r.next r.end (chained r.value (r.steps ++ step_of m ∷ []))).reads ts
   made_ends r m ts none =
       ap (option_and_then (λ s. (gone_on i r (r.steps ++ s.0 ∷ [])).reads s.1)) (completed_none r.level m ts none)
       ∙ gone_none r (r.steps ++ step_of m ∷ []) ts none
 
-  row_more : (l : ℕ) (row : Row) (op : BinaryOperator) (ts behind : List Token) → (link l).sees ts ≡ got (links.Comparison op) behind →
-      (completed i l (makes.Row row)).reads ts ≡ (operand i l >>= (λ y. completed i l (made (roles.Behind row op) y))).reads behind
+  row_more : (l : ℕ) (row : Row) (op : BinaryOperator) (ts after : List Token) → (link l).sees ts ≡ got (links.Comparison op) after →
+      (completed i l (makes.Row row)).reads ts ≡ (operand i l >>= (λ y. completed i l (made (roles.After row op) y))).reads after
   unfolding another_comparison
-  row_more l row op ts behind seen =
+  row_more l row op ts after seen =
       ap (option_and_then (λ cs. got (compared row.operator row.right cs.0) cs.1))
-      (longer (link l) (behind_comparison (operand i l)) row.behind ts (links.Comparison op) behind seen)
-      ∙ regrouped (λ c. (comparisons_from (operand i l) l (row.behind ++ c ∷ [])).reads)
-      (λ cs. got (compared row.operator row.right cs)) ((another_comparison (operand i l) op).reads behind)
+      (longer (link l) (after_comparison (operand i l)) row.after ts (links.Comparison op) after seen)
+      ∙ regrouped (λ c. (comparisons_from (operand i l) l (row.after ++ c ∷ [])).reads)
+      (λ cs. got (compared row.operator row.right cs)) ((another_comparison (operand i l) op).reads after)
       ∙ regrouped (λ y rest. got (record { operator = op; right = y }) rest)
-      (λ (c : Comparison). (comparisons_from (operand i l) l (row.behind ++ c ∷ [])
-      >>= (λ cs. pure (compared row.operator row.right cs))).reads) ((operand i l).reads behind)
+      (λ (c : Comparison). (comparisons_from (operand i l) l (row.after ++ c ∷ [])
+      >>= (λ cs. pure (compared row.operator row.right cs))).reads) ((operand i l).reads after)
 
-  made_again : (r : Reading) (m : Made) (k : Link) (next : Waiting) (ts behind : List Token) → (link r.level).sees ts ≡ got k behind →
-      again r m k ≡ Some next → (behind_made i r m).reads ts ≡ (operand i r.level >>= resumed i next).reads behind
-  made_again r (makes.Step s) k next ts behind seen h = by_role (role_of k) refl h
+  made_again : (r : Reading) (m : Made) (k : Link) (next : Waiting) (ts after : List Token) → (link r.level).sees ts ≡ got k after →
+      again r m k ≡ Some next → (after_made i r m).reads ts ≡ (operand i r.level >>= resumed i next).reads after
+  made_again r (makes.Step s) k next ts after seen h = by_role (role_of k) refl h
     where
       by_role : (o : Option Role) → role_of k ≡ o → option_map (stepped r s) o ≡ Some next →
-          (behind_made i r (makes.Step s)).reads ts ≡ (operand i r.level >>= resumed i next).reads behind
+          (after_made i r (makes.Step s)).reads ts ≡ (operand i r.level >>= resumed i next).reads after
       by_role None e g = absurd (cc g)
       by_role (Some role) e g =
           let same : stepped r s role ≡ next = cc in
-          gone_more r (r.steps ++ s ∷ []) k role ts behind seen e ∙ ap (λ w. (operand i r.level >>= resumed i w).reads behind) same
-  made_again r (makes.Row row) (links.Comparison op) next ts behind seen h =
-      let same : record { before = r; role = roles.Behind row op } ≡ next = cc in
-      ap (option_and_then (λ s. (gone_on i r (r.steps ++ s.0 ∷ [])).reads s.1)) (row_more r.level row op ts behind seen)
-      ∙ regrouped (λ y. (completed i r.level (made (roles.Behind row op) y)).reads) (λ s. (gone_on i r (r.steps ++ s ∷ [])).reads)
-      ((operand i r.level).reads behind)
-      ∙ ap (λ w. (operand i r.level >>= resumed i w).reads behind) same
-  made_again r (makes.Row row) links.Member next ts behind seen h = absurd (cc h)
-  made_again r (makes.Row row) links.Item next ts behind seen h = absurd (cc h)
-  made_again r (makes.Row row) links.Call next ts behind seen h = absurd (cc h)
-  made_again r (makes.Row row) links.Filter next ts behind seen h = absurd (cc h)
-  made_again r (makes.Row row) links.Test next ts behind seen h = absurd (cc h)
-  made_again r (makes.Row row) (links.Operator op) next ts behind seen h = absurd (cc h)
-  made_again r (makes.Row row) links.And next ts behind seen h = absurd (cc h)
-  made_again r (makes.Row row) links.Or next ts behind seen h = absurd (cc h)
+          gone_more r (r.steps ++ s ∷ []) k role ts after seen e ∙ ap (λ w. (operand i r.level >>= resumed i w).reads after) same
+  made_again r (makes.Row row) (links.Comparison op) next ts after seen h =
+      let same : record { before = r; role = roles.After row op } ≡ next = cc in
+      ap (option_and_then (λ s. (gone_on i r (r.steps ++ s.0 ∷ [])).reads s.1)) (row_more r.level row op ts after seen)
+      ∙ regrouped (λ y. (completed i r.level (made (roles.After row op) y)).reads) (λ s. (gone_on i r (r.steps ++ s ∷ [])).reads)
+      ((operand i r.level).reads after)
+      ∙ ap (λ w. (operand i r.level >>= resumed i w).reads after) same
+  made_again r (makes.Row row) links.Member next ts after seen h = absurd (cc h)
+  made_again r (makes.Row row) links.Item next ts after seen h = absurd (cc h)
+  made_again r (makes.Row row) links.Call next ts after seen h = absurd (cc h)
+  made_again r (makes.Row row) links.Filter next ts after seen h = absurd (cc h)
+  made_again r (makes.Row row) links.Test next ts after seen h = absurd (cc h)
+  made_again r (makes.Row row) (links.Operator op) next ts after seen h = absurd (cc h)
+  made_again r (makes.Row row) links.And next ts after seen h = absurd (cc h)
+  made_again r (makes.Row row) links.Or next ts after seen h = absurd (cc h)
 
   -- where another link of the level may not stand
-  row_fails : (r : Reading) (row : Row) (k : Link) (ts behind : List Token) → (link r.level).sees ts ≡ got k behind →
-      (behind_comparison (operand i r.level) k).reads behind ≡ None → (behind_made i r (makes.Row row)).reads ts ≡ None
-  row_fails r row k ts behind seen none =
+  row_fails : (r : Reading) (row : Row) (k : Link) (ts after : List Token) → (link r.level).sees ts ≡ got k after →
+      (after_comparison (operand i r.level) k).reads after ≡ None → (after_made i r (makes.Row row)).reads ts ≡ None
+  row_fails r row k ts after seen none =
       ap (λ (cs : Read Token (List Comparison)). option_and_then (λ s. (gone_on i r (r.steps ++ s.0 ∷ [])).reads s.1)
       (option_and_then (λ cs. got (compared row.operator row.right cs.0) cs.1) cs))
-      (growth.grow_fails (link r.level) (λ a. one_more (behind_comparison (operand i r.level) a)) row.behind ts k behind seen
-      (ap (option_and_then (λ c. got (row.behind ++ c.0 ∷ []) c.1)) none))
+      (growth.grow_fails (link r.level) (λ a. one_more (after_comparison (operand i r.level) a)) row.after ts k after seen
+      (ap (option_and_then (λ c. got (row.after ++ c.0 ∷ []) c.1)) none))
 
-  made_fails : (r : Reading) (m : Made) (k : Link) (ts behind : List Token) → (link r.level).sees ts ≡ got k behind →
-      is_some (role_of k) ≡ true → again r m k ≡ None → (behind_made i r m).reads ts ≡ None
-  made_fails r (makes.Step s) k ts behind seen some h = by_role (role_of k) some h
+  made_fails : (r : Reading) (m : Made) (k : Link) (ts after : List Token) → (link r.level).sees ts ≡ got k after →
+      is_some (role_of k) ≡ true → again r m k ≡ None → (after_made i r m).reads ts ≡ None
+  made_fails r (makes.Step s) k ts after seen some h = by_role (role_of k) some h
     where
-      by_role : (o : Option Role) → is_some o ≡ true → option_map (stepped r s) o ≡ None → (behind_made i r (makes.Step s)).reads ts ≡ None
+      by_role : (o : Option Role) → is_some o ≡ true → option_map (stepped r s) o ≡ None → (after_made i r (makes.Step s)).reads ts ≡ None
       by_role None e g = absurd (cc e)
       by_role (Some role) e g = absurd (cc g)
-  made_fails r (makes.Row row) (links.Comparison op) ts behind seen some h = absurd (cc h)
-  made_fails r (makes.Row row) links.Member ts behind seen some h = row_fails r row links.Member ts behind seen refl
-  made_fails r (makes.Row row) links.Item ts behind seen some h = row_fails r row links.Item ts behind seen refl
-  made_fails r (makes.Row row) links.Call ts behind seen some h = row_fails r row links.Call ts behind seen refl
-  made_fails r (makes.Row row) links.Filter ts behind seen some h = row_fails r row links.Filter ts behind seen refl
-  made_fails r (makes.Row row) links.Test ts behind seen some h = row_fails r row links.Test ts behind seen refl
-  made_fails r (makes.Row row) (links.Operator op) ts behind seen some h = row_fails r row (links.Operator op) ts behind seen refl
-  made_fails r (makes.Row row) links.And ts behind seen some h = row_fails r row links.And ts behind seen refl
-  made_fails r (makes.Row row) links.Or ts behind seen some h = row_fails r row links.Or ts behind seen refl
+  made_fails r (makes.Row row) (links.Comparison op) ts after seen some h = absurd (cc h)
+  made_fails r (makes.Row row) links.Member ts after seen some h = row_fails r row links.Member ts after seen refl
+  made_fails r (makes.Row row) links.Item ts after seen some h = row_fails r row links.Item ts after seen refl
+  made_fails r (makes.Row row) links.Call ts after seen some h = row_fails r row links.Call ts after seen refl
+  made_fails r (makes.Row row) links.Filter ts after seen some h = row_fails r row links.Filter ts after seen refl
+  made_fails r (makes.Row row) links.Test ts after seen some h = row_fails r row links.Test ts after seen refl
+  made_fails r (makes.Row row) (links.Operator op) ts after seen some h = row_fails r row (links.Operator op) ts after seen refl
+  made_fails r (makes.Row row) links.And ts after seen some h = row_fails r row links.And ts after seen refl
+  made_fails r (makes.Row row) links.Or ts after seen some h = row_fails r row links.Or ts after seen refl
 
   -- the last one that waits takes the right side
   last_first : (ws : List Waiting) (w : Waiting) (y : Expr) (ts : List Token) →
@@ -219,22 +219,22 @@ module _ (i : Inside) where
       ap (option_and_then (λ x. (resumed i v x.0).reads x.1)) (last_first ws w y ts)
       ∙ regrouped (λ x. (resumed_all i ws x).reads) (λ x. (resumed i v x).reads) ((resumed i w y).reads ts)
 
-  -- what is read behind a right side of the last one that waits
+  -- what is read after a right side of the last one that waits
   pushed : (ws new : List Waiting) (next : Waiting) (l : ℕ) (ts : List Token) → new ≡ ws ++ next ∷ [] →
       (operand i l >>= resumed_all i new).reads ts ≡
       option_and_then (λ x. (resumed_all i ws x.0).reads x.1) ((operand i l >>= resumed i next).reads ts)
   pushed ws new next l ts e =
       ap (λ all. (operand i l >>= resumed_all i all).reads ts) e
-      ∙ same_behind (λ x. (resumed_all i (ws ++ next ∷ []) x).reads) (λ x. (resumed i next x >>= resumed_all i ws).reads)
+      ∙ same_after (λ x. (resumed_all i (ws ++ next ∷ []) x).reads) (λ x. (resumed i next x >>= resumed_all i ws).reads)
       (λ x rest. last_first ws next x rest) ((operand i l).reads ts)
       ∙ sym (regrouped (λ x. (resumed i next x).reads) (λ x. (resumed_all i ws x).reads) ((operand i l).reads ts))
 
   popped : (ws all : List Waiting) (w : Waiting) (y : Expr) (ts : List Token) → all ≡ ws ++ w ∷ [] →
       (resumed_all i all y).reads ts ≡
-      option_and_then (λ x. (resumed_all i ws x.0).reads x.1) ((behind_made i w.before (made w.role y)).reads ts)
+      option_and_then (λ x. (resumed_all i ws x.0).reads x.1) ((after_made i w.before (made w.role y)).reads ts)
   popped ws all w y ts e = ap (λ all. (resumed_all i all y).reads ts) e ∙ last_first ws w y ts
 
-  -- behind a right side, where no other operator of the level stands
+  -- after a right side, where no other operator of the level stands
   pub right_ends : (ws all : List Waiting) (w : Waiting) (m : Made) (y : Expr) (r : Reached) (ts rest : List Token) →
       all ≡ ws ++ w ∷ [] → m ≡ made w.role y → ((link w.before.level).sees ts ≡ None) × (rest ≡ ts) →
       r ≡ record { value = chained w.before.value (w.before.steps ++ step_of m ∷ []); level = w.before.next; end = w.before.end } →
@@ -243,30 +243,30 @@ module _ (i : Inside) where
       ap (λ ts. (reached_from i ws r).reads ts) none.1
       ∙ ap (λ r. (reached_from i ws r).reads ts) is
       ∙ sym (ap (option_and_then (λ x. (resumed_all i ws x.0).reads x.1)) (made_ends w.before m ts none.0))
-      ∙ ap (λ m. option_and_then (λ x. (resumed_all i ws x.0).reads x.1) ((behind_made i w.before m).reads ts)) makes
+      ∙ ap (λ m. option_and_then (λ x. (resumed_all i ws x.0).reads x.1) ((after_made i w.before m).reads ts)) makes
       ∙ sym (popped ws all w y ts e)
 
   -- where another one stands
-  pub right_again : (ws all new : List Waiting) (w next : Waiting) (m : Made) (y : Expr) (k : Link) (ts behind : List Token) →
-      all ≡ ws ++ w ∷ [] → m ≡ made w.role y → (link w.before.level).sees ts ≡ got k behind → again w.before m k ≡ Some next →
-      new ≡ ws ++ next ∷ [] → (operand i next.before.level >>= resumed_all i new).reads behind ≡ (resumed_all i all y).reads ts
-  right_again ws all new w next m y k ts behind e makes seen h f =
-      pushed ws new next next.before.level behind f
-      ∙ ap (λ l. option_and_then (λ x. (resumed_all i ws x.0).reads x.1) ((operand i l >>= resumed i next).reads behind))
+  pub right_again : (ws all new : List Waiting) (w next : Waiting) (m : Made) (y : Expr) (k : Link) (ts after : List Token) →
+      all ≡ ws ++ w ∷ [] → m ≡ made w.role y → (link w.before.level).sees ts ≡ got k after → again w.before m k ≡ Some next →
+      new ≡ ws ++ next ∷ [] → (operand i next.before.level >>= resumed_all i new).reads after ≡ (resumed_all i all y).reads ts
+  right_again ws all new w next m y k ts after e makes seen h f =
+      pushed ws new next next.before.level after f
+      ∙ ap (λ l. option_and_then (λ x. (resumed_all i ws x.0).reads x.1) ((operand i l >>= resumed i next).reads after))
       (again_level w.before m k next h)
-      ∙ sym (ap (option_and_then (λ x. (resumed_all i ws x.0).reads x.1)) (made_again w.before m k next ts behind seen h))
-      ∙ ap (λ m. option_and_then (λ x. (resumed_all i ws x.0).reads x.1) ((behind_made i w.before m).reads ts)) makes
+      ∙ sym (ap (option_and_then (λ x. (resumed_all i ws x.0).reads x.1)) (made_again w.before m k next ts after seen h))
+      ∙ ap (λ m. option_and_then (λ x. (resumed_all i ws x.0).reads x.1) ((after_made i w.before m).reads ts)) makes
       ∙ sym (popped ws all w y ts e)
 
   -- where one stands that may not
-  pub right_fails : (ws all : List Waiting) (w : Waiting) (m : Made) (y : Expr) (k : Link) (ts behind : List Token) → AllAbove all →
-      all ≡ ws ++ w ∷ [] → m ≡ made w.role y → (link w.before.level).sees ts ≡ got k behind →
+  pub right_fails : (ws all : List Waiting) (w : Waiting) (m : Made) (y : Expr) (k : Link) (ts after : List Token) → AllAbove all →
+      all ≡ ws ++ w ∷ [] → m ≡ made w.role y → (link w.before.level).sees ts ≡ got k after →
       is_some (role_of k) ≡ nat_lt postfix_level w.before.level →
       again w.before m k ≡ None → (resumed_all i all y).reads ts ≡ None
-  right_fails ws all w m y k ts behind above e makes seen operator h =
+  right_fails ws all w m y k ts after above e makes seen operator h =
       popped ws all w y ts e
-      ∙ ap (λ m. option_and_then (λ x. (resumed_all i ws x.0).reads x.1) ((behind_made i w.before m).reads ts)) (sym makes)
-      ∙ ap (option_and_then (λ x. (resumed_all i ws x.0).reads x.1)) (made_fails w.before m k ts behind seen
+      ∙ ap (λ m. option_and_then (λ x. (resumed_all i ws x.0).reads x.1) ((after_made i w.before m).reads ts)) (sym makes)
+      ∙ ap (option_and_then (λ x. (resumed_all i ws x.0).reads x.1)) (made_fails w.before m k ts after seen
       (operator ∙ lt-ltb postfix_level w.before.level (above_less ws w (subst AllAbove e above)).1) h)
 
   -- a value, where something goes on with it at a level
@@ -281,21 +281,21 @@ module _ (i : Inside) where
 
   -- the first operator there
   pub first_one : (ws new : List Waiting) (next : Waiting) (r : Reached) (found : ℕ) (ss : List Step) (k : Link) (role : Role)
-      (ts behind : List Token) → GoesOnAt (Some found) r.level r.end ts → (link found).sees ts ≡ got k behind → role_of k ≡ Some role →
+      (ts after : List Token) → GoesOnAt (Some found) r.level r.end ts → (link found).sees ts ≡ got k after → role_of k ≡ Some role →
       ss ≡ [] → next ≡ record {
         before = record { value = r.value; steps = ss; level = found; next = found + 1; end = r.end };
         role = role;
       } →
-      new ≡ ws ++ next ∷ [] → (operand i found >>= resumed_all i new).reads behind ≡ (reached_from i ws r).reads ts
-  first_one ws new next r found ss k role ts behind goes seen h none is e =
-      pushed ws new next found behind e
-      ∙ ap (λ w. option_and_then (λ x. (resumed_all i ws x.0).reads x.1) ((operand i found >>= resumed i w).reads behind)) is
+      new ≡ ws ++ next ∷ [] → (operand i found >>= resumed_all i new).reads after ≡ (reached_from i ws r).reads ts
+  first_one ws new next r found ss k role ts after goes seen h none is e =
+      pushed ws new next found after e
+      ∙ ap (λ w. option_and_then (λ x. (resumed_all i ws x.0).reads x.1) ((operand i found >>= resumed i w).reads after)) is
       ∙ ap (λ ss. option_and_then (λ x. (resumed_all i ws x.0).reads x.1) ((operand i found >>= resumed i (record {
         before = record { value = r.value; steps = ss; level = found; next = found + 1; end = r.end };
         role = role;
-      })).reads behind)) none
+      })).reads after)) none
       ∙ sym (ap (option_and_then (λ x. (resumed_all i ws x.0).reads x.1)) (opened r found ts goes
-      ∙ gone_more (record { value = r.value; steps = []; level = found; next = found + 1; end = r.end }) [] k role ts behind seen h))
+      ∙ gone_more (record { value = r.value; steps = []; level = found; next = found + 1; end = r.end }) [] k role ts after seen h))
 
   -- where none goes on with it there
   pub none_there : (ws : List Waiting) (r : Reached) (found : ℕ) (ts rest : List Token) → GoesOnAt (Some found) r.level r.end ts →
@@ -308,7 +308,7 @@ module _ (i : Inside) where
 
   -- where what is no operator goes on with it
   postfix_opens : (r : Reached) (found : ℕ) (ts : List Token) → GoesOnAt (Some found) r.level r.end ts → found ≡ postfix_level →
-      (levels i r.level r.end r.value).reads ts ≡ (behind_postfix i r.value r.end).reads ts
+      (levels i r.level r.end r.value).reads ts ≡ (after_postfix i r.value r.end).reads ts
   postfix_opens r found ts goes e =
       opened r found ts goes
       ∙ ap (λ l. (gone_on i (record { value = r.value; steps = []; level = l; next = l + 1; end = r.end }) []).reads ts) e
@@ -316,7 +316,7 @@ module _ (i : Inside) where
       ((steps_from i (operand i postfix_level) postfix_level []).reads ts))
 
   pub postfix_there : (ws : List Waiting) (r : Reached) (found : ℕ) (ts : List Token) → GoesOnAt (Some found) r.level r.end ts →
-      found ≡ postfix_level → (behind_postfix i r.value r.end >>= resumed_all i ws).reads ts ≡ (reached_from i ws r).reads ts
+      found ≡ postfix_level → (after_postfix i r.value r.end >>= resumed_all i ws).reads ts ≡ (reached_from i ws r).reads ts
   postfix_there ws r found ts goes e =
       sym (ap (option_and_then (λ x. (resumed_all i ws x.0).reads x.1)) (postfix_opens r found ts goes e))
 
@@ -349,20 +349,20 @@ module _ (i : Inside) where
 
   -- a value with the steps of the tightest level
   pub postfix_leads : (x y : Expr) (end : ℕ) (ts rest : List Token) → (postfixed i x).reads ts ≡ got y rest →
-      (levels i (postfix_level + 1) end y).reads rest ≡ (behind_postfix i x end).reads ts
+      (levels i (postfix_level + 1) end y).reads rest ≡ (after_postfix i x end).reads ts
   postfix_leads x y end ts rest h = sym (ap (option_and_then (λ y. (levels i (postfix_level + 1) end y.0).reads y.1)) h)
 
-  pub postfix_not : (x : Expr) (end : ℕ) (ts : List Token) → (postfixed i x).reads ts ≡ None → (behind_postfix i x end).reads ts ≡ None
+  pub postfix_not : (x : Expr) (end : ℕ) (ts : List Token) → (postfixed i x).reads ts ≡ None → (after_postfix i x end).reads ts ≡ None
   postfix_not x end ts h = ap (option_and_then (λ y. (levels i (postfix_level + 1) end y.0).reads y.1)) h
 
   pub postfix_no_more : (x y : Expr) (ts rest : List Token) → (postfixed i x).reads ts ≡ got y rest → length rest ≤ length ts
   postfix_no_more x y ts rest h = (postfixed i x).shorter ts y rest ((postfixed i x).sound ts y rest h)
 
-  -- behind what a turn reads
-  pub behind_same : (ws : List Waiting) (r : Reached) (rest : List Token) (a : Read Token Expr) →
+  -- after what a turn reads
+  pub after_same : (ws : List Waiting) (r : Reached) (rest : List Token) (a : Read Token Expr) →
       (levels i r.level r.end r.value).reads rest ≡ a →
       (reached_from i ws r).reads rest ≡ option_and_then (λ x. (resumed_all i ws x.0).reads x.1) a
-  behind_same ws r rest a h = ap (option_and_then (λ x. (resumed_all i ws x.0).reads x.1)) h
+  after_same ws r rest a h = ap (option_and_then (λ x. (resumed_all i ws x.0).reads x.1)) h
 
   -- where nothing goes on with it
   pub nothing_there : (ws : List Waiting) (r : Reached) (ts : List Token) → EndsBefore r.level r.end ts →
@@ -387,7 +387,7 @@ pub ruleset right_starts = (right_leads, right_not, right_no_more)
 
 pub ruleset postfix_starts = (postfix_leads, postfix_not, postfix_no_more)
 
--- the operators that wait behind another one
+-- the operators that wait after another one
 pub right_above : (ws all new : List Waiting) (w next : Waiting) (m : Made) (k : Link) → all ≡ ws ++ w ∷ [] → new ≡ ws ++ next ∷ [] →
     again w.before m k ≡ Some next → AllAbove all → AllAbove new
 right_above ws all new w next m k e f h above =
@@ -399,18 +399,18 @@ pub first_above : (ws new : List Waiting) (next : Waiting) → AllAbove ws → p
 first_above ws new next above low e = subst AllAbove (sym e) (above_more ws next above low)
 
 -- less is left
-pub right_less : (ws all new : List Waiting) (w next : Waiting) (l : ℕ) (k : Link) (ts behind : List Token) → all ≡ ws ++ w ∷ [] →
-    new ≡ ws ++ next ∷ [] → (link l).sees ts ≡ got k behind → size behind new postfix_level < size ts all 256
-right_less ws all new w next l k ts behind e f seen =
-    omega (arith, ap length e, ap length f, length-append ws (w ∷ []), length-append ws (next ∷ []), (link l).nearer ts k behind seen)
+pub right_less : (ws all new : List Waiting) (w next : Waiting) (l : ℕ) (k : Link) (ts after : List Token) → all ≡ ws ++ w ∷ [] →
+    new ≡ ws ++ next ∷ [] → (link l).sees ts ≡ got k after → size after new postfix_level < size ts all 256
+right_less ws all new w next l k ts after e f seen =
+    omega (arith, ap length e, ap length f, length-append ws (w ∷ []), length-append ws (next ∷ []), (link l).nearer ts k after seen)
 
-pub first_less : (ws new : List Waiting) (next : Waiting) (l level : ℕ) (k : Link) (ts behind : List Token) → new ≡ ws ++ next ∷ [] →
-    (link l).sees ts ≡ got k behind → size behind new postfix_level < size ts ws level
-first_less ws new next l level k ts behind f seen =
-    omega (arith, ap length f, length-append ws (next ∷ []), (link l).nearer ts k behind seen)
+pub first_less : (ws new : List Waiting) (next : Waiting) (l level : ℕ) (k : Link) (ts after : List Token) → new ≡ ws ++ next ∷ [] →
+    (link l).sees ts ≡ got k after → size after new postfix_level < size ts ws level
+first_less ws new next l level k ts after f seen =
+    omega (arith, ap length f, length-append ws (next ∷ []), (link l).nearer ts k after seen)
 
 pub still_less : (t : Turn) (ts : List Token) (ws : List Waiting) (n m : ℕ) → IsLess t ts ws n → n ≤ m → IsLess t ts ws m
-still_less (turns.Behind r) ts ws n m h more = omega (arith, h, more)
+still_less (turns.After r) ts ws n m h more = omega (arith, h, more)
 still_less (turns.Postfix x end) ts ws n m h more = omega (arith, h, more)
 still_less (turns.Operand level) ts ws n m h more = omega (arith, h, more)
 still_less (turns.Whole x) ts ws n m h more = tt
@@ -420,7 +420,7 @@ pub all_less : (r : Result Turn (List ErrorKind)) (ts : List Token) (ws : List W
 all_less (Ok t) ts ws n m h more = still_less t ts ws n m h more
 all_less (Err e) ts ws n m h more = tt
 
--- the same left behind an answer
+-- the same left after an answer
 pub leads_same : {T A B : Type 0} (r : Result A (List ErrorKind)) (rest : List T) (left : A → List T → Read T B) (a b : Read T B) →
     Leads r rest left a → a ≡ b → Leads r rest left b
 leads_same r rest left a b h e = subst (λ x. Leads r rest left x) e h

@@ -34,7 +34,7 @@ use Rattle.tm_parser.specs.Tokens.{a_target_link, postfix_level, or_level}
 abbrev pub Rule : Type 0 → Type 1
 Rule A = rules.Rule Token A
 
--- What may stand inside one more bracket or behind one more prefix.
+-- What may stand inside one more bracket or after one more prefix.
 pub record Inside : Type 1 where
   -- no token; refused where no nesting is left
   pub room : Rule (Unit {0})
@@ -44,14 +44,14 @@ pub record Inside : Type 1 where
   pub filter : Rule Step
   pub target : Rule AssignmentTarget
 
--- a comma with another item behind it, in a list that ends with this sign
+-- a comma with another item after it, in a list that ends with this sign
 abbrev pub comma : Sign → Look Token (Unit {0})
 comma close = not_before (is sign.Comma) (is close)
 
 unfoldable pub more_items : {A : Type 0} → Sign → Rule A → List A → Rule (List A)
 more_items close item xs = many_from (comma close) (λ _. item) xs
 
--- Behind these items more, with commas between them and behind the last one a comma or none, up to the sign.
+-- After these items more, with commas between them and after the last one a comma or none, up to the sign.
 unfoldable pub items : {A : Type 0} → Sign → Rule A → List A → Rule (List A)
 items close item xs = branch (first (is close)) (λ _. pure xs) (do
   ys ← one_more item xs
@@ -60,20 +60,20 @@ items close item xs = branch (first (is close)) (λ _. pure xs) (do
   end ← token (is close)
   pure zs)
 
--- a name with `=` behind it
+-- a name with `=` after it
 abbrev pub keyword_start : Look Token (List ℕ)
 keyword_start = followed (first a_name) (first (is sign.Assign))
 
 abbrev pub passed : List Argument → List Keyword → Passed
 passed xs ks = record { by_place = xs; by_name = ks }
 
--- an argument by its name, behind its `=`
+-- an argument by its name, after its `=`
 unfoldable pub keyword : Inside → Passed → List ℕ → Rule Passed
 keyword i given name = do
   x ← i.expr
   pure (passed given.by_place (given.by_name ++ keywords.Named name x ∷ []))
 
--- a map of arguments by their names, behind its `**`
+-- a map of arguments by their names, after its `**`
 unfoldable pub spread_map : Inside → Passed → Rule Passed
 spread_map i given = do
   x ← i.expr
@@ -83,19 +83,19 @@ abbrev pub are_none : {A : Type 0} → List A → Bool
 are_none [] = true
 are_none (x ∷ xs) = false
 
--- an argument by its place, which stands behind none by its name
+-- an argument by its place, which stands after none by its name
 unfoldable pub argument : Inside → Passed → Rule Passed
 argument i given = provided (are_none given.by_name) (do
   x ← i.expr
   pure (passed (given.by_place ++ arguments.Plain x ∷ []) given.by_name))
 
--- a list of such arguments, behind its `*`
+-- a list of such arguments, after its `*`
 unfoldable pub spread_list : Inside → Passed → Rule Passed
 spread_list i given = provided (are_none given.by_name) (do
   x ← i.expr
   pure (passed (given.by_place ++ arguments.Spread x ∷ []) given.by_name))
 
--- one argument behind these
+-- one argument after these
 unfoldable pub one_passed : Inside → Passed → Rule Passed
 one_passed i given =
     branch keyword_start (keyword i given) (
@@ -106,7 +106,7 @@ one_passed i given =
 unfoldable pub more_passed : Inside → Passed → Rule Passed
 more_passed i given = grow (comma sign.CloseRound) (λ _ xs. one_passed i xs) given
 
--- the arguments of a call, with commas between them and behind the last one a comma or none, and their end
+-- the arguments of a call, with commas between them and after the last one a comma or none, and their end
 unfoldable pub all_passed : Inside → Rule Passed
 all_passed i = branch (first (is sign.CloseRound)) (λ _. pure (passed [] [])) (do
   one ← one_passed i (passed [] [])
@@ -121,17 +121,17 @@ in_brackets i = do
   room ← i.room
   all_passed i
 
--- the call of a name, behind its opening bracket
+-- the call of a name, after its opening bracket
 unfoldable pub called : Inside → List ℕ → Rule Expr
 called i name = do
   given ← in_brackets i
   pure (exprs.Call name given.by_place given.by_name)
 
--- the call of a name behind a dot, with nothing in its brackets
+-- the call of a name after a dot, with nothing in its brackets
 abbrev pub bare_call : Look Token (List ℕ)
 bare_call = before (first (is sign.Dot)) (followed (first a_name) (before (first (is sign.OpenRound)) (first (is sign.CloseRound))))
 
--- the name `self`, or the block that is called behind it
+-- the name `self`, or the block that is called after it
 unfoldable pub of_self : Inside → List ℕ → Rule Expr
 of_self i name = branch bare_call
     (λ block. do
@@ -144,7 +144,7 @@ unfoldable pub named : Inside → List ℕ → Rule Expr
 named i name = branch (first (is sign.OpenRound)) (λ _. called i name)
     (either (pointwise nat_eq name (codes "self")) (of_self i name) (pure (exprs.Var name)))
 
--- a tuple behind its first item
+-- a tuple after its first item
 unfoldable pub tuple : Inside → Expr → Rule Expr
 tuple i x = do
   comma ← token (is sign.Comma)
@@ -210,11 +210,11 @@ missing = exprs.Const value.none
 unfoldable pub part : Inside → Rule Expr
 part i = ahead ends_part (pure missing) i.expr
 
--- the part behind the second colon of a slice, which may have one colon alone
+-- the part after the second colon of a slice, which may have one colon alone
 unfoldable pub last_part : Inside → Rule Expr
 last_part i = branch (first (is sign.Colon)) (λ _. part i) (pure missing)
 
--- a slice behind its first colon
+-- a slice after its first colon
 unfoldable pub slice : Inside → Expr → Rule Step
 slice i start = do
   stop ← part i
@@ -232,7 +232,7 @@ subscript i = do
       end ← token (is sign.CloseSquare)
       pure (steps.Item x)))
 
--- a name, behind the names before it and a dot
+-- a name, after the names before it and a dot
 unfoldable pub one_part : List ℕ → Rule (List ℕ)
 one_part before = do
   name ← token a_name
@@ -251,13 +251,13 @@ dotted = do
 unfoldable pub given : Inside → Rule Passed
 given i = branch (first (is sign.OpenRound)) (λ _. in_brackets i) (pure (passed [] []))
 
--- the call of a value, behind its opening bracket
+-- the call of a value, after its opening bracket
 unfoldable pub call_step : Inside → Rule Step
 call_step i = do
   xs ← in_brackets i
   pure (steps.Call xs.by_place xs.by_name)
 
--- a filter, and its arguments behind the value
+-- a filter, and its arguments after the value
 unfoldable pub filter_step : Inside → Rule Step
 filter_step i = do
   name ← dotted
@@ -271,7 +271,7 @@ test_name = branch (first a_test_word) pure dotted
 unfoldable pub passed_to_test : Inside → Rule Passed
 passed_to_test i = branch (first bare) (λ x. pure (passed (arguments.Plain x ∷ []) [])) (given i)
 
--- a test, and its arguments behind the value
+-- a test, and its arguments after the value
 unfoldable pub tested : Inside → Application → Rule Step
 tested i k = do
   name ← test_name
@@ -291,16 +291,16 @@ another_comparison right op = do
   y ← right
   pure (record { operator = op; right = y })
 
--- what stands behind a link of comparisons in a row, where no other link may stand
-abbrev pub behind_comparison : Rule Expr → Link → Rule Comparison
-behind_comparison right (links.Comparison op) = another_comparison right op
-behind_comparison right _ = nothing
+-- what stands after a link of comparisons in a row, where no other link may stand
+abbrev pub after_comparison : Rule Expr → Link → Rule Comparison
+after_comparison right (links.Comparison op) = another_comparison right op
+after_comparison right _ = nothing
 
 -- as many comparisons in a row as there are
 abbrev pub comparisons_from : Rule Expr → ℕ → List Comparison → Rule (List Comparison)
-comparisons_from right level xs = many_from (link level) (behind_comparison right) xs
+comparisons_from right level xs = many_from (link level) (after_comparison right) xs
 
--- a comparison, and those in a row behind it
+-- a comparison, and those in a row after it
 abbrev pub compared : BinaryOperator → Expr → List Comparison → Step
 compared op y [] = steps.Binary op y
 compared op y (c ∷ cs) = steps.Compare op y (c ∷ cs)
@@ -321,7 +321,7 @@ disjunction right = do
   y ← right
   pure (steps.Or y)
 
--- what stands behind a link
+-- what stands after a link
 abbrev pub step : Inside → Rule Expr → ℕ → Link → Rule Step
 step i right level links.Member = named_step i
 step i right level links.Item = subscript i
@@ -342,14 +342,14 @@ abbrev pub chained : Expr → List Step → Expr
 chained x [] = x
 chained x (s ∷ ss) = exprs.Chain x (s ∷ ss)
 
--- an operand, and the steps of the level behind it
+-- an operand, and the steps of the level after it
 abbrev pub with_steps : Inside → Rule Expr → ℕ → Rule Expr
 with_steps i right level = do
   x ← right
   xs ← steps_from i right level []
   pure (chained x xs)
 
--- an operand of a level: behind a prefix of that level another one, else what binds tighter
+-- an operand of a level: after a prefix of that level another one, else what binds tighter
 unfoldable pub operand : Inside → ℕ → Rule Expr
 operand i zero = primary i
 operand i (suc level) = branch (prefix (suc level))
@@ -372,7 +372,7 @@ no_else = exprs.Const (value.undefined true)
 unfoldable pub else_part : Inside → Rule Expr
 else_part i = branch (first (is sign.Else)) (λ _. i.expr) (pure no_else)
 
--- what stands behind `if`
+-- what stands after `if`
 unfoldable pub condition : Inside → Rule Condition
 condition i = do
   test ← whole i
@@ -443,14 +443,14 @@ single i = branch (first (is sign.OpenRound))
       pure x)
     (member i)
 
--- a comma with another target behind it
+-- a comma with another target after it
 abbrev pub target_comma : Look Token (Unit {0})
 target_comma = not_before (is sign.Comma) ends_target
 
 unfoldable pub more_targets : Inside → List AssignmentTarget → Rule (List AssignmentTarget)
 more_targets i xs = many_from target_comma (λ _. single i) xs
 
--- several targets behind the first one, with a comma behind the last one or none
+-- several targets after the first one, with a comma after the last one or none
 unfoldable pub several : Inside → AssignmentTarget → Rule AssignmentTarget
 several i x = do
   xs ← more_targets i (x ∷ [])

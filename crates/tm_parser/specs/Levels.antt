@@ -29,24 +29,24 @@ operand_start i level = branch (first (prefix_up_to level))
       x ← primary i
       pure (record { value = x; level = postfix_level }))
 
--- an operand of a level, and the steps of as many levels behind it, from its own on
+-- an operand of a level, and the steps of as many levels after it, from its own on
 unfoldable pub climbed : Inside → ℕ → ℕ → Expr → Rule Expr
 climbed i zero level x = pure x
 climbed i (suc n) level x = do
   ss ← steps_from i (operand i level) level []
   climbed i n (suc level) (chained x ss)
 
--- an operand of a level, and the steps of all levels before the end behind it
+-- an operand of a level, and the steps of all levels before the end after it
 abbrev pub levels : Inside → ℕ → ℕ → Expr → Rule Expr
 levels i level end x = climbed i (end - level) level x
 
--- a value and the conditions behind it
+-- a value and the conditions after it
 abbrev pub conditioned : Inside → Expr → Rule Expr
 conditioned i x = do
   cs ← conditions_from i []
   pure (conditional x cs)
 
--- a value with the steps of the tightest level behind it
+-- a value with the steps of the tightest level after it
 abbrev pub postfixed : Inside → Expr → Rule Expr
 postfixed i x = do
   ss ← steps_from i (operand i postfix_level) postfix_level []

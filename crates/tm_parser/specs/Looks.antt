@@ -1,4 +1,4 @@
--- One look behind another, and at a token that is not taken.
+-- One look after another, and at a token that is not taken.
 use Rattle.std.specs.Prelude.{◌≡◌, ◌<◌, Bool, true, false, List, [], ◌∷◌, length, Some, None, option_and_then, option_map, refl}
 use Rattle.std.proofs.Common.{arith, ◌∙◌, ap}
 use Rattle.tm_grammar.specs.Meanings.{Read, got, bind_reads}
@@ -15,31 +15,31 @@ pub or_nearer : {T A : Type 0} (p q : Look T A) (ts : List T) (seen : Read T A) 
 or_nearer p q ts None e a rest h = q.nearer ts a rest h
 or_nearer p q ts (Some x) e a rest h = p.nearer ts a rest (e ∙ h)
 
-pub behind_nearer : {T A B : Type 0} (p : Look T A) (q : Look T B) (ts : List T) (seen : Read T A) → p.sees ts ≡ seen →
+pub after_nearer : {T A B : Type 0} (p : Look T A) (q : Look T B) (ts : List T) (seen : Read T A) → p.sees ts ≡ seen →
     (b : B) (rest : List T) →
     option_and_then (λ x. q.sees x.1) seen ≡ got b rest → length rest < length ts
-behind_nearer p q ts None e b rest h = absurd (not_got b rest h)
-behind_nearer p q ts (Some x) e b rest h = omega (arith, p.nearer ts x.0 x.1 e, q.nearer x.1 b rest h)
+after_nearer p q ts None e b rest h = absurd (not_got b rest h)
+after_nearer p q ts (Some x) e b rest h = omega (arith, p.nearer ts x.0 x.1 e, q.nearer x.1 b rest h)
 
 -- one look, and where it sees nothing another
 abbrev pub or_else : {T A : Type 0} → Look T A → Look T A → Look T A
 or_else p q = record { sees = λ ts. or_seen (p.sees ts) (q.sees ts); nearer = λ ts. or_nearer p q ts (p.sees ts) refl }
 
--- what p sees, with what q sees behind it: the latter
+-- what p sees, with what q sees after it: the latter
 abbrev pub before : {T A B : Type 0} → Look T A → Look T B → Look T B
-before p q = record { sees = bind_reads p.sees (λ _. q.sees); nearer = λ ts. behind_nearer p q ts (p.sees ts) refl }
+before p q = record { sees = bind_reads p.sees (λ _. q.sees); nearer = λ ts. after_nearer p q ts (p.sees ts) refl }
 
 pub followed_nearer : {T A B : Type 0} (p : Look T A) (q : Look T B) (ts : List T) (seen : Read T A) → p.sees ts ≡ seen →
     (a : A) (rest : List T) →
     option_and_then (λ x. option_map (λ y. (x.0, y.1)) (q.sees x.1)) seen ≡ got a rest → length rest < length ts
 followed_nearer p q ts None e a rest h = absurd (not_got a rest h)
-followed_nearer p q ts (Some x) e a rest h = behind (q.sees x.1) refl h
+followed_nearer p q ts (Some x) e a rest h = after (q.sees x.1) refl h
   where
-    behind : (seen : _) → q.sees x.1 ≡ seen → option_map (λ y. (x.0, y.1)) seen ≡ got a rest → length rest < length ts
-    behind None g k = absurd (not_got a rest k)
-    behind (Some y) g k = omega (arith, p.nearer ts x.0 x.1 e, q.nearer x.1 y.0 y.1 g, ap length (same_got x.0 a y.1 rest k).1)
+    after : (seen : _) → q.sees x.1 ≡ seen → option_map (λ y. (x.0, y.1)) seen ≡ got a rest → length rest < length ts
+    after None g k = absurd (not_got a rest k)
+    after (Some y) g k = omega (arith, p.nearer ts x.0 x.1 e, q.nearer x.1 y.0 y.1 g, ap length (same_got x.0 a y.1 rest k).1)
 
--- what p sees, with what q sees behind it: the former
+-- what p sees, with what q sees after it: the former
 abbrev pub followed : {T A B : Type 0} → Look T A → Look T B → Look T A
 followed p q = record {
   sees = λ ts. option_and_then (λ x. option_map (λ y. (x.0, y.1)) (q.sees x.1)) (p.sees ts);

@@ -23,7 +23,7 @@ abbrev pub Adds : {T A : Type 0} → Result (Unit {0}) (List ErrorKind) → A �
 Adds (Ok x) given left read = read ≡ got given left
 Adds (Err chain) given left read = Refused chain (read ≡ None)
 
--- What is left to be read behind the answer is what was read; where nothing was read, that is why there is no answer.
+-- What is left to be read after the answer is what was read; where nothing was read, that is why there is no answer.
 abbrev pub Leads : {T A B : Type 0} → Result A (List ErrorKind) → List T → (A → List T → Read T B) → Read T B → Type 0
 Leads (Ok x) rest left read = left x rest ≡ read
 Leads (Err chain) rest left read = Refused chain (read ≡ None)

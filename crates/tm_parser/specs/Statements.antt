@@ -50,13 +50,13 @@ is_word word _ = None
 -- What may stand inside one more tag, or in one more part of it; of statements, whether a loop is around them.
 pub record Inner : Type 1 where
   pub body : Bool → Rule (List Stmt)
-  -- what stands behind the body of an `if`
+  -- what stands after the body of an `if`
   pub rest : Bool → Rule (Option (List Stmt))
   -- an else part or none, up to this end tag
   pub else_or_end : Tag → Bool → Rule (Option (List Stmt))
   -- what a loop goes over, the condition of an item, whether it can be called, and the end of its tag
   pub loop_head : Rule LoopHead
-  -- the parameters of a macro or of a call's body behind their opening bracket, and their end
+  -- the parameters of a macro or of a call's body after their opening bracket, and their end
   pub parameters : Rule (List Parameter)
 
 -- Each tag that begins a statement.
@@ -178,15 +178,15 @@ ended_body t end looping = do
   pure body
 
 -- the end of a tag, a body and this end tag
-unfoldable pub body_behind : Inner → Tag → Bool → Rule (List Stmt)
-body_behind t end looping = do
+unfoldable pub body_after : Inner → Tag → Bool → Rule (List Stmt)
+body_after t end looping = do
   close ← block_end
   ended_body t end looping
 
--- what stands behind `else`, up to this end tag
+-- what stands after `else`, up to this end tag
 unfoldable pub else_tag : Inner → Tag → Bool → Rule (Option (List Stmt))
 else_tag t end looping = do
-  body ← body_behind t end looping
+  body ← body_after t end looping
   pure (Some body)
 
 -- an else part or none, up to this end tag
@@ -195,11 +195,11 @@ else_or_end t end looping = branch (first (is_tag tags.Else)) (λ _. else_tag t 
   last ← lone end
   pure None)
 
--- what stands behind the body of an `if`, up to its end tag
+-- what stands after the body of an `if`, up to its end tag
 unfoldable pub rest : Inside → Inner → Bool → Rule (Option (List Stmt))
 rest i t looping = branch (first (is_tag tags.Elif)) (λ _. elif_tag i t looping) (else_or_end t tags.Endif looping)
 
--- A loop behind its head: its else part stands outside of it.
+-- A loop after its head: its else part stands outside of it.
 unfoldable pub for_body : Inner → Bool → AssignmentTarget → LoopHead → Rule Stmt
 for_body t looping to over = do
   body ← t.body true
@@ -258,7 +258,7 @@ extends_tag i = do
   last ← block_end
   pure (stmts.Extends parent)
 
--- a tuple without brackets behind its first item, and the end of the tag
+-- a tuple without brackets after its first item, and the end of the tag
 unfoldable pub bare_tuple : Inside → Expr → Rule Expr
 bare_tuple i x = do
   comma ← token (is sign.Comma)
@@ -271,33 +271,33 @@ bare i = do
   x ← expr i
   branch (first (is sign.BlockEnd)) (λ _. pure x) (bare_tuple i x)
 
--- what stands behind what a loop goes over
+-- what stands after what a loop goes over
 abbrev pub ends_iterated : Token → Option (Unit {0})
 ends_iterated (tokens.Sign sign.If) = Some tt
 ends_iterated (tokens.Sign sign.BlockEnd) = Some tt
 ends_iterated _ = None
 
--- a comma with another item behind it
+-- a comma with another item after it
 abbrev pub iterated_comma : Look Token (Unit {0})
 iterated_comma = not_before (is sign.Comma) ends_iterated
 
 unfoldable pub more_iterated : Inside → List Expr → Rule (List Expr)
 more_iterated i xs = many_from iterated_comma (λ _. whole i) xs
 
--- a tuple without brackets behind its first item, with a comma behind the last one or none
+-- a tuple without brackets after its first item, with a comma after the last one or none
 unfoldable pub iterated_tuple : Inside → Expr → Rule Expr
 iterated_tuple i x = do
   xs ← more_iterated i (x ∷ [])
   comma ← branch (first (is sign.Comma)) pure (pure tt)
   pure (exprs.Tuple xs)
 
--- What a loop goes over: a value or a tuple without brackets, behind which an `if` is the loop's.
+-- What a loop goes over: a value or a tuple without brackets, after which an `if` is the loop's.
 unfoldable pub iterated : Inside → Rule Expr
 iterated i = do
   x ← whole i
   ahead is_comma (iterated_tuple i x) (pure x)
 
--- the condition of a loop's item, behind which no other one may stand
+-- the condition of a loop's item, after which no other one may stand
 unfoldable pub loop_condition : Inside → Rule (Option Expr)
 loop_condition i = branch (first (is sign.If))
     (λ _. do
@@ -318,23 +318,23 @@ loop_head i = do
   close ← block_end
   pure (record { iterable = over; condition = condition; recursive = recursive })
 
--- what stands behind the `=` of a `set`
+-- what stands after the `=` of a `set`
 unfoldable pub set_value : Inside → AssignmentTarget → Rule Stmt
 set_value i to = do
   x ← bare i
   pure (stmts.Set to x)
 
--- filters behind these, each behind a bar
+-- filters after these, each after a bar
 unfoldable pub more_filters : Inside → List Step → Rule (List Step)
 more_filters i xs = many_from (first (is sign.Bar)) (λ _. i.filter) xs
 
--- what a body behind its tag writes is filtered and used
+-- what a body after its tag writes is filtered and used
 unfoldable pub captured : Inner → Tag → Bool → CaptureUse → List Step → Rule Stmt
 captured t end looping becomes filters = do
-  body ← body_behind t end looping
+  body ← body_after t end looping
   pure (stmts.CaptureBlock becomes filters body)
 
--- what stands behind the target of a `set` without `=`
+-- what stands after the target of a `set` without `=`
 unfoldable pub set_block : Inside → Inner → Bool → AssignmentTarget → Rule Stmt
 set_block i t looping to = do
   filters ← more_filters i []
@@ -367,7 +367,7 @@ with_tag i t looping = do
 unfoldable pub autoescape_tag : Inside → Inner → Bool → Rule Stmt
 autoescape_tag i t looping = do
   x ← i.expr
-  body ← body_behind t tags.Endautoescape looping
+  body ← body_after t tags.Endautoescape looping
   pure (stmts.AutoEscape x body)
 
 -- the default of a parameter, or none
@@ -384,7 +384,7 @@ parameter i = do
   default ← default_value i
   pure (record { name = name; default = default })
 
--- Parameters, with commas between them and behind the last one a comma or none, and their end; no name is that of two.
+-- Parameters, with commas between them and after the last one a comma or none, and their end; no name is that of two.
 unfoldable pub parameters : Inside → Rule (List Parameter)
 parameters i = do
   room ← i.room
@@ -446,10 +446,10 @@ abbrev pub with_caller : Expr → Expr
 with_caller (SelfBlock name) = method_of_self name
 with_caller x = x
 
--- What stands behind the expression of a call's tag, which is a call. The loops around the tag aren't around its body.
+-- What stands after the expression of a call's tag, which is a call. The loops around the tag aren't around its body.
 unfoldable pub call_block : Inner → List Parameter → Expr → Rule Stmt
 call_block t ps x = provided (is_call x) (do
-  body ← body_behind t tags.Endcall false
+  body ← body_after t tags.Endcall false
   pure (stmts.CallBlock (record { call = with_caller x; parameters = ps; body = body })))
 
 unfoldable pub call_tag : Inside → Inner → Rule Stmt
@@ -481,7 +481,7 @@ import_tag i = do
   last ← block_end
   pure (stmts.Import template to)
 
--- the name that an imported one is given to: that behind `as`, or the same
+-- the name that an imported one is given to: that after `as`, or the same
 abbrev pub given_name : List ℕ → Rule (List ℕ)
 given_name name = branch (first (is_word (codes "as"))) (λ _. token a_name) (pure name)
 
@@ -491,7 +491,7 @@ imported = do
   to ← given_name name
   pure (record { name = name; target = to })
 
--- one imported name or more, with commas between them and behind the last one a comma or none, and the end of the tag
+-- one imported name or more, with commas between them and after the last one a comma or none, and the end of the tag
 unfoldable pub imports : Rule (List Imported)
 imports = do
   one ← one_more imported []
@@ -507,7 +507,7 @@ from_tag i = do
   xs ← imports
   pure (stmts.FromImport template xs)
 
--- what stands behind the start of a statement
+-- what stands after the start of a statement
 abbrev pub statement : Inside → Inner → Bool → Start → Rule Stmt
 statement i t looping (starts.Raw text) = pure (stmts.EmitRaw text)
 statement i t looping starts.Emit = emission i
@@ -528,7 +528,7 @@ statement i t looping starts.Include = include_tag i
 statement i t looping starts.Import = import_tag i
 statement i t looping starts.From = from_tag i
 
--- statements behind these ones, as long as one begins
+-- statements after these ones, as long as one begins
 abbrev pub more_statements : Inside → Inner → Bool → List Stmt → Rule (List Stmt)
 more_statements i t looping xs = many_from (first a_start) (statement i t looping) xs
 

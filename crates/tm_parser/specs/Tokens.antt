@@ -41,7 +41,7 @@ a_constant (tokens.Literal v) = Some v
 a_constant (tokens.Sign s) = constant_of s
 a_constant _ = None
 
--- The levels, from the tightest: what stands behind a value, powers, products, `~`, sums, comparisons, `and`, `or`.
+-- The levels, from the tightest: what stands after a value, powers, products, `~`, sums, comparisons, `and`, `or`.
 abbrev pub postfix_level : ℕ
 postfix_level = 0
 
@@ -92,7 +92,7 @@ link_of sign.And = Some (and_level, links.And)
 link_of sign.Or = Some (or_level, links.Or)
 link_of _ = None
 
--- Each sign that goes on with a value behind `not`.
+-- Each sign that goes on with a value after `not`.
 abbrev pub negated_link_of : Sign → Option (ℕ × Link)
 negated_link_of sign.In = Some (comparison_level, links.Comparison binaries.NotIn)
 negated_link_of _ = None
@@ -119,7 +119,7 @@ link level = or_else (first (sign_at link_of level)) (before (first (is sign.Not
 abbrev pub prefix : ℕ → Look Token UnaryOperator
 prefix level = first (sign_at prefix_of level)
 
--- what stands behind a part of a slice
+-- what stands after a part of a slice
 abbrev pub ends_part : Token → Bool
 ends_part (tokens.Sign sign.Colon) = true
 ends_part (tokens.Sign sign.CloseSquare) = true
@@ -142,7 +142,7 @@ abbrev pub a_test_word : Token → Option (List ℕ)
 a_test_word (tokens.Sign s) = test_word s
 a_test_word _ = None
 
--- the words that may stand behind a value in a tag
+-- the words that may stand after a value in a tag
 abbrev pub is_kept : List ℕ → Bool
 is_kept name =
     pointwise nat_eq name (codes "recursive") || pointwise nat_eq name (codes "ignore") || pointwise nat_eq name (codes "as")
@@ -155,7 +155,7 @@ bare (tokens.Literal v) = Some (exprs.Const v)
 bare (tokens.Sign s) = option_map exprs.Const (constant_of s)
 bare _ = None
 
--- Each sign that goes on with a target. A bar ends one: the filters of a set block stand behind its target.
+-- Each sign that goes on with a target. A bar ends one: the filters of a set block stand after its target.
 abbrev pub target_link : Sign → Option Link
 target_link sign.Dot = Some links.Member
 target_link sign.OpenSquare = Some links.Item
@@ -167,7 +167,7 @@ abbrev pub a_target_link : Token → Option Link
 a_target_link (tokens.Sign s) = target_link s
 a_target_link _ = None
 
--- what stands behind a target
+-- what stands after a target
 abbrev pub ends_target : Token → Option (Unit {0})
 ends_target (tokens.Sign sign.Assign) = Some tt
 ends_target (tokens.Sign sign.In) = Some tt

@@ -1,4 +1,4 @@
-//! Calls, filters and tests behind a value: their names, and what they are passed.
+//! Calls, filters and tests after a value: their names, and what they are passed.
 ghost use Rattle.std.specs.Prelude.{◌≡◌, ◌++◌, ◌∷◌, [], codes, MatchResult};
 ghost use Rattle.tm_parser.specs.Parses.{Adds, Parses};
 ghost use Rattle.tm_parser.specs.Grammar as grammar;
@@ -19,7 +19,7 @@ use tm_values::{Error, SharedText};
 
 // Each method reads one rule, with `depth` nestings to go. SyntaxError where no tokens spell it.
 impl Cursor<'_> {
-    /// The call of a value behind its opening bracket, at the end of other steps.
+    /// The call of a value after its opening bracket, at the end of other steps.
     #[cycle(expressions)]
     #[tactic(auto, unfolding(crate::specs::Grammar::call_step))]
     #[inline(never)]
@@ -37,7 +37,7 @@ impl Cursor<'_> {
         add_call(given, steps)
     }
 
-    /// More filters behind others, each behind a bar and inside one nesting more.
+    /// More filters after others, each after a bar and inside one nesting more.
     #[tactic(auto, using(crate::proofs::Loops::bars))]
     #[inline(never)]
     pub fn more_filters(
@@ -73,7 +73,7 @@ impl Cursor<'_> {
         self.filter_step(alloc, depth - 1, filters)
     }
 
-    /// A filter, and its arguments behind the value, at the end of other steps.
+    /// A filter, and its arguments after the value, at the end of other steps.
     #[cycle(expressions)]
     #[tactic(auto, unfolding(crate::specs::Grammar::filter_step))]
     #[inline(never)]
@@ -92,7 +92,7 @@ impl Cursor<'_> {
         add_application(Application::Filter, name, given, steps)
     }
 
-    /// A test, or `not` and a test, and its arguments behind the value, at the end of other steps.
+    /// A test, or `not` and a test, and its arguments after the value, at the end of other steps.
     #[cycle(expressions)]
     #[tactic(auto, unfolding(crate::specs::Grammar::test_step))]
     #[inline(always)]
@@ -111,7 +111,7 @@ impl Cursor<'_> {
         self.tested(alloc, depth, Application::Test, steps)
     }
 
-    /// The name of a test, and its arguments behind the value, at the end of other steps.
+    /// The name of a test, and its arguments after the value, at the end of other steps.
     #[cycle(expressions)]
     #[tactic(auto, unfolding(crate::specs::Grammar::tested))]
     #[inline(never)]
@@ -181,7 +181,7 @@ impl Cursor<'_> {
         self.more_parts(alloc, name)
     }
 
-    /// More names behind others, each behind a dot.
+    /// More names after others, each after a dot.
     #[tactic(auto, using(crate::proofs::Loops::parts))]
     fn more_parts(&mut self, alloc: Global, first: Name) -> Result<Name, Error>
         ensures { Parses result self.new ((more_parts first).reads self.old) }
@@ -193,7 +193,7 @@ impl Cursor<'_> {
         Ok(Name::new(alloc, name.as_str())?)
     }
 
-    /// A name, behind the names before it and a dot.
+    /// A name, after the names before it and a dot.
     #[tactic(auto, unfolding(crate::specs::Grammar::one_part))]
     fn one_part(&mut self, before: SharedText) -> Result<SharedText, Error>
         ensures { Parses result self.new ((one_part before).reads self.old) }
@@ -203,7 +203,7 @@ impl Cursor<'_> {
     }
 }
 
-/// Two names with a dot between them, the first of which is added to. OutOfMemory for want of memory.
+/// Two names with a dot between them, the first of which is added to. OutOfMemory when out of memory.
 fn joined(before: SharedText, name: &Name) -> Result<SharedText, Error>
     ensures { MatchResult result
         (λ whole. whole ≡ before ++ codes "." ++ name.now)
@@ -215,7 +215,7 @@ fn joined(before: SharedText, name: &Name) -> Result<SharedText, Error>
     Ok(whole)
 }
 
-/// Adds the application of a name to what it is passed. OutOfMemory for want of memory.
+/// Adds the application of a name to what it is passed. OutOfMemory when out of memory.
 #[inline(never)]
 pub fn add_application(
     application: Application,
@@ -232,7 +232,7 @@ pub fn add_application(
     add_one(steps, Step::Apply(application, name, by_place, by_name))
 }
 
-/// Adds the call of a value with what it is passed. OutOfMemory for want of memory.
+/// Adds the call of a value with what it is passed. OutOfMemory when out of memory.
 #[inline(never)]
 fn add_call(given: Passed, steps: &mut Items<Step>) -> Result<(), Error>
     ensures { MatchResult result

@@ -8,7 +8,7 @@ use crate::distinct::are_distinct;
 use std::alloc::{AllocError, Global};
 use tm_syntax::Stmt;
 
-/// Whether no name is that of two blocks in the statements; AllocError for want of memory.
+/// Whether no name is that of two blocks in the statements; AllocError when out of memory.
 pub fn has_distinct_blocks(alloc: Global, statements: &[Stmt]) -> Result<bool, AllocError>
     ensures { IfOk result (λ distinct. distinct ≡ spec.are_distinct (block_names statements.now)) }
 {

@@ -50,7 +50,7 @@ pub fn refusal() -> Error
     Error::from(ErrorKind::SyntaxError)
 }
 
-/// Whether a name is a word that may stand behind a value in a tag.
+/// Whether a name is a word that may stand after a value in a tag.
 fn is_kept(name: &Name) -> bool
     ensures { result ≡ is_kept name.now }
 {
@@ -142,7 +142,7 @@ impl<'t> Cursor<'t> {
         }
     }
 
-    /// Takes a comma, unless the end of the list stands behind it.
+    /// Takes a comma, unless the end of the list stands after it.
     pub fn take_comma(&mut self, close: Sign) -> bool
         ensures { TakesSign result self.old self.new ((comma close).sees self.old) }
     {
@@ -158,7 +158,7 @@ impl<'t> Cursor<'t> {
         }
     }
 
-    /// Whether what stands behind a target stands here.
+    /// Whether what stands after a target stands here.
     fn ends_target(&self) -> bool
         ensures { result ≡ is_some (first_sees ends_target self.now) }
     {
@@ -173,7 +173,7 @@ impl<'t> Cursor<'t> {
         }
     }
 
-    /// Takes a comma, unless what ends a target stands behind it.
+    /// Takes a comma, unless what ends a target stands after it.
     pub fn take_target_comma(&mut self) -> bool
         ensures { TakesSign result self.old self.new (target_comma.sees self.old) }
     {
@@ -189,7 +189,7 @@ impl<'t> Cursor<'t> {
         }
     }
 
-    /// Whether what stands behind what a loop goes over stands here.
+    /// Whether what stands after what a loop goes over stands here.
     fn ends_iterated(&self) -> bool
         ensures { result ≡ is_some (first_sees ends_iterated self.now) }
     {
@@ -199,7 +199,7 @@ impl<'t> Cursor<'t> {
         }
     }
 
-    /// Takes a comma, unless what ends what a loop goes over stands behind it.
+    /// Takes a comma, unless what ends what a loop goes over stands after it.
     pub fn take_iterated_comma(&mut self) -> bool
         ensures { TakesSign result self.old self.new (iterated_comma.sees self.old) }
     {
@@ -231,7 +231,7 @@ impl<'t> Cursor<'t> {
         }
     }
 
-    /// Takes a name with `=` behind it, and answers a second owner of the name. OutOfMemory where
+    /// Takes a name with `=` after it, and answers a second owner of the name. OutOfMemory where
     /// there can be none.
     pub fn take_keyword(&mut self) -> Result<Option<Name>, Error>
         ensures { MatchResult result
@@ -248,7 +248,7 @@ impl<'t> Cursor<'t> {
         }
     }
 
-    /// Takes the call of a name behind a dot, with nothing in its brackets, and answers a second
+    /// Takes the call of a name after a dot, with nothing in its brackets, and answers a second
     /// owner of the name. OutOfMemory where there can be none.
     pub fn take_bare_call(&mut self) -> Result<Option<Name>, Error>
         ensures { MatchResult result

@@ -6,7 +6,7 @@ ghost use Rattle.tm_parser.specs.Distinct.{texts};
 use std::alloc::{AllocError, Global};
 use std::collections::BTreeSet;
 
-/// Whether no name stands twice; AllocError for want of memory.
+/// Whether no name stands twice; AllocError when out of memory.
 pub fn are_distinct(alloc: Global, names: &[&str]) -> Result<bool, AllocError>
     ensures { IfOk result (λ distinct. distinct ≡ spec.are_distinct (texts names.now)) }
 {

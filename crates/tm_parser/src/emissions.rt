@@ -14,7 +14,7 @@ use tm_items::{Boxed, Items};
 use tm_syntax::{Application, Argument, Expr, Keyword, Step, Stmt};
 use tm_values::Error;
 
-/// Adds a statement that emits a value. OutOfMemory for want of memory.
+/// Adds a statement that emits a value. OutOfMemory when out of memory.
 #[inline(always)]
 pub(crate) fn add_emission(body: &mut Items<Stmt>, value: Boxed<Expr>) -> Result<(), Error>
     ensures { MatchResult result

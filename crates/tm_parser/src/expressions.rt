@@ -1,4 +1,4 @@
-//! Expressions: values with operators, steps and conditions behind them.
+//! Expressions: values with operators, steps and conditions after them.
 ghost use Rattle.std.specs.Prelude.{◌≡◌, ◌∷◌, [], None, MatchResult};
 ghost use Rattle.tm_parser.specs.Parses.{Adds, Parses};
 ghost use Rattle.tm_parser.specs.Grammar as grammar;
@@ -60,7 +60,7 @@ impl Cursor<'_> {
         self.operand(alloc, depth - 1, level)
     }
 
-    /// An expression: a value, and the conditions behind it.
+    /// An expression: a value, and the conditions after it.
     #[cycle(expressions)]
     #[tactic(auto, unfolding(crate::specs::Grammar::expr), using(crate::proofs::Levels::no_condition))]
     #[inline(never)]
@@ -74,7 +74,7 @@ impl Cursor<'_> {
         self.conditioned(alloc, depth, value)
     }
 
-    /// A value and the conditions behind it.
+    /// A value and the conditions after it.
     #[cycle(expressions)]
     #[inline(never)]
     fn conditioned(
@@ -121,7 +121,7 @@ impl Cursor<'_> {
         add_one(conditions, Condition { test, otherwise })
     }
 
-    /// What stands behind `else`, if it stands there.
+    /// What stands after `else`, if it stands there.
     #[cycle(expressions)]
     #[tactic(auto, unfolding(crate::specs::Grammar::else_part))]
     #[inline(never)]
@@ -134,7 +134,7 @@ impl Cursor<'_> {
         no_else(alloc)
     }
 
-    /// A value with all operators, without conditions behind it.
+    /// A value with all operators, without conditions after it.
     #[cycle(expressions)]
     #[tactic(auto, using(crate::proofs::Levels::operands))]
     #[inline(always)]
@@ -180,8 +180,8 @@ impl Cursor<'_> {
         })
     }
 
-    /// Behind an operand of a level, the steps of all levels before the end, from its own on. Most
-    /// values have no operators behind them.
+    /// After an operand of a level, the steps of all levels before the end, from its own on. Most
+    /// values have no operators after them.
     #[cycle(expressions)]
     #[inline(always)]
     fn climb(
@@ -207,7 +207,7 @@ impl Cursor<'_> {
         Ok(value)
     }
 
-    /// A value with the steps behind it that are no operators.
+    /// A value with the steps after it that are no operators.
     #[cycle(expressions)]
     #[inline(never)]
     pub fn with_steps(
@@ -302,7 +302,7 @@ impl Cursor<'_> {
         add_one(steps, Step::Item(item))
     }
 
-    /// A slice behind its first colon, and the end of its brackets, at the end of other steps.
+    /// A slice after its first colon, and the end of its brackets, at the end of other steps.
     #[cycle(expressions)]
     #[tactic(auto, unfolding(crate::specs::Grammar::slice))]
     #[inline(never)]
@@ -322,7 +322,7 @@ impl Cursor<'_> {
         add_one(steps, Step::Slice(start, stop, by))
     }
 
-    /// The part behind the second colon of a slice, if it has one.
+    /// The part after the second colon of a slice, if it has one.
     #[cycle(expressions)]
     #[tactic(auto, unfolding(crate::specs::Grammar::last_part))]
     fn last_part(&mut self, alloc: Global, depth: u8) -> Result<Boxed<Expr>, Error>
@@ -347,7 +347,7 @@ impl Cursor<'_> {
     }
 }
 
-/// What stands for a missing part. OutOfMemory for want of memory.
+/// What stands for a missing part. OutOfMemory when out of memory.
 #[inline(never)]
 fn missing(alloc: Global) -> Result<Boxed<Expr>, Error>
     ensures { MatchResult result
@@ -357,7 +357,7 @@ fn missing(alloc: Global) -> Result<Boxed<Expr>, Error>
     boxed(alloc, Expr::Const(Value::none()))
 }
 
-/// What stands for a missing else part. OutOfMemory for want of memory.
+/// What stands for a missing else part. OutOfMemory when out of memory.
 #[inline(never)]
 fn no_else(alloc: Global) -> Result<Boxed<Expr>, Error>
     ensures { MatchResult result
@@ -367,19 +367,19 @@ fn no_else(alloc: Global) -> Result<Boxed<Expr>, Error>
     boxed(alloc, Expr::Const(Value::silent_undefined()))
 }
 
-/// A comparison, and those in a row behind it.
+/// A comparison, and those in a row after it.
 #[tactic(auto, using(crate::proofs::Nesting::comparisons))]
 #[inline(never)]
-pub fn compared(operator: BinaryOperator, right: Boxed<Expr>, behind: Items<Comparison>) -> Step
-    ensures { result ≡ grammar.compared operator right behind }
+pub fn compared(operator: BinaryOperator, right: Boxed<Expr>, after: Items<Comparison>) -> Step
+    ensures { result ≡ grammar.compared operator right after }
 {
-    if behind.is_empty() {
+    if after.is_empty() {
         return Step::Binary(operator, right);
     }
-    Step::Compare(operator, right, behind)
+    Step::Compare(operator, right, after)
 }
 
-/// A value and its conditions; the value itself where there are none. OutOfMemory for want of
+/// A value and its conditions; the value itself where there are none. OutOfMemory when out of
 /// memory.
 #[tactic(auto, using(crate::proofs::Nesting::conditions))]
 #[inline(never)]
@@ -398,7 +398,7 @@ fn conditional(
     boxed(alloc, Expr::Conditional(value, conditions))
 }
 
-/// An operator before its operand. OutOfMemory for want of memory.
+/// An operator before its operand. OutOfMemory when out of memory.
 #[inline(never)]
 fn unary(alloc: Global, operator: UnaryOperator, operand: Boxed<Expr>) -> Result<Boxed<Expr>, Error>
     ensures { MatchResult result
@@ -408,7 +408,7 @@ fn unary(alloc: Global, operator: UnaryOperator, operand: Boxed<Expr>) -> Result
     boxed(alloc, Expr::Unary(operator, operand))
 }
 
-/// A value and its steps; the value itself where there are none. OutOfMemory for want of memory.
+/// A value and its steps; the value itself where there are none. OutOfMemory when out of memory.
 #[tactic(auto, using(crate::proofs::Nesting::chains))]
 #[inline(never)]
 pub fn chained(alloc: Global, value: Boxed<Expr>, steps: Items<Step>) -> Result<Boxed<Expr>, Error>

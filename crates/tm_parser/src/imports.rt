@@ -94,7 +94,7 @@ impl Cursor<'_> {
         Ok(imports)
     }
 
-    /// More imported names, each behind a comma.
+    /// More imported names, each after a comma.
     #[tactic(auto, using(crate::proofs::Loops::commas))]
     fn more_imports(&mut self, first: Items<Imported>) -> Result<Items<Imported>, Error>
         ensures { Parses result self.new
@@ -125,7 +125,7 @@ impl Cursor<'_> {
         Ok(Imported { name, target })
     }
 
-    /// The name that an imported one is given to: that behind `as`, or the same. OutOfMemory where
+    /// The name that an imported one is given to: that after `as`, or the same. OutOfMemory where
     /// it can have no second owner.
     fn given_name(&mut self, name: &Name) -> Result<Name, Error>
         ensures { Parses result self.new ((given_name name.now).reads self.old) }

@@ -42,7 +42,7 @@ impl Cursor<'_> {
         add_one(body, Stmt::Block(name, required, inner))
     }
 
-    /// The name `self`, or the block that is called behind it.
+    /// The name `self`, or the block that is called after it.
     #[tactic(auto, unfolding(crate::specs::Grammar::of_self))]
     #[inline(never)]
     pub fn of_self(&mut self, alloc: Global, depth: u8, name: Name) -> Result<Boxed<Expr>, Error>
@@ -125,7 +125,7 @@ impl Cursor<'_> {
         self.call_block(alloc, depth, parameters, call, body)
     }
 
-    /// What stands behind the expression of a call's tag. SyntaxError also where that is no call.
+    /// What stands after the expression of a call's tag. SyntaxError also where that is no call.
     #[cycle(statements)]
     #[tactic(auto, unfolding(crate::specs::Statements::call_block))]
     fn call_block(
@@ -142,7 +142,7 @@ impl Cursor<'_> {
         if !is_call(call.get()) {
             return Err(refusal());
         }
-        let inner = self.body_behind(alloc, depth, Tag::Endcall, false)?;
+        let inner = self.body_after(alloc, depth, Tag::Endcall, false)?;
         let call = with_caller(alloc, call)?;
         let statement = Stmt::CallBlock(CallBlock {
             call,
@@ -169,7 +169,7 @@ impl Cursor<'_> {
         Ok(parameters)
     }
 
-    /// Parameters behind their opening bracket, inside one nesting more.
+    /// Parameters after their opening bracket, inside one nesting more.
     #[tactic(auto, using(crate::proofs::Nesting::macros))]
     #[inline(never)]
     fn inner_parameters(&mut self, alloc: Global, depth: u8) -> Result<Items<Parameter>, Error>
@@ -181,7 +181,7 @@ impl Cursor<'_> {
         self.parameters(alloc, depth - 1)
     }
 
-    /// Parameters behind their opening bracket, and their end; no name is that of two.
+    /// Parameters after their opening bracket, and their end; no name is that of two.
     #[tactic(auto, unfolding(crate::specs::Statements::parameters))]
     fn parameters(&mut self, alloc: Global, depth: u8) -> Result<Items<Parameter>, Error>
         ensures { Parses result self.new ((parameters (inside depth)).reads self.old) }
@@ -211,7 +211,7 @@ impl Cursor<'_> {
         Ok(parameters)
     }
 
-    /// More parameters, each behind a comma.
+    /// More parameters, each after a comma.
     #[tactic(auto, using(crate::proofs::Loops::commas))]
     fn more_parameters(
         &mut self,
@@ -266,7 +266,7 @@ impl Cursor<'_> {
 }
 
 /// What a call with a body calls: a block is a method of `self`, since it is passed this.
-/// OutOfMemory for want of memory.
+/// OutOfMemory when out of memory.
 fn with_caller(alloc: Global, call: Boxed<Expr>) -> Result<Boxed<Expr>, Error>
     ensures { MatchResult result
         (λ made. made ≡ statements.with_caller call)
@@ -279,7 +279,7 @@ fn with_caller(alloc: Global, call: Boxed<Expr>) -> Result<Boxed<Expr>, Error>
     Ok(call)
 }
 
-/// The call of a method of `self` with nothing. OutOfMemory for want of memory.
+/// The call of a method of `self` with nothing. OutOfMemory when out of memory.
 fn method_of_self(alloc: Global, name: Name) -> Result<Boxed<Expr>, Error>
     ensures { MatchResult result
         (λ made. made ≡ statements.method_of_self name)
@@ -308,7 +308,7 @@ fn have_no_default(parameters: &[Parameter]) -> bool
     true
 }
 
-/// Whether no name is that of two parameters; AllocError for want of memory.
+/// Whether no name is that of two parameters; AllocError when out of memory.
 fn has_distinct_names(alloc: Global, parameters: &[Parameter]) -> Result<bool, AllocError>
     ensures { IfOk result
         (λ distinct. distinct ≡ spec.are_distinct (parameter_names parameters.now)) }

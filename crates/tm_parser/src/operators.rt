@@ -22,7 +22,7 @@ use tm_items::{Boxed, Items};
 use tm_syntax::{BinaryOperator, Comparison, Expr, Step};
 use tm_values::Error;
 
-/// A value, and the levels whose steps are read behind it.
+/// A value, and the levels whose steps are read after it.
 #[derive(Drop)]
 pub struct Reached {
     /// The value.
@@ -33,7 +33,7 @@ pub struct Reached {
     pub end: u8,
 }
 
-/// A value with steps of a level, and the levels behind that one.
+/// A value with steps of a level, and the levels after that one.
 #[derive(Drop)]
 pub struct Reading {
     /// The value.
@@ -42,21 +42,21 @@ pub struct Reading {
     pub steps: Items<Step>,
     /// Their level.
     pub level: u8,
-    /// The first of the levels behind it.
+    /// The first of the levels after it.
     pub next: u8,
     /// The end of those levels.
     pub end: u8,
 }
 
-/// A comparison, and those in a row behind it.
+/// A comparison, and those in a row after it.
 #[derive(Drop)]
 pub struct Row {
     /// The operator.
     pub operator: BinaryOperator,
     /// The right side.
     pub right: Boxed<Expr>,
-    /// The comparisons behind it.
-    pub behind: Items<Comparison>,
+    /// The comparisons after it.
+    pub after: Items<Comparison>,
 }
 
 /// What a right side is that of.
@@ -66,8 +66,8 @@ pub enum Role {
     Operator(BinaryOperator),
     /// A comparison.
     Comparison(BinaryOperator),
-    /// A comparison in a row behind others.
-    Behind(Row, BinaryOperator),
+    /// A comparison in a row after others.
+    After(Row, BinaryOperator),
     /// `and`
     And,
     /// `or`
@@ -88,7 +88,7 @@ pub struct Waiting {
 pub enum Made {
     /// A step.
     Step(Step),
-    /// Comparisons, behind which others may stand.
+    /// Comparisons, after which others may stand.
     Row(Row),
 }
 
@@ -96,8 +96,8 @@ pub enum Made {
 #[derive(Drop)]
 pub enum Turn {
     /// What goes on with a value.
-    Behind(Reached),
-    /// What goes on with a value and is no operator, and then the levels behind it up to an end.
+    After(Reached),
+    /// What goes on with a value and is no operator, and then the levels after it up to an end.
     Postfix(Boxed<Expr>, u8),
     /// The right side of the last operator that waits, an operand of its level.
     Operand(u8),
@@ -105,10 +105,10 @@ pub enum Turn {
     Whole(Boxed<Expr>),
 }
 
-// What is left to be read behind each answer is what was left before. SyntaxError where no tokens
+// What is left to be read after each answer is what was left before. SyntaxError where no tokens
 // spell that.
 impl Cursor<'_> {
-    /// Behind an operand, the steps of all levels from one on and before the end.
+    /// After an operand, the steps of all levels from one on and before the end.
     #[cycle(expressions)]
     #[inline(never)]
     pub fn operators(
@@ -129,8 +129,8 @@ impl Cursor<'_> {
         };
         'turns: loop {
             reached = match self.turn(alloc, depth, reached, &mut waiting)? {
-                Turn::Behind(reached) => reached,
-                Turn::Postfix(value, end) => self.behind_postfix(alloc, depth, value, end)?,
+                Turn::After(reached) => reached,
+                Turn::Postfix(value, end) => self.after_postfix(alloc, depth, value, end)?,
                 Turn::Operand(level) => self.right_side(alloc, depth, level)?,
                 Turn::Whole(value) => return Ok(value),
             };
@@ -159,7 +159,7 @@ impl Cursor<'_> {
     #[cycle(expressions)]
     #[tactic(auto, using(crate::proofs::Waiting::postfix_starts))]
     #[inline(always)]
-    fn behind_postfix(
+    fn after_postfix(
         &mut self,
         alloc: Global,
         depth: u8,
@@ -168,7 +168,7 @@ impl Cursor<'_> {
     ) -> Result<Reached, Error>
         ensures left { Leads result self.new
             (λ r. (levels (inside depth) r.level r.end r.value).reads)
-            ((waits.behind_postfix (inside depth) value end).reads self.old) }
+            ((waits.after_postfix (inside depth) value end).reads self.old) }
         ensures level { IfOk result (λ r. r.level ≡ postfix_level + 1) }
         ensures no_more { IfOk result (λ r. length self.new ≤ length self.old) }
     {
@@ -180,7 +180,7 @@ impl Cursor<'_> {
         })
     }
 
-    /// What is read next behind a value.
+    /// What is read next after a value.
     #[inline(never)]
     fn turn(
         &mut self,
@@ -197,16 +197,16 @@ impl Cursor<'_> {
         ensures above { IfOk result (λ t. AllAbove waiting.new) }
     {
         let Some(level) = self.link_level(reached.level, reached.end) else {
-            return self.behind_right(alloc, depth, reached.value, waiting);
+            return self.after_right(alloc, depth, reached.value, waiting);
         };
         if level == POSTFIX_LEVEL {
             return Ok(Turn::Postfix(reached.value, reached.end));
         }
-        self.behind_operator(alloc, depth, level, reached, waiting)
+        self.after_operator(alloc, depth, level, reached, waiting)
     }
 
-    /// Behind an operator of a level, the first one there, its right side.
-    fn behind_operator(
+    /// After an operator of a level, the first one there, its right side.
+    fn after_operator(
         &mut self,
         alloc: Global,
         depth: u8,
@@ -226,7 +226,7 @@ impl Cursor<'_> {
         let _depth = depth;
         let next = level + 1;
         let Some(link) = self.take_link(level) else {
-            return Ok(Turn::Behind(Reached {
+            return Ok(Turn::After(Reached {
                 value: reached.value,
                 level: next,
                 end: reached.end,
@@ -246,11 +246,11 @@ impl Cursor<'_> {
         Ok(Turn::Operand(level))
     }
 
-    /// Behind a right side, another operator of the level of the last one that waits, or the levels
-    /// behind that one. Where none waits it is the whole.
+    /// After a right side, another operator of the level of the last one that waits, or the levels
+    /// after that one. Where none waits it is the whole.
     #[tactic(auto, using(crate::proofs::Waiting::above_less))]
     #[inline(never)]
-    fn behind_right(
+    fn after_right(
         &mut self,
         alloc: Global,
         depth: u8,
@@ -276,12 +276,12 @@ impl Cursor<'_> {
                 waiting.push(next)?;
                 Ok(Turn::Operand(level))
             }
-            None => Ok(Turn::Behind(ended(alloc, last.before, made)?)),
+            None => Ok(Turn::After(ended(alloc, last.before, made)?)),
         }
     }
 }
 
-/// What the right side behind a link is that of; none where it has none.
+/// What the right side after a link is that of; none where it has none.
 fn role_of(link: Link) -> Option<Role>
     ensures { result ≡ role_of link }
 {
@@ -294,7 +294,7 @@ fn role_of(link: Link) -> Option<Role>
     }
 }
 
-/// What a right side makes. OutOfMemory for want of memory.
+/// What a right side makes. OutOfMemory when out of memory.
 fn made_by(alloc: Global, role: Role, right: Boxed<Expr>) -> Result<Made, Error>
     ensures { MatchResult result
         (λ it. it ≡ waits.made role right)
@@ -305,19 +305,19 @@ fn made_by(alloc: Global, role: Role, right: Boxed<Expr>) -> Result<Made, Error>
         Role::Comparison(operator) => Ok(Made::Row(Row {
             operator,
             right,
-            behind: Items::new(alloc),
+            after: Items::new(alloc),
         })),
-        Role::Behind(row, operator) => Ok(Made::Row(Row {
+        Role::After(row, operator) => Ok(Made::Row(Row {
             operator: row.operator,
             right: row.right,
-            behind: with_one(row.behind, Comparison { operator, right })?,
+            after: with_one(row.after, Comparison { operator, right })?,
         })),
         Role::And => Ok(Made::Step(Step::And(right))),
         Role::Or => Ok(Made::Step(Step::Or(right))),
     }
 }
 
-/// What waits behind what a right side makes and another link of its level. SyntaxError where that
+/// What waits after what a right side makes and another link of its level. SyntaxError where that
 /// link may not stand there.
 fn again(before: Reading, made: Made, link: Link) -> Result<Waiting, Error>
     ensures { MatchResult result
@@ -325,13 +325,13 @@ fn again(before: Reading, made: Made, link: Link) -> Result<Waiting, Error>
         (λ e. Refused e (waits.again before made link ≡ None)) }
 {
     match made {
-        Made::Step(step) => behind_step(before, step, link),
-        Made::Row(row) => behind_row(before, row, link),
+        Made::Step(step) => after_step(before, step, link),
+        Made::Row(row) => after_row(before, row, link),
     }
 }
 
-/// The operator of a link behind a step of its level. SyntaxError where that has no right side.
-fn behind_step(before: Reading, step: Step, link: Link) -> Result<Waiting, Error>
+/// The operator of a link after a step of its level. SyntaxError where that has no right side.
+fn after_step(before: Reading, step: Step, link: Link) -> Result<Waiting, Error>
     ensures { MatchResult result
         (λ next. waits.again before (makes.Step step) link ≡ Some next)
         (λ e. Refused e (waits.again before (makes.Step step) link ≡ None)) }
@@ -349,8 +349,8 @@ fn behind_step(before: Reading, step: Step, link: Link) -> Result<Waiting, Error
     Ok(Waiting { before, role })
 }
 
-/// The comparison of a link in a row behind others. SyntaxError where that is none.
-fn behind_row(before: Reading, row: Row, link: Link) -> Result<Waiting, Error>
+/// The comparison of a link in a row after others. SyntaxError where that is none.
+fn after_row(before: Reading, row: Row, link: Link) -> Result<Waiting, Error>
     ensures { MatchResult result
         (λ next. waits.again before (makes.Row row) link ≡ Some next)
         (λ e. Refused e (waits.again before (makes.Row row) link ≡ None)) }
@@ -358,12 +358,12 @@ fn behind_row(before: Reading, row: Row, link: Link) -> Result<Waiting, Error>
     let Link::Comparison(operator) = link else {
         return Err(refusal());
     };
-    let role = Role::Behind(row, operator);
+    let role = Role::After(row, operator);
     Ok(Waiting { before, role })
 }
 
-/// A value with its steps of a level, the last of which a right side made, before the levels behind
-/// that one. OutOfMemory for want of memory.
+/// A value with its steps of a level, the last of which a right side made, before the levels after
+/// that one. OutOfMemory when out of memory.
 fn ended(alloc: Global, before: Reading, made: Made) -> Result<Reached, Error>
     ensures { MatchResult result
         (λ r. r ≡ record {
@@ -387,6 +387,6 @@ fn into_step(made: Made) -> Step
 {
     match made {
         Made::Step(step) => step,
-        Made::Row(row) => compared(row.operator, row.right, row.behind),
+        Made::Row(row) => compared(row.operator, row.right, row.after),
     }
 }

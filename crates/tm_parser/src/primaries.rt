@@ -88,7 +88,7 @@ impl Cursor<'_> {
         boxed(alloc, Expr::Var(name))
     }
 
-    /// The call of a name behind its opening bracket.
+    /// The call of a name after its opening bracket.
     #[cycle(expressions)]
     #[tactic(auto, unfolding(crate::specs::Grammar::called))]
     #[inline(never)]
@@ -118,7 +118,7 @@ impl Cursor<'_> {
         self.tuple(alloc, depth, first)
     }
 
-    /// An expression behind the end of its brackets: a name is called as one without them.
+    /// An expression after the end of its brackets: a name is called as one without them.
     #[cycle(expressions)]
     #[inline(never)]
     fn closed(&mut self, alloc: Global, depth: u8, value: Boxed<Expr>) -> Result<Boxed<Expr>, Error>
@@ -131,7 +131,7 @@ impl Cursor<'_> {
         Ok(value)
     }
 
-    /// A tuple behind its first item, and the end of its brackets.
+    /// A tuple after its first item, and the end of its brackets.
     #[cycle(expressions)]
     #[tactic(auto, unfolding(crate::specs::Grammar::tuple))]
     #[inline(never)]
@@ -239,7 +239,7 @@ impl Cursor<'_> {
         Ok(pairs)
     }
 
-    /// More pairs, each behind a comma.
+    /// More pairs, each after a comma.
     #[cycle(expressions)]
     #[tactic(auto, using(crate::proofs::Loops::commas))]
     fn more_pairs(
@@ -304,7 +304,7 @@ impl Cursor<'_> {
         self.expect(Sign::CloseRound)
     }
 
-    /// More arguments behind those that are given, each behind a comma.
+    /// More arguments after those that are given, each after a comma.
     #[cycle(expressions)]
     #[tactic(auto, using(crate::proofs::Loops::arguments))]
     fn more_passed(&mut self, alloc: Global, depth: u8, given: &mut Passed) -> Result<(), Error>
@@ -317,7 +317,7 @@ impl Cursor<'_> {
         Ok(())
     }
 
-    /// An argument, behind those that are given.
+    /// An argument, after those that are given.
     #[cycle(expressions)]
     #[tactic(auto, unfolding(crate::specs::Grammar::one_passed))]
     #[inline(never)]
@@ -337,7 +337,7 @@ impl Cursor<'_> {
         self.argument(alloc, depth, given)
     }
 
-    /// An argument by its name, behind its `=`.
+    /// An argument by its name, after its `=`.
     #[cycle(expressions)]
     #[tactic(auto, unfolding(crate::specs::Grammar::keyword))]
     fn keyword(
@@ -354,7 +354,7 @@ impl Cursor<'_> {
         add_keyword(given, Keyword::Named(name, value))
     }
 
-    /// A map of arguments by their names, behind its `**`.
+    /// A map of arguments by their names, after its `**`.
     #[cycle(expressions)]
     #[tactic(auto, unfolding(crate::specs::Grammar::spread_map))]
     fn spread_map(&mut self, alloc: Global, depth: u8, given: &mut Passed) -> Result<(), Error>
@@ -365,7 +365,7 @@ impl Cursor<'_> {
         add_keyword(given, Keyword::Spread(value))
     }
 
-    /// A list of arguments by their places, behind its `*`; it stands behind none by its name.
+    /// A list of arguments by their places, after its `*`; it stands after none by its name.
     #[cycle(expressions)]
     #[tactic(auto, unfolding(crate::specs::Grammar::spread_list), using(crate::proofs::Nesting::names))]
     fn spread_list(&mut self, alloc: Global, depth: u8, given: &mut Passed) -> Result<(), Error>
@@ -379,7 +379,7 @@ impl Cursor<'_> {
         add_argument(given, Argument::Spread(value))
     }
 
-    /// An argument by its place, which stands behind none by its name.
+    /// An argument by its place, which stands after none by its name.
     #[cycle(expressions)]
     #[tactic(auto, unfolding(crate::specs::Grammar::argument), using(crate::proofs::Nesting::names))]
     fn argument(&mut self, alloc: Global, depth: u8, given: &mut Passed) -> Result<(), Error>
@@ -394,7 +394,7 @@ impl Cursor<'_> {
     }
 }
 
-/// The call of a name with what it is passed. OutOfMemory for want of memory.
+/// The call of a name with what it is passed. OutOfMemory when out of memory.
 #[inline(never)]
 fn call_of(alloc: Global, name: Name, given: Passed) -> Result<Boxed<Expr>, Error>
     ensures { MatchResult result
@@ -405,7 +405,7 @@ fn call_of(alloc: Global, name: Name, given: Passed) -> Result<Boxed<Expr>, Erro
     boxed(alloc, Expr::Call(name, by_place, by_name))
 }
 
-/// A list of one item. OutOfMemory for want of memory.
+/// A list of one item. OutOfMemory when out of memory.
 #[inline(never)]
 fn lone_item(alloc: Global, item: Boxed<Expr>) -> Result<Items<Expr>, Error>
     ensures { MatchResult result
@@ -415,7 +415,7 @@ fn lone_item(alloc: Global, item: Boxed<Expr>) -> Result<Items<Expr>, Error>
     with_one(Items::new(alloc), item.into_inner())
 }
 
-/// Adds an expression to others. OutOfMemory for want of memory.
+/// Adds an expression to others. OutOfMemory when out of memory.
 #[inline(never)]
 fn add_expr(exprs: &mut Items<Expr>, value: Boxed<Expr>) -> Result<(), Error>
     ensures { MatchResult result
@@ -425,7 +425,7 @@ fn add_expr(exprs: &mut Items<Expr>, value: Boxed<Expr>) -> Result<(), Error>
     add_one(exprs, value.into_inner())
 }
 
-/// A tuple of items. OutOfMemory for want of memory.
+/// A tuple of items. OutOfMemory when out of memory.
 #[inline(never)]
 fn tuple_of(alloc: Global, items: Items<Expr>) -> Result<Boxed<Expr>, Error>
     ensures { MatchResult result
@@ -435,7 +435,7 @@ fn tuple_of(alloc: Global, items: Items<Expr>) -> Result<Boxed<Expr>, Error>
     boxed(alloc, Expr::Tuple(items))
 }
 
-/// A list of items. OutOfMemory for want of memory.
+/// A list of items. OutOfMemory when out of memory.
 #[inline(never)]
 fn list_of(alloc: Global, items: Items<Expr>) -> Result<Boxed<Expr>, Error>
     ensures { MatchResult result
@@ -455,7 +455,7 @@ pub fn nothing_passed(alloc: Global) -> Passed
     }
 }
 
-/// Adds an argument by its place to what is passed. OutOfMemory for want of memory.
+/// Adds an argument by its place to what is passed. OutOfMemory when out of memory.
 #[inline(never)]
 pub fn add_argument(given: &mut Passed, argument: Argument) -> Result<(), Error>
     ensures { MatchResult result
@@ -466,7 +466,7 @@ pub fn add_argument(given: &mut Passed, argument: Argument) -> Result<(), Error>
     Ok(())
 }
 
-/// Adds an argument by its name to what is passed. OutOfMemory for want of memory.
+/// Adds an argument by its name to what is passed. OutOfMemory when out of memory.
 #[inline(never)]
 fn add_keyword(given: &mut Passed, keyword: Keyword) -> Result<(), Error>
     ensures { MatchResult result

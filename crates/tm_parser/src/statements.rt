@@ -1,7 +1,7 @@
 //! Statements.
 ghost use Rattle.tm_parser.specs.Parses.{Adds, Parses};
 ghost use Rattle.tm_parser.specs.Grammar.{inside};
-ghost use Rattle.tm_parser.specs.Statements.{autoescape_tag, block_end, body, body_behind, captured, do_tag, elif_tag};
+ghost use Rattle.tm_parser.specs.Statements.{autoescape_tag, block_end, body, body_after, captured, do_tag, elif_tag};
 ghost use Rattle.tm_parser.specs.Statements.{else_or_end, else_tag, emission, ended_body, extends_tag, filter_tag, for_body, for_tag, if_tag, inner, jump, rest, set_block, set_tag};
 ghost use Rattle.tm_parser.specs.Statements.{set_value, statement, with_tag};
 ghost use Rattle.tm_grammar.specs.Combinators.{one_more, provided};
@@ -38,7 +38,7 @@ impl Cursor<'_> {
         self.body(alloc, depth - 1, looping)
     }
 
-    /// What stands behind the body of an `if`, inside one nesting more.
+    /// What stands after the body of an `if`, inside one nesting more.
     #[cycle(statements)]
     #[tactic(auto, using(crate::proofs::Nesting::statements))]
     fn inner_rest(
@@ -86,7 +86,7 @@ impl Cursor<'_> {
         Ok(body)
     }
 
-    /// The statement behind its start, at the end of others. Most are raw texts and emissions: they
+    /// The statement after its start, at the end of others. Most are raw texts and emissions: they
     /// go to their place at once, since a statement is large.
     #[cycle(statements)]
     #[inline(always)]
@@ -135,7 +135,7 @@ impl Cursor<'_> {
         self.emission(alloc, depth, body)
     }
 
-    /// The statement behind its start, whichever it is, at the end of others.
+    /// The statement after its start, whichever it is, at the end of others.
     #[cycle(statements)]
     #[inline(never)]
     fn other_statement(
@@ -193,7 +193,7 @@ impl Cursor<'_> {
         add_one(body, Stmt::If(condition, inner, other))
     }
 
-    /// What stands behind the body of an `if`, up to its end tag: the else part, or none.
+    /// What stands after the body of an `if`, up to its end tag: the else part, or none.
     #[cycle(statements)]
     #[tactic(auto, unfolding(crate::specs::Statements::rest))]
     fn rest(
@@ -262,21 +262,21 @@ impl Cursor<'_> {
     ) -> Result<Option<Items<Stmt>>, Error>
         ensures { Parses result self.new ((else_tag (inner depth) end looping).reads self.old) }
     {
-        let body = self.body_behind(alloc, depth, end, looping)?;
+        let body = self.body_after(alloc, depth, end, looping)?;
         Ok(Some(body))
     }
 
     /// The end of a tag, a body and this end tag.
     #[cycle(statements)]
-    #[tactic(auto, unfolding(crate::specs::Statements::body_behind))]
-    pub fn body_behind(
+    #[tactic(auto, unfolding(crate::specs::Statements::body_after))]
+    pub fn body_after(
         &mut self,
         alloc: Global,
         depth: u8,
         end: Tag,
         looping: bool,
     ) -> Result<Items<Stmt>, Error>
-        ensures { Parses result self.new ((body_behind (inner depth) end looping).reads self.old) }
+        ensures { Parses result self.new ((body_after (inner depth) end looping).reads self.old) }
     {
         self.expect(Sign::BlockEnd)?;
         self.ended_body(alloc, depth, end, looping)
@@ -400,7 +400,7 @@ impl Cursor<'_> {
         self.set_block(alloc, depth, looping, target, body)
     }
 
-    /// The value of a `set` behind its `=`, and its end.
+    /// The value of a `set` after its `=`, and its end.
     #[tactic(auto, unfolding(crate::specs::Statements::set_value))]
     #[inline(never)]
     fn set_value(
@@ -455,7 +455,7 @@ impl Cursor<'_> {
             ((one_more (captured (inner depth) end looping becomes filters) body.old).reads
             self.old) }
     {
-        let inner = self.body_behind(alloc, depth, end, looping)?;
+        let inner = self.body_after(alloc, depth, end, looping)?;
         add_one(body, Stmt::CaptureBlock(becomes, filters, inner))
     }
 
@@ -522,7 +522,7 @@ impl Cursor<'_> {
             self.old) }
     {
         let value = self.inner_expr(alloc, depth)?;
-        let inner = self.body_behind(alloc, depth, Tag::Endautoescape, looping)?;
+        let inner = self.body_after(alloc, depth, Tag::Endautoescape, looping)?;
         add_one(body, Stmt::AutoEscape(value, inner))
     }
 

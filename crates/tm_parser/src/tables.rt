@@ -72,7 +72,7 @@ pub enum Start {
 }
 
 // The levels of operators, from the tightest.
-/// Of what stands behind a value.
+/// Of what stands after a value.
 pub const POSTFIX_LEVEL: u8 = 0;
 /// Of powers.
 pub const POWER_LEVEL: u8 = 1;
@@ -145,7 +145,7 @@ pub fn link_of(sign: Sign) -> Option<(u8, Link)>
     })
 }
 
-/// How a sign behind `not` goes on with a value, and at which level.
+/// How a sign after `not` goes on with a value, and at which level.
 pub fn negated_link_of(sign: Sign) -> Option<(u8, Link)>
     ensures at { result ≡ tokens.negated_link_of sign }
     ensures operator { IfSome result (λ x. is_some (role_of x.1) ≡ nat_lt 0 x.0) }

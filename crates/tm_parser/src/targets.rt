@@ -59,7 +59,7 @@ impl Cursor<'_> {
         self.several(alloc, depth, first)
     }
 
-    /// Several targets behind the first one, with a comma behind the last one or none.
+    /// Several targets after the first one, with a comma after the last one or none.
     #[cycle(targets)]
     #[tactic(auto, unfolding(crate::specs::Grammar::several))]
     fn several(
@@ -76,7 +76,7 @@ impl Cursor<'_> {
         Ok(AssignmentTarget::Unpack(targets))
     }
 
-    /// More targets, each behind a comma.
+    /// More targets, each after a comma.
     #[cycle(targets)]
     #[tactic(auto, using(crate::proofs::Loops::target_commas))]
     fn more_targets(
@@ -185,7 +185,7 @@ impl Cursor<'_> {
         Ok(None)
     }
 
-    /// A value or a tuple without brackets, behind which an `if` is the loop's.
+    /// A value or a tuple without brackets, after which an `if` is the loop's.
     #[tactic(auto, unfolding(crate::specs::Statements::iterated))]
     fn iterated(&mut self, alloc: Global, depth: u8) -> Result<Boxed<Expr>, Error>
         ensures { Parses result self.new ((iterated (inside depth)).reads self.old) }
@@ -197,7 +197,7 @@ impl Cursor<'_> {
         self.iterated_tuple(alloc, depth, first)
     }
 
-    /// A tuple without brackets behind its first item, with a comma behind the last one or none.
+    /// A tuple without brackets after its first item, with a comma after the last one or none.
     #[tactic(auto, unfolding(crate::specs::Statements::iterated_tuple))]
     fn iterated_tuple(
         &mut self,
@@ -213,7 +213,7 @@ impl Cursor<'_> {
         boxed(alloc, Expr::Tuple(items))
     }
 
-    /// More values, each behind a comma.
+    /// More values, each after a comma.
     #[tactic(auto, using(crate::proofs::Loops::iterations))]
     fn more_iterated(
         &mut self,
@@ -256,7 +256,7 @@ impl Cursor<'_> {
         self.bare_tuple(alloc, depth, first)
     }
 
-    /// A tuple without brackets behind its first item, and the end of the tag.
+    /// A tuple without brackets after its first item, and the end of the tag.
     #[tactic(auto, unfolding(crate::specs::Statements::bare_tuple))]
     fn bare_tuple(
         &mut self,
@@ -272,7 +272,7 @@ impl Cursor<'_> {
         boxed(alloc, Expr::Tuple(items))
     }
 
-    /// More expressions behind others, and the end of the tag.
+    /// More expressions after others, and the end of the tag.
     #[tactic(auto, unfolding(crate::specs::Grammar::items))]
     fn bare_items(
         &mut self,
@@ -293,7 +293,7 @@ impl Cursor<'_> {
         Ok(items)
     }
 
-    /// More expressions, each behind a comma.
+    /// More expressions, each after a comma.
     #[tactic(auto, using(crate::proofs::Loops::commas))]
     fn more_bare_items(
         &mut self,
@@ -343,7 +343,7 @@ impl Cursor<'_> {
         Ok(assignments)
     }
 
-    /// More assignments, each behind a comma.
+    /// More assignments, each after a comma.
     #[tactic(auto, using(crate::proofs::Loops::commas))]
     fn more_assignments(
         &mut self,

@@ -13,7 +13,7 @@ error_of Writer = WriteFailure ∷ []
 error_of Stuck = BadStream ∷ []
 error_of (Fault chain) = chain
 
--- the writer's count of failures behind an answer: one more where the writer halted the run, and else the same
+-- the writer's count of failures after an answer: one more where the writer halted the run, and else the same
 abbrev pub failures_after : {A : Type 0} → Result A Halt → ℕ → ℕ
 failures_after (Ok _) failures = failures
 failures_after (Err Writer) failures = saturating_increment failures

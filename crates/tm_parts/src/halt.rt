@@ -8,7 +8,7 @@ pub enum Halt {
     Writer,
     /// The stream can't go on: no compiler wrote it.
     Stuck,
-    /// A fault, or want of memory.
+    /// A fault, or out of memory.
     Fault(Error),
 }
 
@@ -29,7 +29,7 @@ impl From<Halt> for Error {
 
     ghost from_gives = { λ halt error. error ≡ error_of halt };
 
-    /// What a caller is told: WriteFailure without a cause, BadStream, or the fault itself.
+    /// What a caller gets: WriteFailure without a cause, BadStream, or the fault itself.
     fn from(halt: Halt) -> Error {
         match halt {
             Halt::Writer => Error::from(ErrorKind::WriteFailure),

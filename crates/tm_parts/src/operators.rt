@@ -107,7 +107,7 @@ fn of_numbers(operator: BinaryOperator, left: i128, right: i128) -> Option<Value
     Some(Value::boolean(comparison.is_met(left.cmp(&right))))
 }
 
-/// Keys, each with the value behind it; a last key without one is dropped. Fails by OutOfMemory alone.
+/// Keys, each with the value after it; a last key without one is dropped. Fails by OutOfMemory alone.
 pub fn paired(alloc: Global, values: Vec<Value>) -> Result<Vec<(Value, Value)>, Error>
     ensures ok { IfOk result (λ pairs. pairs.items ≡ instructions.paired values.items) }
     ensures kind { IfErr result (λ e. e ≡ OutOfMemory ∷ []) }

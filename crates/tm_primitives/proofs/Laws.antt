@@ -83,7 +83,7 @@ past_down a m x y e =
       | inr d ↦ omega (arith, ints, d.0)
     ]
 
--- of the steps that are counted each is before the stop, and the one behind them is not
+-- of the steps that are counted each is before the stop, and the one after them is not
 pub before_at : (z x y : ℤ) (k : ℕ) → z ≢ pos 0 → k < count_before z x y → IsBefore z (step_to x z k) y
 before_at (pos zero) x y k h l = absurd (h refl)
 before_at (pos (suc a)) x y k h l =

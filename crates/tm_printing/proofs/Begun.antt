@@ -19,22 +19,22 @@ module _ {T : Type 0} (took stopped : T → List ℕ → T → Type 0) (laws : L
   none_taken a whole = record { done = []; taken = laws.nothing a; is = refl }
 
   -- the next piece is taken
-  pub past : (a b c : T) (whole left piece behind : List ℕ) → Begun took a whole b left → left ≡ piece ++ behind → took b piece c
-      → Begun took a whole c behind
-  past a b c whole left piece behind begun parts taken = record {
+  pub past : (a b c : T) (whole left piece after : List ℕ) → Begun took a whole b left → left ≡ piece ++ after → took b piece c
+      → Begun took a whole c after
+  past a b c whole left piece after begun parts taken = record {
     done = begun.done ++ piece;
     taken = laws.then_took a b c begun.done piece begun.taken taken;
-    is = begun.is ∙ (ap (λ (l : List ℕ). begun.done ++ l) parts ∙ sym (append_assoc begun.done piece behind));
+    is = begun.is ∙ (ap (λ (l : List ℕ). begun.done ++ l) parts ∙ sym (append_assoc begun.done piece after));
   }
 
   -- the target stops within the next piece
-  pub stops : (a b c : T) (whole left piece behind : List ℕ) → Begun took a whole b left → left ≡ piece ++ behind → stopped b piece c
+  pub stops : (a b c : T) (whole left piece after : List ℕ) → Begun took a whole b left → left ≡ piece ++ after → stopped b piece c
       → stopped a whole c
-  stops a b c whole left piece behind begun parts part =
+  stops a b c whole left piece after begun parts part =
       let within : stopped a (begun.done ++ piece) c = laws.then_stopped a b c begun.done piece begun.taken part in
-      let whole_is : whole ≡ (begun.done ++ piece) ++ behind =
-      begun.is ∙ (ap (λ (l : List ℕ). begun.done ++ l) parts ∙ sym (append_assoc begun.done piece behind)) in
-      subst (λ (l : List ℕ). stopped a l c) (sym whole_is) (laws.longer a c (begun.done ++ piece) behind within)
+      let whole_is : whole ≡ (begun.done ++ piece) ++ after =
+      begun.is ∙ (ap (λ (l : List ℕ). begun.done ++ l) parts ∙ sym (append_assoc begun.done piece after)) in
+      subst (λ (l : List ℕ). stopped a l c) (sym whole_is) (laws.longer a c (begun.done ++ piece) after within)
 
   -- nothing is left
   pub ended : (a b : T) (whole left : List ℕ) → Begun took a whole b left → left ≡ [] → took a whole b
@@ -50,13 +50,13 @@ module _ {T : Type 0} (took stopped : T → List ℕ → T → Type 0) (laws : L
       (length begun.done, subst (λ (l : List ℕ). took a l b) (sym part) begun.taken)
 
   -- a piece is taken, and then the rest is written
-  pub behind_it : {U : Type 0} (a b c : T) (text piece rest : List ℕ) (r : Result U Unwritten) → took a piece b → text ≡ piece ++ rest
+  pub after_it : {U : Type 0} (a b c : T) (text piece rest : List ℕ) (r : Result U Unwritten) → took a piece b → text ≡ piece ++ rest
       → Writes took stopped r b rest c → Writes took stopped r a text c
-  behind_it a b c text piece rest (Ok u) taken parts written =
+  after_it a b c text piece rest (Ok u) taken parts written =
       subst (λ (l : List ℕ). took a l c) (sym parts) (laws.then_took a b c piece rest taken written)
-  behind_it a b c text piece rest (Err unwritten.Target) taken parts written =
+  after_it a b c text piece rest (Err unwritten.Target) taken parts written =
       subst (λ (l : List ℕ). stopped a l c) (sym parts) (laws.then_stopped a b c piece rest taken written)
-  behind_it a b c text piece rest (Err unwritten.Memory) taken parts written =
+  after_it a b c text piece rest (Err unwritten.Memory) taken parts written =
       let part : take (length piece + written.0) text ≡ piece ++ take written.0 rest =
       ap (λ (l : List ℕ). take (length piece + written.0) l) parts ∙ take-append-add piece rest written.0 in (
         length piece + written.0,

@@ -82,7 +82,7 @@ closed_mark fines around n k old new now before (inr other) =
 module _ (form : Form) (r : RecordData) where
   -- ---- what remains
 
-  -- what is refused innermost is refused of the whole, behind the namespaces that are open
+  -- what is refused innermost is refused of the whole, after the namespaces that are open
   refused : (fines : List ℕ) → Settled form r fines → (xs : List Unchecked) (around : List ℕ) (levels : ℕ) (top whole later : Part)
       (chain : List ErrorKind)
       → Remains form r fines top whole later xs → AllNew fines (opens around xs) → length fines + length (opens around xs) ≤ levels + length around
@@ -370,16 +370,16 @@ module _ (form : Form) (r : RecordData) where
       refuses v top left marks chain h (λ around levels on_way. same (namespace_verdict form r levels (among around)) ∙ answers m)
 
   -- the first key is refused
-  pub goes_key : (pair : Val × Val) (pairs behind : List (Val × Val)) (left : List Unchecked) (marks : List Mark) (chain : List ErrorKind)
-      (v : Val) → pairs ≡ pair ∷ behind → in_json form (key_verdict pair.0) ≡ Err chain
+  pub goes_key : (pair : Val × Val) (pairs following : List (Val × Val)) (left : List Unchecked) (marks : List Mark) (chain : List ErrorKind)
+      (v : Val) → pairs ≡ pair ∷ following → in_json form (key_verdict pair.0) ≡ Err chain
       → Stands form r v (λ inside. pairs_verdict form r inside (pairs_of pairs)) left marks
       → verdict_within form r (length r.namespaces) nowhere v ≡ Err chain
-  goes_key pair pairs behind left marks chain v is bad h = refuses v (λ inside. pairs_verdict form r inside (pairs_of pairs)) left marks chain h
+  goes_key pair pairs following left marks chain v is bad h = refuses v (λ inside. pairs_verdict form r inside (pairs_of pairs)) left marks chain h
       (λ around levels on_way.
       let inside = namespace_verdict form r levels (among around) in
       ap (λ (l : List (Val × Val)). pairs_verdict form r inside (pairs_of l)) is
       ∙ ap (λ (o : Verdict). and_then (and_then o (and_then (verdict form r inside pair.0) (verdict form r inside pair.1)))
-      (pairs_verdict form r inside (pairs_of behind))) bad)
+      (pairs_verdict form r inside (pairs_of following))) bad)
 
   -- the end of a namespace leaves the list, where its mark finds memory
   pub goes_closed : (result : Result (Unit {0}) (List ErrorKind)) (n : ℕ) (left below : List Unchecked) (marks new_marks : List Mark)

@@ -12,10 +12,10 @@ pub member_first : (inside : NamespaceData) (later : Bool) (left ps : List (Val 
     ≡ (comma_if later ++ (key_text p.0 ++ 58 ∷ [])) ++ (compact_text (data_of inside p.1) ++ members_text true (members_of inside
     (pairs_of ps)))
 member_first inside later left ps p is =
-    let behind = compact_text (data_of inside p.1) ++ members_text true (members_of inside (pairs_of ps)) in
+    let after = compact_text (data_of inside p.1) ++ members_text true (members_of inside (pairs_of ps)) in
     ap (λ (l : List (Val × Val)). members_text later (members_of inside (pairs_of l))) is
-    ∙ (ap (λ (l : List ℕ). comma_if later ++ l) (sym (append_assoc (key_text p.0) (58 ∷ []) behind))
-    ∙ sym (append_assoc (comma_if later) (key_text p.0 ++ 58 ∷ []) behind))
+    ∙ (ap (λ (l : List ℕ). comma_if later ++ l) (sym (append_assoc (key_text p.0) (58 ∷ []) after))
+    ∙ sym (append_assoc (comma_if later) (key_text p.0 ++ 58 ∷ []) after))
 
 -- a namespace that is there, with a level left
 pub namespace-there : (r : RecordData) (levels below s n : ℕ) (ps : List (Val × Val)) → levels ≡ suc below → namespace_at r s n ≡ Some ps →

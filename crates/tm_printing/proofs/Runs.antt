@@ -30,11 +30,11 @@ module _ (spelled : ℕ → List ℕ) (bs : List ℕ) where
   pub plain_step : (start i : ℕ) → start ≤ i → i < length bs → spelled (get_or bs i 0) ≡ get_or bs i 0 ∷ [] →
       left spelled bs start i ≡ left spelled bs start (i + 1)
   plain_step start i le h plain =
-      let behind = flat_map spelled (drop (i + 1) bs) in
-      let same = next i h ∙ ap (λ (l : List ℕ). l ++ behind) plain in
+      let after = flat_map spelled (drop (i + 1) bs) in
+      let same = next i h ∙ ap (λ (l : List ℕ). l ++ after) plain in
       ap (λ (l : List ℕ). run bs start i ++ l) same
-      ∙ (sym (append_assoc (run bs start i) (get_or bs i 0 ∷ []) behind)
-      ∙ ap (λ (l : List ℕ). l ++ behind) (sym (waits bs start i le h)))
+      ∙ (sym (append_assoc (run bs start i) (get_or bs i 0 ∷ []) after)
+      ∙ ap (λ (l : List ℕ). l ++ after) (sym (waits bs start i le h)))
 
   -- one that doesn't ends the run
   pub spelled_step : (start i : ℕ) → i < length bs →

@@ -35,15 +35,15 @@ module _ {T : Type 0} (took stopped : T → List ℕ → T → Type 0) (laws : L
 
     -- a value comes next
     pub at_value : (new : T) (o : Option Step) (s : Step) → o ≡ Some s → Advances took stopped (Ok o) now (text x) value text new
-        → Begun took start whole new (value s.levels s.value.now ++ (text s.behind ++ left_text text xs))
+        → Begun took start whole new (value s.levels s.value.now ++ (text s.after ++ left_text text xs))
     at_value new o s is written =
         let before : Advances took stopped (Ok (Some s)) now (text x) value text new =
         subst (λ (p : Option Step). Advances took stopped (Ok p) now (text x) value text new) is written in
         let v = value s.levels s.value.now in
-        let parts : text x ++ left_text text xs ≡ before.0 ++ (v ++ (text s.behind ++ left_text text xs)) =
+        let parts : text x ++ left_text text xs ≡ before.0 ++ (v ++ (text s.after ++ left_text text xs)) =
         ap (λ (l : List ℕ). l ++ left_text text xs) before.1.1
-        ∙ (append_assoc before.0 (v ++ text s.behind) (left_text text xs)
-        ∙ ap (λ (l : List ℕ). before.0 ++ l) (append_assoc v (text s.behind) (left_text text xs))) in
+        ∙ (append_assoc before.0 (v ++ text s.after) (left_text text xs)
+        ∙ ap (λ (l : List ℕ). before.0 ++ l) (append_assoc v (text s.after) (left_text text xs))) in
         past took stopped laws start now new whole _ before.0 _ begun parts before.1.0
 
 module _ {T : Type 0} (took stopped : T → List ℕ → T → Type 0) (laws : Laws took stopped) (text : Rest → List ℕ)
@@ -76,7 +76,7 @@ closed_lighter k x o is light some =
     at_end k some
 
 pub step_lighter : (k : ℕ) (x : Rest) (o : Option Step) (s : Step) → o ≡ Some s → IsLighter (Ok o) x → 0 < k
-    → val_size s.value.now * power k s.levels + rest_weight k s.behind < rest_weight k x
+    → val_size s.value.now * power k s.levels + rest_weight k s.after < rest_weight k x
 step_lighter k x o s is light some =
     let next : IsLighter (Ok (Some s)) x = subst (λ (p : Option Step). IsLighter (Ok p) x) is light in
     next k some

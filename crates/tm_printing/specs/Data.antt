@@ -22,18 +22,18 @@ json_rest r (rest.Member value left levels) =
     58 ∷ (json_within r levels value.now
     ++ members_text true (members_of (namespace_data r levels) (pairs_of left.now)))
 
--- the text before the next value, the value, and what is left behind it
+-- the text before the next value, the value, and what is left after it
 abbrev pub IsNextJson : Rest → Next → Type 0
 IsNextJson x (next.Value before step) = (r : RecordData)
     → json_rest r x
-    ≡ before.now ++ (json_within r step.levels step.value.now ++ json_rest r step.behind)
+    ≡ before.now ++ (json_within r step.levels step.value.now ++ json_rest r step.after)
 IsNextJson x (next.Keyed before key step) = (r : RecordData)
     → json_rest r x
     ≡ (before.now ++ (key_text key.now ++ 58 ∷ []))
-    ++ (json_within r step.levels step.value.now ++ json_rest r step.behind)
+    ++ (json_within r step.levels step.value.now ++ json_rest r step.after)
 IsNextJson x (next.End closing) = (r : RecordData) → json_rest r x ≡ closing.now
 
--- the next value and what is left behind it weigh less than what was left before
+-- the next value and what is left after it weigh less than what was left before
 abbrev pub IsNextJsonLighter : Rest → Next → Type 0
 IsNextJsonLighter x (next.Value before step) = IsLighter (Ok (Some step)) x
 IsNextJsonLighter x (next.Keyed before key step) = IsLighter (Ok (Some step)) x
@@ -47,7 +47,7 @@ leaf_json (keywords ps) = []
 leaf_json (exports ps s) = []
 leaf_json v = compact_text (data_of (λ s n. json.null) v)
 
--- an opening bracket, and what is left behind it
+-- an opening bracket, and what is left after it
 abbrev pub IsJsonOpened : RecordData → ℕ → Val → List ℕ → Rest → Type 0
 IsJsonOpened r levels v opening x =
     (json_within r levels v ≡ opening ++ json_rest r x)

@@ -33,21 +33,21 @@ Writes took stopped (Err unwritten.Memory) old text new = (n : ℕ) × took old 
 abbrev pub Begins :
     {T : Type 0} → (T → List ℕ → T → Type 0) → (T → List ℕ → T → Type 0)
     → Result (Option Rest) TargetFailed → T → List ℕ → (Rest → List ℕ) → T → Type 0
-Begins took stopped (Ok None) old text behind new = took old text new
-Begins took stopped (Ok (Some x)) old text behind new =
-    (before : List ℕ) × (took old before new × (text ≡ before ++ behind x))
-Begins took stopped (Err e) old text behind new = stopped old text new
+Begins took stopped (Ok None) old text after new = took old text new
+Begins took stopped (Ok (Some x)) old text after new =
+    (before : List ℕ) × (took old before new × (text ≡ before ++ after x))
+Begins took stopped (Err e) old text after new = stopped old text new
 
 -- what stands before the next value was written, or all that was left
 abbrev pub Advances :
     {T : Type 0} → (T → List ℕ → T → Type 0) → (T → List ℕ → T → Type 0)
     → Result (Option Step) TargetFailed → T → List ℕ
     → (ℕ → Val → List ℕ) → (Rest → List ℕ) → T → Type 0
-Advances took stopped (Ok None) old text value behind new = took old text new
-Advances took stopped (Ok (Some step)) old text value behind new =
+Advances took stopped (Ok None) old text value after new = took old text new
+Advances took stopped (Ok (Some step)) old text value after new =
     (before : List ℕ) × (took old before new
-    × (text ≡ before ++ (value step.levels step.value.now ++ behind step.behind)))
-Advances took stopped (Err e) old text value behind new = stopped old text new
+    × (text ≡ before ++ (value step.levels step.value.now ++ after step.after)))
+Advances took stopped (Err e) old text value after new = stopped old text new
 
 -- ---- how much it is: a level outweighs what any one namespace holds
 
@@ -79,9 +79,9 @@ IsNoHeavier (Ok None) r levels v = Unit
 IsNoHeavier (Ok (Some x)) r levels v = rest_weight (weight r) x ≤ val_size v * power (weight r) levels
 IsNoHeavier (Err e) r levels v = Unit
 
--- the next value and what is left behind it weigh less than what was left before
+-- the next value and what is left after it weigh less than what was left before
 abbrev pub IsLighter : Result (Option Step) TargetFailed → Rest → Type 0
 IsLighter (Ok None) x = (k : ℕ) → 0 < k → 0 < rest_weight k x
 IsLighter (Ok (Some step)) x = (k : ℕ) → 0 < k
-    → val_size step.value.now * power k step.levels + rest_weight k step.behind < rest_weight k x
+    → val_size step.value.now * power k step.levels + rest_weight k step.after < rest_weight k x
 IsLighter (Err e) x = Unit

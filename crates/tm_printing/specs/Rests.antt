@@ -20,11 +20,11 @@ printed_rest r (rest.Member value left levels) =
     codes ": " ++ (inner r (namespace_text r levels) value.now
     ++ inner_pairs r (namespace_text r levels) true (pairs_of left.now))
 
--- the text before the next value, the value, and what is left behind it
+-- the text before the next value, the value, and what is left after it
 abbrev pub IsNext : Rest → Next → Type 0
 IsNext x (next.Value before step) = (r : RecordData)
     → printed_rest r x
-    ≡ before.now ++ (inner r (namespace_text r step.levels) step.value.now ++ printed_rest r step.behind)
+    ≡ before.now ++ (inner r (namespace_text r step.levels) step.value.now ++ printed_rest r step.after)
 IsNext x (next.End closing) = (r : RecordData) → printed_rest r x ≡ closing.now
 
 -- of a value without parts; what has parts is opened, where it is there
@@ -34,7 +34,7 @@ leaf_text r (map ps) = []
 leaf_text r (keywords ps) = []
 leaf_text r v = inner r (λ s n. []) v
 
--- an opening bracket, and what is left behind it
+-- an opening bracket, and what is left after it
 abbrev pub IsOpened : RecordData → ℕ → Val → List ℕ → Rest → Type 0
 IsOpened r levels v opening x =
     (inner r (namespace_text r levels) v ≡ opening ++ printed_rest r x)
@@ -43,7 +43,7 @@ IsOpened r levels v opening x =
 abbrev pub IsLeaf : RecordData → ℕ → Val → Type 0
 IsLeaf r levels v = inner r (namespace_text r levels) v ≡ leaf_text r v
 
--- the next value and what is left behind it weigh less than what was left before
+-- the next value and what is left after it weigh less than what was left before
 abbrev pub IsNextRestLighter : Rest → Next → Type 0
 IsNextRestLighter x (next.Value before step) = IsLighter (Ok (Some step)) x
 IsNextRestLighter x (next.End closing) = IsLighter (Ok None) x

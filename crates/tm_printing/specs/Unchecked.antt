@@ -86,7 +86,7 @@ pub record IsUnmet (r : RecordData) (s n : ℕ) (ps : List (Val × Val)) (marks 
 
 -- Of the whole, and of each namespace that is open: what was looked at of it is fine wherever the
 -- namespaces found fine are, so what is left of it has its verdict. The innermost stands last, and
--- `top` behind the list; `later` is what is left of the one around, which is looked at last.
+-- `top` after the list; `later` is what is left of the one around, which is looked at last.
 abbrev pub Remains : Form → RecordData → List ℕ → Part → Part → Part → List Unchecked → Type 0
 Remains form r fines top whole later [] =
     (inside : NamespaceVerdicts) → AllFine r fines inside → and_then (top inside) (later inside) ≡ whole inside

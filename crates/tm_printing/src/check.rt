@@ -113,10 +113,10 @@ fn check_items<'a, R: Records>(
         < to_check (R.records records.now) left.old.items marks.old.items
         + (vals_size (vals_of items.now) + 1)) }
 {
-    let Some((item, behind)) = items.split_first() else {
+    let Some((item, after)) = items.split_first() else {
         return Ok(());
     };
-    put(Unchecked::Items(behind), left)?;
+    put(Unchecked::Items(after), left)?;
     enter(form, item, records, left, marks)
 }
 
@@ -135,11 +135,11 @@ fn check_pairs<'a, R: Records>(
         < to_check (R.records records.now) left.old.items marks.old.items
         + (pairs_size (pairs_of pairs.now) + 1)) }
 {
-    let Some((pair, behind)) = pairs.split_first() else {
+    let Some((pair, after)) = pairs.split_first() else {
         return Ok(());
     };
     check_key(form, &pair.0)?;
-    put(Unchecked::Pairs(behind), left)?;
+    put(Unchecked::Pairs(after), left)?;
     put(Unchecked::Value(&pair.1), left)?;
     enter(form, &pair.0, records, left, marks)
 }

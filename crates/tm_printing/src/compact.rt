@@ -100,7 +100,7 @@ fn take_next<'a>(rest: Rest<'a>) -> Next<'a>
                 Step {
                     value,
                     levels,
-                    behind: Rest::Items(left, true, levels),
+                    after: Rest::Items(left, true, levels),
                 },
             ),
             None => Next::End("]"),
@@ -112,7 +112,7 @@ fn take_next<'a>(rest: Rest<'a>) -> Next<'a>
                 Step {
                     value: &pair.1,
                     levels,
-                    behind: Rest::Pairs(left, true, levels),
+                    after: Rest::Pairs(left, true, levels),
                 },
             ),
             None => Next::End("}"),
@@ -122,7 +122,7 @@ fn take_next<'a>(rest: Rest<'a>) -> Next<'a>
             Step {
                 value,
                 levels,
-                behind: Rest::Pairs(left, true, levels),
+                after: Rest::Pairs(left, true, levels),
             },
         ),
     }
@@ -134,7 +134,7 @@ fn comma(later: bool) -> &'static str
     if later { "," } else { "" }
 }
 
-// The bracket that opens an array or an object, and what is left behind it.
+// The bracket that opens an array or an object, and what is left after it.
 fn open<'a, R: Records>(
     value: &'a Value,
     levels: usize,

@@ -48,7 +48,7 @@ fn join<R: Records>(alloc: Global, left: Value, right: &Value, records: &R) -> R
     check_print(alloc, &left, records)?;
     check_print(alloc, right, records)?;
     let mut text = into_printed(alloc, left, records)?;
-    print_behind(alloc, right, records, &mut text)?;
+    print_after(alloc, right, records, &mut text)?;
     Ok(Value::shared_text(text, false))
 }
 
@@ -61,14 +61,14 @@ fn into_printed<R: Records>(alloc: Global, value: Value, records: &R) -> Result<
         Ok((content, _safe)) => Ok(content),
         Err(value) => {
             let mut text = SharedText::from_string(String::new(alloc))?;
-            print_behind(alloc, &value, records, &mut text)?;
+            print_after(alloc, &value, records, &mut text)?;
             Ok(text)
         }
     }
 }
 
 // Appends the printed text.
-fn print_behind<R: Records>(
+fn print_after<R: Records>(
     alloc: Global,
     value: &Value,
     records: &R,

@@ -138,7 +138,7 @@ fn take_next<'a>(rest: Rest<'a>) -> Next<'a>
                 Step {
                     value,
                     levels,
-                    behind: Rest::Items(left, true, levels),
+                    after: Rest::Items(left, true, levels),
                 },
             ),
             None => Next::End("]"),
@@ -149,7 +149,7 @@ fn take_next<'a>(rest: Rest<'a>) -> Next<'a>
                 Step {
                     value: &pair.0,
                     levels,
-                    behind: Rest::Member(&pair.1, left, levels),
+                    after: Rest::Member(&pair.1, left, levels),
                 },
             ),
             None => Next::End("}"),
@@ -159,7 +159,7 @@ fn take_next<'a>(rest: Rest<'a>) -> Next<'a>
             Step {
                 value,
                 levels,
-                behind: Rest::Pairs(left, true, levels),
+                after: Rest::Pairs(left, true, levels),
             },
         ),
     }
@@ -171,7 +171,7 @@ fn comma(later: bool) -> &'static str
     if later { ", " } else { "" }
 }
 
-// The bracket that opens a list, a map or a namespace that is there, and what is left behind it.
+// The bracket that opens a list, a map or a namespace that is there, and what is left after it.
 fn open<'a, R: Records>(
     value: &'a Value,
     levels: usize,

@@ -9,11 +9,11 @@ pub enum Rest<'a> {
     Items(&'a [Value], bool, usize),
     /// Pairs, and whether one stands before them.
     Pairs(&'a [(Value, Value)], bool, usize),
-    /// The value of a pair whose key is written, and the pairs behind it.
+    /// The value of a pair whose key is written, and the pairs after it.
     Member(&'a Value, &'a [(Value, Value)], usize),
 }
 
-/// The next value, the levels of namespaces that are entered in it, and what is left behind it.
+/// The next value, the levels of namespaces that are entered in it, and what is left after it.
 #[derive(Clone, Copy)]
 pub struct Step<'a> {
     /// The value.
@@ -21,7 +21,7 @@ pub struct Step<'a> {
     /// The levels.
     pub levels: usize,
     /// What is left.
-    pub behind: Rest<'a>,
+    pub after: Rest<'a>,
 }
 
 /// Why a value was not written to its end.

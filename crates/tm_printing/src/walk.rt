@@ -76,11 +76,11 @@ fn write_rest<'a, N: Notation, R: Records, T: Target>(
             Some(step) => {
                 let begun = N::begin::<R, T>(step.value, step.levels, records, target)?;
                 match begun {
-                    Some(inside) => match left.push(step.behind) {
+                    Some(inside) => match left.push(step.after) {
                         Ok(()) => rest = inside,
                         Err(_) => return Err(Unwritten::Memory),
                     },
-                    None => rest = step.behind,
+                    None => rest = step.after,
                 }
             }
             None => match left.pop() {

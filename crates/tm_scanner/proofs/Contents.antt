@@ -8,30 +8,30 @@ use Rattle.tm_delimiters.specs.declared.whitespace.Whitespace.{Whitespace}
 use Rattle.tm_delimiters.specs.Front.{past_blanks}
 use Rattle.tm_scanner.specs.Steps.{Steps}
 use Rattle.tm_scanner.specs.Texts.{quote_at, IsLiteral}
-use Rattle.tm_scanner.specs.Tokens.{IsToken, IsTokenBehind, depth_behind, ContentPlace, past_end, Passes, Content}
+use Rattle.tm_scanner.specs.Tokens.{IsToken, IsTokenAfter, depth_after, ContentPlace, past_end, Passes, Content}
 use Rattle.tm_scanner.proofs.Steps.{OneStep, NoStep, append-nil, same_some, same_result, steps_last, one_end}
 use Rattle.tm_scanner.proofs.Literals.{one_literal}
 
--- a tag's end: the mark there, and what is left behind it
+-- a tag's end: the mark there, and what is left after it
 abbrev pub End : Type 0
 End = Whitespace × List ℕ
 
 -- where a quote stands and no text, there is no token
-pub no_literal : (cs behind : List ℕ) (q : Quote) → Some (q, behind) ≡ quote_at cs →
-    ((v : Val) (rest : List ℕ) → IsLiteral q behind v rest → ⊥) → (t : Token) (rest : List ℕ) → IsToken cs t rest → ⊥
-no_literal cs behind q e none t rest h =
-    let text : IsTokenBehind (Some (q, behind)) cs t rest = subst (λ (o : Option (Quote × List ℕ)). IsTokenBehind o cs t rest) (sym e) h in
+pub no_literal : (cs after : List ℕ) (q : Quote) → Some (q, after) ≡ quote_at cs →
+    ((v : Val) (rest : List ℕ) → IsLiteral q after v rest → ⊥) → (t : Token) (rest : List ℕ) → IsToken cs t rest → ⊥
+no_literal cs after q e none t rest h =
+    let text : IsTokenAfter (Some (q, after)) cs t rest = subst (λ (o : Option (Quote × List ℕ)). IsTokenAfter o cs t rest) (sym e) h in
     none text.0 rest text.1
 
-one_token_behind : (q : Option (Quote × List ℕ)) (cs : List ℕ) (t u : Token) (r s : List ℕ) → IsTokenBehind q cs t r →
-    IsTokenBehind q cs u s → (t ≡ u) × (r ≡ s)
-one_token_behind None cs t u r s h k = same_result t u r s (sym h ∙ k)
-one_token_behind (Some x) cs t u r s h k =
+one_token_after : (q : Option (Quote × List ℕ)) (cs : List ℕ) (t u : Token) (r s : List ℕ) → IsTokenAfter q cs t r →
+    IsTokenAfter q cs u s → (t ≡ u) × (r ≡ s)
+one_token_after None cs t u r s h k = same_result t u r s (sym h ∙ k)
+one_token_after (Some x) cs t u r s h k =
     let same = one_literal x.0 x.1 h.0 k.0 r s h.1 k.1 in
     (h.2 ∙ ap (λ v. tokens.Literal v) same.0 ∙ sym k.2, same.1)
 
 pub one_token : (cs : List ℕ) (t u : Token) (r s : List ℕ) → IsToken cs t r → IsToken cs u s → (t ≡ u) × (r ≡ s)
-one_token cs t u r s h k = one_token_behind (quote_at cs) cs t u r s h k
+one_token cs t u r s h k = one_token_after (quote_at cs) cs t u r s h k
 
 same_place : (u v : ContentPlace) → u.rest ≡ v.rest → u.depth ≡ v.depth → u ≡ v
 same_place u v e f = ap (λ (r : List ℕ). record { rest = r; depth = u.depth }) e ∙ ap (λ (d : ℕ). record { rest = v.rest; depth = d }) f
@@ -39,7 +39,7 @@ same_place u v e f = ap (λ (r : List ℕ). record { rest = r; depth = u.depth }
 one_pass : (end : List ℕ) → OneStep (Passes end)
 one_pass end = λ s t w u v h k.
     let same = one_token s.rest t w h.next k.next h.token k.token in
-    let depth : u.depth ≡ v.depth = same_some u.depth v.depth (sym h.depth ∙ ap (λ x. depth_behind x s.depth) same.0 ∙ k.depth) in
+    let depth : u.depth ≡ v.depth = same_some u.depth v.depth (sym h.depth ∙ ap (λ x. depth_after x s.depth) same.0 ∙ k.depth) in
     (same.0, same_place u v (h.rest ∙ ap past_blanks same.1 ∙ sym k.rest) depth)
 
 no_pass : (end : List ℕ) (s : ContentPlace) (x : End) → past_end end s.rest s.depth ≡ Some x → NoStep (Passes end) s
@@ -59,7 +59,7 @@ begins end cs old rest e = record {
 }
 
 pub goes_on : (end cs : List ℕ) (old new more : List Token) (rest next blank : List ℕ) (depth deeper : ℕ) (t : Token) →
-    ContentSoFar end cs old new rest depth → past_end end rest depth ≡ None → IsToken rest t next → depth_behind t depth ≡ Some deeper →
+    ContentSoFar end cs old new rest depth → past_end end rest depth ≡ None → IsToken rest t next → depth_after t depth ≡ Some deeper →
     blank ≡ past_blanks next → more ≡ new ++ t ∷ [] → ContentSoFar end cs old more blank deeper
 goes_on end cs old new more rest next blank depth deeper t here unended token deep blanks grown = record {
   added = here.added ++ t ∷ [];
@@ -87,11 +87,11 @@ pub no_token : (end rest : List ℕ) (depth : ℕ) → ((t : Token) (next : List
     NoStep (Passes end) (record { rest = rest; depth = depth })
 no_token end rest depth none = λ t u h. none t h.next h.token
 
-pub too_deep : (end rest next : List ℕ) (depth : ℕ) (t : Token) → IsToken rest t next → depth_behind t depth ≡ None →
+pub too_deep : (end rest next : List ℕ) (depth : ℕ) (t : Token) → IsToken rest t next → depth_after t depth ≡ None →
     NoStep (Passes end) (record { rest = rest; depth = depth })
 too_deep end rest next depth t token deep = λ w u h.
     let same = one_token rest t w next h.next token h.token in
-    cc (sym deep ∙ ap (λ x. depth_behind x depth) same.0 ∙ h.depth)
+    cc (sym deep ∙ ap (λ x. depth_after x depth) same.0 ∙ h.depth)
 
 pub one_content : (end cs : List ℕ) (ts us : List Token) (r s : End) → Content end cs ts r → Content end cs us s → (ts ≡ us) × (r ≡ s)
 one_content end cs ts us r s h k =

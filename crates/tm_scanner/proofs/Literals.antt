@@ -7,10 +7,10 @@ use Rattle.tm_scanner.specs.declared.texts.Quote.TheVariants as quote
 use Rattle.tm_delimiters.specs.Front.{◌>>=◌}
 use Rattle.tm_scanner.specs.Steps.{Steps, joined}
 use Rattle.tm_scanner.specs.Texts.{byte_of, past_quote, run, escape, part, IsPart, IsText, IsLiteral}
-use Rattle.tm_delimiters.proofs.Places.{behind-append, behind-split}
+use Rattle.tm_delimiters.proofs.Places.{after-append, after-split}
 use Rattle.tm_scanner.proofs.Steps.{OneStep, NoStep, append-nil, joined_last, same_result, steps_last, one_end}
 
--- Behind its opening quote the text begins with the content, up to where the rest is left.
+-- After its opening quote the text begins with the content, up to where the rest is left.
 pub record LiteralSoFar (q : Quote) (cs content rest : List ℕ) : Type 0 where
   pub parts : List (List ℕ)
   pub steps : Steps (IsPart q) (run q cs).1 parts rest
@@ -37,12 +37,12 @@ goes_on q cs content rest next more left new c here e split grown =
           ∙ ap (λ w. (run q cs).0 ++ w) (sym (joined_last here.parts (encode_utf8 c ++ more)));
     }
 
-pub ends : (q : Quote) (cs content rest behind : List ℕ) → LiteralSoFar q cs content rest → past_quote q rest ≡ Some behind →
-    IsText q cs content behind
-ends q cs content rest behind here e = (
+pub ends : (q : Quote) (cs content rest after : List ℕ) → LiteralSoFar q cs content rest → past_quote q rest ≡ Some after →
+    IsText q cs content after
+ends q cs content rest after here e = (
   here.parts,
   subst (λ (w : List ℕ). Steps (IsPart q) (run q cs).1 here.parts w)
-      (behind-split (byte_of q ∷ []) rest behind e) here.steps,
+      (after-split (byte_of q ∷ []) rest after e) here.steps,
   here.bytes,
 )
 
@@ -64,7 +64,7 @@ no_text q cs content rest here e f v left h =
     let text = h.1 in
     let same = one_end (IsPart q) (run q cs).1 here.parts rest text.0 (byte_of q ∷ left) (one_part q) here.steps
     (stuck_part q rest e) text.1 (no_part q left) in
-    cc (sym f ∙ ap (past_quote q) same.1 ∙ behind-append (byte_of q ∷ []) left)
+    cc (sym f ∙ ap (past_quote q) same.1 ∙ after-append (byte_of q ∷ []) left)
 
 one_text : (q : Quote) (cs a b r s : List ℕ) → IsText q cs a r → IsText q cs b s → (a ≡ b) × (r ≡ s)
 one_text q cs a b r s h k =

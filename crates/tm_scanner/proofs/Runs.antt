@@ -12,7 +12,7 @@ use Rattle.tm_scanner.specs.Names.{starts_name, leaves_name, name_in, name_at}
 use Rattle.tm_delimiters.proofs.Places.{until_none, until_some}
 use Rattle.tm_scanner.proofs.Steps.{append-nil}
 
--- Where a search for the end of a name stands: `gone` are the bytes behind it, and `passed` their characters.
+-- Where a search for the end of a name stands: `gone` are the bytes after it, and `passed` their characters.
 pub record Passed (text rest : List ℕ) : Type 0 where
   pub gone : List ℕ
   pub passed : List ℕ

@@ -14,22 +14,22 @@ use Rattle.tm_delimiters.specs.Syntax.{Syntax}
 use Rattle.tm_scanner.specs.Tokens.{Content}
 use Rattle.tm_delimiters.specs.Trimming.{trimmed}
 use Rattle.tm_delimiters.specs.Starts.{tag_start}
-use Rattle.tm_scanner.specs.Pieces.{raw, past_word, tag_word, IsBlockTag, IsBlockBehind, IsBlock, IsEmission, IsTag, SourcePlace, IsPiece}
+use Rattle.tm_scanner.specs.Pieces.{raw, past_word, tag_word, IsBlockTag, IsBlockAfter, IsBlock, IsEmission, IsTag, SourcePlace, IsPiece}
 use Rattle.tm_scanner.specs.Spells.{read_of, SpellsTokens}
 use Rattle.tm_scanner.proofs.Steps.{OneStep, NoStep, joined_last, same_some, same_result, steps_last, one_end}
 use Rattle.tm_scanner.proofs.Contents.{End, one_content}
 
--- where no content stands behind the word, there is no block tag
-pub no_block : (by cs behind : List ℕ) (t : Tag) → Some (t, behind) ≡ tag_word cs →
-    ((ts : List Token) (e : End) → Content by behind ts e → ⊥) → (ts : List Token) (e : End) → IsBlockTag by cs ts e → ⊥
-no_block by cs behind t e none ts end h =
-    let same : h.0 ≡ (t, behind) = same_some h.0 (t, behind) (sym (e ∙ h.1)) in
+-- where no content stands after the word, there is no block tag
+pub no_block : (by cs after : List ℕ) (t : Tag) → Some (t, after) ≡ tag_word cs →
+    ((ts : List Token) (e : End) → Content by after ts e → ⊥) → (ts : List Token) (e : End) → IsBlockTag by cs ts e → ⊥
+no_block by cs after t e none ts end h =
+    let same : h.0 ≡ (t, after) = same_some h.0 (t, after) (sym (e ∙ h.1)) in
     none h.2 end (subst (λ (w : Tag × List ℕ). Content by w.1 h.2 end) same h.3)
 
--- where no block stands behind what the word `raw` leaves, there is none
-pub no_block_behind : (s : Syntax) (cs : List ℕ) (o : Option (List ℕ)) → o ≡ past_word (codes "raw") cs →
-    ((ts : List Token) (e : End) → IsBlockBehind s o cs ts e → ⊥) → (ts : List Token) (e : End) → IsBlock s cs ts e → ⊥
-no_block_behind s cs o same none ts e h = none ts e (subst (λ (w : Option (List ℕ)). IsBlockBehind s w cs ts e) (sym same) h)
+-- where no block stands after what the word `raw` leaves, there is none
+pub no_block_after : (s : Syntax) (cs : List ℕ) (o : Option (List ℕ)) → o ≡ past_word (codes "raw") cs →
+    ((ts : List Token) (e : End) → IsBlockAfter s o cs ts e → ⊥) → (ts : List Token) (e : End) → IsBlock s cs ts e → ⊥
+no_block_after s cs o same none ts e h = none ts e (subst (λ (w : Option (List ℕ)). IsBlockAfter s w cs ts e) (sym same) h)
 
 one_emission : (by cs : List ℕ) (ts us : List Token) (r t : End) → IsEmission by cs ts r → IsEmission by cs us t → (ts ≡ us) × (r ≡ t)
 one_emission by cs ts us r t h k =
@@ -45,37 +45,37 @@ one_block_tag by cs ts us r t h k =
       same.1,
     )
 
-one_block_behind : (s : Syntax) (o : Option (List ℕ)) (cs : List ℕ) (ts us : List Token) (r t : End) → IsBlockBehind s o cs ts r →
-    IsBlockBehind s o cs us t → (ts ≡ us) × (r ≡ t)
-one_block_behind s None cs ts us r t h k = one_block_tag s.block_end cs ts us r t h k
-one_block_behind s (Some rest) cs ts us r t h k =
+one_block_after : (s : Syntax) (o : Option (List ℕ)) (cs : List ℕ) (ts us : List Token) (r t : End) → IsBlockAfter s o cs ts r →
+    IsBlockAfter s o cs us t → (ts ≡ us) × (r ≡ t)
+one_block_after s None cs ts us r t h k = one_block_tag s.block_end cs ts us r t h k
+one_block_after s (Some rest) cs ts us r t h k =
     let same = same_result h.0 k.0 r t (sym h.1 ∙ k.1) in
     (h.2 ∙ ap raw same.0 ∙ sym k.2, same.1)
 
 one_tag : (s : Syntax) (x : Kind) (cs : List ℕ) (ts us : List Token) (r t : End) → IsTag s x cs ts r → IsTag s x cs us t →
     (ts ≡ us) × (r ≡ t)
-one_tag s kind.Block cs ts us r t h k = one_block_behind s (past_word (codes "raw") cs) cs ts us r t h k
+one_tag s kind.Block cs ts us r t h k = one_block_after s (past_word (codes "raw") cs) cs ts us r t h k
 one_tag s kind.Variable cs ts us r t h k = one_emission s.variable_end cs ts us r t h k
 one_tag s kind.Comment cs ts us r t h k = (h.0 ∙ sym k.0, same_some r t (sym h.1 ∙ k.1))
 
--- what stands at the next tag: the text before it, its start, and what is left behind that
+-- what stands at the next tag: the text before it, its start, and what is left after that
 abbrev pub Next : Type 0
 Next = List ℕ × (Side × List ℕ)
 
--- the place behind a tag
-abbrev pub behind_tag : Side → End → SourcePlace
-behind_tag start e = record { before = Some (record { kind = start.kind; whitespace = e.0 }); rest = e.1 }
+-- the place after a tag
+abbrev pub after_tag : Side → End → SourcePlace
+after_tag start e = record { before = Some (record { kind = start.kind; whitespace = e.0 }); rest = e.1 }
 
 one_piece : (s : Syntax) → OneStep (IsPiece s)
 one_piece s = λ p ts us q r h k.
-    let x : Next = (h.text, (h.start, h.behind)) in
-    let y : Next = (k.text, (k.start, k.behind)) in
+    let x : Next = (h.text, (h.start, h.after)) in
+    let y : Next = (k.text, (k.start, k.after)) in
     let next : y ≡ x = same_some y x (sym k.next ∙ h.next) in
-    let same = one_tag s h.start.kind h.behind h.inside k.inside h.end k.end h.tag
+    let same = one_tag s h.start.kind h.after h.inside k.inside h.end k.end h.tag
     (subst (λ (w : Next). IsTag s w.1.0.kind w.1.1 k.inside k.end) next k.tag) in (
       h.tokens ∙ ap (λ (w : List Token). raw (trimmed s p.before (Some h.start) h.text) ++ w) same.0
           ∙ ap (λ (w : Next). raw (trimmed s p.before (Some w.1.0) w.0) ++ k.inside) (sym next) ∙ sym k.tokens,
-      h.place ∙ ap (λ (w : End). behind_tag h.start w) same.1 ∙ ap (λ (w : Next). behind_tag w.1.0 k.end) (sym next) ∙ sym k.place,
+      h.place ∙ ap (λ (w : End). after_tag h.start w) same.1 ∙ ap (λ (w : Next). after_tag w.1.0 k.end) (sym next) ∙ sym k.place,
     )
 
 no_next : (s : Syntax) (p : SourcePlace) → first_of (tag_start s) p.rest ≡ None → NoStep (IsPiece s) p
@@ -85,7 +85,7 @@ no_next s p e = λ ts q h. cc (sym e ∙ h.next)
 no_tag : (s : Syntax) (p : SourcePlace) (x : Next) → first_of (tag_start s) p.rest ≡ Some x →
     ((ts : List Token) (e : End) → IsTag s x.1.0.kind x.1.1 ts e → ⊥) → NoStep (IsPiece s) p
 no_tag s p x e none = λ ts q h.
-    let y : Next = (h.text, (h.start, h.behind)) in
+    let y : Next = (h.text, (h.start, h.after)) in
     let next : y ≡ x = same_some y x (sym h.next ∙ e) in
     none h.inside h.end (subst (λ (w : Next). IsTag s w.1.0.kind w.1.1 h.inside h.end) next h.tag)
 
@@ -110,11 +110,11 @@ goes_on s cs old mid new before rest x inside e here next texts tag grown =
     record {
       pieces = here.pieces ++ (text ++ inside) ∷ [];
       steps = steps_last (IsPiece s) (start_of cs) here.pieces (record { before = before; rest = rest }) (text ++ inside)
-          (behind_tag x.1.0 e) here.steps
+          (after_tag x.1.0 e) here.steps
           (record {
             text = x.0;
             start = x.1.0;
-            behind = x.1.1;
+            after = x.1.1;
             next = next;
             inside = inside;
             end = e;

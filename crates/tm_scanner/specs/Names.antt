@@ -20,7 +20,7 @@ abbrev pub leaves_name : List ℕ → Bool
 leaves_name [] = true
 leaves_name (c ∷ cs) = not (is_xid_continue c)
 
--- the longest name at the front of characters, reserved or not, and what is left behind it
+-- the longest name at the front of characters, reserved or not, and what is left after it
 abbrev pub name_in : List ℕ → Option (List ℕ × List ℕ)
 name_in [] = None
 name_in (c ∷ cs) = if starts_name c then Some (c ∷ (until leaves_name cs).0, (until leaves_name cs).1) else None

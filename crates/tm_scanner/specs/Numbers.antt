@@ -3,7 +3,7 @@ use Rattle.std.specs.Prelude.{ℕ, ◌+◌, ◌*◌, nat_lt, List, [], ◌∷◌
 use Rattle.std.specs.Prelude.{◌&&◌, ◌||◌}
 use Rattle.std.specs.Option.{option_or, unwrap_or}
 use Rattle.std.specs.Char.{digit_value}
-use Rattle.tm_delimiters.specs.Front.{◌>>=◌, behind}
+use Rattle.tm_delimiters.specs.Front.{◌>>=◌, after}
 
 -- the digit of a base at the front
 abbrev pub digit : ℕ → List ℕ → Option (ℕ × List ℕ)
@@ -20,20 +20,20 @@ starts_number cs = starts_digits 10 cs
 abbrev pub with_digit : ℕ → ℕ → ℕ → Option ℕ
 with_digit base n d = if nat_lt (n * base + d) 170141183460469231731687303715884105728 then Some (n * base + d) else None
 
--- The number n with the digits at the front, which may have a `_` between two, and what is left behind them.
+-- The number n with the digits at the front, which may have a `_` between two, and what is left after them.
 abbrev pub digits : ℕ → ℕ → List ℕ → Option (ℕ × List ℕ)
 digits base n [] = Some (n, [])
 digits base n (c ∷ cs) =
     if nat_lt (digit_value c) base then with_digit base n (digit_value c) >>= (λ m. digits base m cs)
     else (if (c == 95) && starts_digits base cs then digits base n cs else Some (n, c ∷ cs))
 
--- the digit at the front, or behind a `_` there
+-- the digit at the front, or after a `_` there
 abbrev pub next_digit : ℕ → List ℕ → Option (ℕ × List ℕ)
-next_digit base cs = option_or (digit base cs) (behind (codes "_") cs >>= digit base)
+next_digit base cs = option_or (digit base cs) (after (codes "_") cs >>= digit base)
 
--- the digits behind a prefix of a base, where one stands there
+-- the digits after a prefix of a base, where one stands there
 abbrev pub based : List ℕ → ℕ → List ℕ → Option (ℕ × List ℕ)
-based prefix base cs = behind prefix cs >>= (λ rest. if starts_digits base rest then Some (base, rest) else None)
+based prefix base cs = after prefix cs >>= (λ rest. if starts_digits base rest then Some (base, rest) else None)
 
 -- the base of a number, and its digits
 abbrev pub prefixed : List ℕ → Option (ℕ × List ℕ)
@@ -42,7 +42,7 @@ prefixed cs = option_or (based (codes "0x") 16 cs) (option_or (based (codes "0o"
 abbrev pub base_of : List ℕ → ℕ × List ℕ
 base_of cs = unwrap_or (prefixed cs) (10, cs)
 
--- whether a point or an `e` stands first, and a digit behind it
+-- whether a point or an `e` stands first, and a digit after it
 abbrev pub starts_fraction : List ℕ → Bool
 starts_fraction [] = false
 starts_fraction (c ∷ cs) = ((c == 46) || (c == 101) || (c == 69)) && starts_number cs

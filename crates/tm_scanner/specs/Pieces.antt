@@ -1,4 +1,4 @@
--- The pieces of a source: each a raw text and the tag behind it.
+-- The pieces of a source: each a raw text and the tag after it.
 use Rattle.std.specs.Prelude.{◌≡◌, ℕ, List, [], ◌∷◌, ◌++◌, Option, Some, None, codes, if◌then◌else◌}
 use Rattle.std.specs.Str.{chars}
 use Rattle.tm_syntax.specs.declared.token.Token.{Token}
@@ -9,7 +9,7 @@ use Rattle.tm_delimiters.specs.declared.syntax.Kind.{Kind}
 use Rattle.tm_delimiters.specs.declared.syntax.Kind.TheVariants as kind
 use Rattle.tm_delimiters.specs.declared.whitespace.Whitespace.{Whitespace}
 use Rattle.tm_delimiters.specs.declared.trimming.Side.{Side}
-use Rattle.tm_delimiters.specs.Front.{◌>>=◌, behind, first_of, past_blanks}
+use Rattle.tm_delimiters.specs.Front.{◌>>=◌, after, first_of, past_blanks}
 use Rattle.tm_scanner.specs.Names.{leaves_name, name_at, tag_of}
 use Rattle.tm_delimiters.specs.Syntax.{Syntax}
 use Rattle.tm_delimiters.specs.Whitespace.{whitespace_at, ending, comment_end}
@@ -22,14 +22,14 @@ abbrev pub raw : List ℕ → List Token
 raw [] = []
 raw (c ∷ cs) = tokens.Raw (c ∷ cs) ∷ []
 
--- what is left behind blanks and a word with which no longer name begins
+-- what is left after blanks and a word with which no longer name begins
 abbrev pub past_word : List ℕ → List ℕ → Option (List ℕ)
-past_word word cs = behind word (past_blanks cs) >>= (λ rest. if leaves_name (chars rest) then Some rest else None)
+past_word word cs = after word (past_blanks cs) >>= (λ rest. if leaves_name (chars rest) then Some rest else None)
 
 -- an `endraw` tag at the front: the mark at its start, the mark at its end, and what is left
 abbrev pub endraw : Syntax → List ℕ → Option (Whitespace × (Whitespace × List ℕ))
 endraw s cs = do
-  inside ← behind s.block_start cs
+  inside ← after s.block_start cs
   rest ← past_word (codes "endraw") (whitespace_at inside).1
   end ← ending s.block_end (past_blanks rest)
   Some ((whitespace_at inside).0, end)
@@ -38,7 +38,7 @@ endraw s cs = do
 abbrev pub block_side : Whitespace → Option Side
 block_side w = Some (record { kind = kind.Block; whitespace = w })
 
--- Behind the word `raw`, what is left of the text up to the first `endraw` tag, and how that tag ends.
+-- After the word `raw`, what is left of the text up to the first `endraw` tag, and how that tag ends.
 abbrev pub raw_block : Syntax → List ℕ → Option (List ℕ × (Whitespace × List ℕ))
 raw_block s cs = do
   opened ← ending s.block_end (past_blanks cs)
@@ -61,19 +61,19 @@ IsBlockTag by cs ts end =
     × (ts ≡ tokens.Tag word.0 ∷ (inside ++ tokens.Sign sign.BlockEnd ∷ []))
 
 -- A block begins with the word `raw` or is a block tag.
-abbrev pub IsBlockBehind : Syntax → Option (List ℕ) → List ℕ → List Token → Whitespace × List ℕ → Type 0
-IsBlockBehind s None cs ts end = IsBlockTag s.block_end cs ts end
-IsBlockBehind s (Some rest) cs ts end = IsRawBlock s rest ts end
+abbrev pub IsBlockAfter : Syntax → Option (List ℕ) → List ℕ → List Token → Whitespace × List ℕ → Type 0
+IsBlockAfter s None cs ts end = IsBlockTag s.block_end cs ts end
+IsBlockAfter s (Some rest) cs ts end = IsRawBlock s rest ts end
 
 abbrev pub IsBlock : Syntax → List ℕ → List Token → Whitespace × List ℕ → Type 0
-IsBlock s cs ts end = IsBlockBehind s (past_word (codes "raw") cs) cs ts end
+IsBlock s cs ts end = IsBlockAfter s (past_word (codes "raw") cs) cs ts end
 
 abbrev pub IsEmission : List ℕ → List ℕ → List Token → Whitespace × List ℕ → Type 0
 IsEmission by cs ts end =
     (inside : List Token) × Content by cs inside end
     × (ts ≡ tokens.Sign sign.VariableStart ∷ (inside ++ tokens.Sign sign.VariableEnd ∷ []))
 
--- the tokens of a tag of a kind behind its start, the mark at its end, and what is left behind it
+-- the tokens of a tag of a kind after its start, the mark at its end, and what is left after it
 abbrev pub IsTag : Syntax → Kind → List ℕ → List Token → Whitespace × List ℕ → Type 0
 IsTag s kind.Block cs ts end = IsBlock s cs ts end
 IsTag s kind.Variable cs ts end = IsEmission s.variable_end cs ts end
@@ -88,10 +88,10 @@ pub record SourcePlace : Type 0 where
 pub record IsPiece (s : Syntax) (p : SourcePlace) (ts : List Token) (q : SourcePlace) : Type 0 where
   pub text : List ℕ
   pub start : Side
-  pub behind : List ℕ
-  pub next : first_of (tag_start s) p.rest ≡ Some (text, (start, behind))
+  pub after : List ℕ
+  pub next : first_of (tag_start s) p.rest ≡ Some (text, (start, after))
   pub inside : List Token
   pub end : Whitespace × List ℕ
-  pub tag : IsTag s start.kind behind inside end
+  pub tag : IsTag s start.kind after inside end
   pub tokens : ts ≡ raw (trimmed s p.before (Some start) text) ++ inside
   pub place : q ≡ record { before = Some (record { kind = start.kind; whitespace = end.0 }); rest = end.1 }

@@ -10,7 +10,7 @@ use Rattle.tm_delimiters.specs.Front.{past_blanks}
 use Rattle.tm_scanner.specs.Pieces.{raw, SourcePlace, IsPiece}
 use Rattle.tm_scanner.specs.Tokens.{IsToken}
 
--- `\n` or `\r\n`, and nothing behind it
+-- `\n` or `\r\n`, and nothing after it
 abbrev pub is_newline : List ℕ → Bool
 is_newline [] = false
 is_newline (c ∷ []) = c == 10
@@ -26,7 +26,7 @@ without_final_newline (c ∷ cs) = if is_newline (c ∷ cs) then [] else c ∷ w
 abbrev pub read_of : Syntax → List ℕ → List ℕ
 read_of s source = if s.keep_trailing_newline then source else without_final_newline source
 
--- A source is pieces and, up to its end, a raw text behind the last; these are their tokens, in order.
+-- A source is pieces and, up to its end, a raw text after the last; these are their tokens, in order.
 abbrev pub SpellsTokens : Syntax → List ℕ → List Token → Type 0
 SpellsTokens s source ts =
     (pieces : List (List Token)) × (last : SourcePlace)
@@ -34,7 +34,7 @@ SpellsTokens s source ts =
     × (first_of (tag_start s) last.rest ≡ None)
     × (ts ≡ joined pieces ++ raw (trimmed s last.before None last.rest))
 
--- a token, where the source doesn't end, and the blanks behind it
+-- a token, where the source doesn't end, and the blanks after it
 pub record Reads (rest : List ℕ) (t : Token) (left : List ℕ) : Type 0 where
   pub goes_on : rest ≡ [] → ⊥
   pub next : List ℕ

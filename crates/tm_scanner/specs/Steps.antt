@@ -6,7 +6,7 @@ abbrev pub Steps : {S A : Type 0} → (S → A → S → Type 0) → S → List 
 Steps step s [] t = s ≡ t
 Steps {S = S} step s (x ∷ xs) t = (u : S) × step s x u × Steps step u xs t
 
--- one list behind the other
+-- one list after the other
 abbrev pub joined : {A : Type 0} → List (List A) → List A
 joined [] = []
 joined (x ∷ xs) = x ++ joined xs

@@ -6,16 +6,16 @@ use Rattle.memchr.specs.Find.{is_byte2}
 use Rattle.tm_values.specs.Val.{Val, text}
 use Rattle.tm_scanner.specs.declared.texts.Quote.{Quote}
 use Rattle.tm_scanner.specs.declared.texts.Quote.TheVariants as quote
-use Rattle.tm_delimiters.specs.Front.{◌>>=◌, behind, until, first_is, ascii}
+use Rattle.tm_delimiters.specs.Front.{◌>>=◌, after, until, first_is, ascii}
 use Rattle.tm_scanner.specs.Steps.{Steps, joined}
 
 abbrev pub byte_of : Quote → ℕ
 byte_of quote.Double = 34
 byte_of quote.Single = 39
 
--- what is left behind a quote, where it stands first
+-- what is left after a quote, where it stands first
 abbrev pub past_quote : Quote → List ℕ → Option (List ℕ)
-past_quote q cs = behind (byte_of q ∷ []) cs
+past_quote q cs = after (byte_of q ∷ []) cs
 
 -- the quote at the front
 abbrev pub quote_at : List ℕ → Option (Quote × List ℕ)
@@ -49,7 +49,7 @@ character code = if is_character code then Some code else None
 -- the second half of a pair of surrogates
 abbrev pub low_surrogate : List ℕ → Option (ℕ × List ℕ)
 low_surrogate cs = do
-  rest ← behind (codes "\\u") cs
+  rest ← after (codes "\\u") cs
   low ← hex rest
   if nat_le 0xDC00 low.0 && nat_lt low.0 0xE000 then Some (low.0 - 0xDC00, low.1) else None
 
@@ -80,19 +80,19 @@ letter c = letter_in letters c
 -- the character of an escape
 abbrev pub escape : List ℕ → Option (ℕ × List ℕ)
 escape cs = do
-  rest ← behind (92 ∷ []) cs
+  rest ← after (92 ∷ []) cs
   x ← ascii rest
   if x.0 == 117 then unicode x.1 else letter x.0 >>= (λ c. Some (c, x.1))
 
--- an escape, and what stands behind it before the next quote or backslash
+-- an escape, and what stands after it before the next quote or backslash
 abbrev pub part : Quote → List ℕ → Option (List ℕ × List ℕ)
 part q cs = escape cs >>= (λ c. Some (encode_utf8 c.0 ++ (run q c.1).0, (run q c.1).1))
 
 abbrev pub IsPart : Quote → List ℕ → List ℕ → List ℕ → Type 0
 IsPart q cs bytes rest = part q cs ≡ Some (bytes, rest)
 
--- Behind its opening quote, a text is these bytes: what stands before the first escape, and then the escapes, each with
--- what stands behind it, up to the closing quote.
+-- After its opening quote, a text is these bytes: what stands before the first escape, and then the escapes, each with
+-- what stands after it, up to the closing quote.
 abbrev pub IsText : Quote → List ℕ → List ℕ → List ℕ → Type 0
 IsText q cs bytes rest =
     (parts : List (List ℕ)) × Steps (IsPart q) (run q cs).1 parts (byte_of q ∷ rest) × (bytes ≡ (run q cs).0 ++ joined parts)

@@ -8,7 +8,7 @@ use Rattle.tm_syntax.specs.declared.token.Sign.{Sign}
 use Rattle.tm_syntax.specs.declared.token.Sign.TheVariants as sign
 use Rattle.tm_scanner.specs.declared.texts.Quote.{Quote}
 use Rattle.tm_delimiters.specs.declared.whitespace.Whitespace.{Whitespace}
-use Rattle.tm_delimiters.specs.Front.{behind, past_blanks}
+use Rattle.tm_delimiters.specs.Front.{after, past_blanks}
 use Rattle.tm_delimiters.specs.Whitespace.{ending}
 use Rattle.tm_scanner.specs.Steps.{Steps}
 use Rattle.tm_scanner.specs.Names.{name_at, reserved}
@@ -29,14 +29,14 @@ marks =
 -- the first mark of a table that stands at the front
 abbrev pub mark_in : List (List ℕ × Sign) → List ℕ → Option (Sign × List ℕ)
 mark_in [] cs = None
-mark_in (m ∷ ms) cs = option_or (option_map (λ rest. (m.1, rest)) (behind m.0 cs)) (mark_in ms cs)
+mark_in (m ∷ ms) cs = option_or (option_map (λ rest. (m.1, rest)) (after m.0 cs)) (mark_in ms cs)
 
 abbrev pub mark : List ℕ → Option (Sign × List ℕ)
 mark cs = mark_in marks cs
 
--- the longer of two marks where a word stands behind the shorter one
+-- the longer of two marks where a word stands after the shorter one
 abbrev pub longer_mark : List ℕ → List ℕ → Sign → Sign → Sign × List ℕ
-longer_mark cs word longer shorter = unwrap_or (option_map (λ rest. (longer, rest)) (behind word cs)) (shorter, cs)
+longer_mark cs word longer shorter = unwrap_or (option_map (λ rest. (longer, rest)) (after word cs)) (shorter, cs)
 
 abbrev pub name_or : List ℕ → Option Sign → Token
 name_or name None = tokens.Name name
@@ -53,27 +53,27 @@ plain cs =
     then option_map (λ x. (tokens.Literal (val.number (pos x.0)), x.1)) (number cs)
     else option_or (option_map (λ x. (tokens.Sign x.0, x.1)) (mark cs)) (word cs)
 
-abbrev pub IsTokenBehind : Option (Quote × List ℕ) → List ℕ → Token → List ℕ → Type 0
-IsTokenBehind None cs t rest = plain cs ≡ Some (t, rest)
-IsTokenBehind (Some x) cs t rest = (v : val.Val) × IsLiteral x.0 x.1 v rest × (t ≡ tokens.Literal v)
+abbrev pub IsTokenAfter : Option (Quote × List ℕ) → List ℕ → Token → List ℕ → Type 0
+IsTokenAfter None cs t rest = plain cs ≡ Some (t, rest)
+IsTokenAfter (Some x) cs t rest = (v : val.Val) × IsLiteral x.0 x.1 v rest × (t ≡ tokens.Literal v)
 
--- the token at the front, and what is left behind it
+-- the token at the front, and what is left after it
 abbrev pub IsToken : List ℕ → Token → List ℕ → Type 0
-IsToken cs t rest = IsTokenBehind (quote_at cs) cs t rest
+IsToken cs t rest = IsTokenAfter (quote_at cs) cs t rest
 
 -- one bracket more, up to 150
 abbrev pub deeper : ℕ → Option ℕ
 deeper depth = if nat_lt depth 150 then Some (suc depth) else None
 
--- how many brackets are open behind a token
-abbrev pub depth_behind : Token → ℕ → Option ℕ
-depth_behind (tokens.Sign sign.OpenRound) depth = deeper depth
-depth_behind (tokens.Sign sign.OpenSquare) depth = deeper depth
-depth_behind (tokens.Sign sign.OpenCurly) depth = deeper depth
-depth_behind (tokens.Sign sign.CloseRound) depth = Some (depth - 1)
-depth_behind (tokens.Sign sign.CloseSquare) depth = Some (depth - 1)
-depth_behind (tokens.Sign sign.CloseCurly) depth = Some (depth - 1)
-depth_behind _ depth = Some depth
+-- how many brackets are open after a token
+abbrev pub depth_after : Token → ℕ → Option ℕ
+depth_after (tokens.Sign sign.OpenRound) depth = deeper depth
+depth_after (tokens.Sign sign.OpenSquare) depth = deeper depth
+depth_after (tokens.Sign sign.OpenCurly) depth = deeper depth
+depth_after (tokens.Sign sign.CloseRound) depth = Some (depth - 1)
+depth_after (tokens.Sign sign.CloseSquare) depth = Some (depth - 1)
+depth_after (tokens.Sign sign.CloseCurly) depth = Some (depth - 1)
+depth_after _ depth = Some depth
 
 -- A place in a content: what is left, and how many brackets are open there.
 pub record ContentPlace : Type 0 where
@@ -85,15 +85,15 @@ abbrev pub past_end : List ℕ → List ℕ → ℕ → Option (Whitespace × Li
 past_end by rest zero = ending by rest
 past_end by rest (suc depth) = None
 
--- a token, where the content doesn't end, and the blanks behind it
+-- a token, where the content doesn't end, and the blanks after it
 pub record Passes (by : List ℕ) (s : ContentPlace) (t : Token) (u : ContentPlace) : Type 0 where
   pub goes_on : past_end by s.rest s.depth ≡ None
   pub next : List ℕ
   pub token : IsToken s.rest t next
-  pub depth : depth_behind t s.depth ≡ Some u.depth
+  pub depth : depth_after t s.depth ≡ Some u.depth
   pub rest : u.rest ≡ past_blanks next
 
--- The content of a tag is these tokens, up to its end: the mark there, and what is left behind it.
+-- The content of a tag is these tokens, up to its end: the mark there, and what is left after it.
 abbrev pub Content : List ℕ → List ℕ → List Token → Whitespace × List ℕ → Type 0
 Content by cs ts end =
     (at_end : ContentPlace) × Steps (Passes by) (record { rest = past_blanks cs; depth = 0 }) ts at_end

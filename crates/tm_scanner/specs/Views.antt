@@ -3,12 +3,12 @@ use Rattle.std.specs.Prelude.{◌≡◌, ℕ, List, ◌++◌, ◌≤◌, length,
 use Rattle.std.specs.Borrow.{Bor}
 use Rattle.tm_delimiters.specs.declared.trimming.Part.{Part}
 
--- the marks of a tag, and what is left behind it
+-- the marks of a tag, and what is left after it
 abbrev pub closing_of : {A B : Type 0} → Option (A × (B × Bor (List ℕ))) → Option (A × (B × List ℕ))
 closing_of None = None
 closing_of (Some x) = Some (x.0, (x.1.0, x.1.1.now))
 
--- the same behind a text
+-- the same after a text
 abbrev pub closed_of : {A B : Type 0} → Option (Bor (List ℕ) × (A × (B × Bor (List ℕ)))) → Option (List ℕ × (A × (B × List ℕ)))
 closed_of None = None
 closed_of (Some x) = Some (x.0.now, (x.1.0, (x.1.1.0, x.1.1.1.now)))

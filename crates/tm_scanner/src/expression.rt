@@ -21,9 +21,9 @@ pub fn scan_expr(alloc: Global, source: &str) -> Result<Vec<Token>, Error>
     let mut tokens = Vec::new(alloc);
     let mut rest = past_blanks(source);
     while !rest.is_empty() {
-        let (token, behind) = token(alloc, &mut names, rest)?;
+        let (token, after) = token(alloc, &mut names, rest)?;
         tokens.push(token)?;
-        rest = past_blanks(behind);
+        rest = past_blanks(after);
     }
     Ok(tokens)
 }

@@ -52,7 +52,7 @@ pub(crate) fn leaves_name(text: &str) -> bool
     }
 }
 
-/// The longest front of characters that a name may go on with, and what is left behind it.
+/// The longest front of characters that a name may go on with, and what is left after it.
 #[inline(always)]
 fn run(text: &str) -> (&str, &str)
     ensures front { result.0.now ≡ encode_utf8_all (until spec.leaves_name (chars text.now)).0 }
@@ -61,16 +61,16 @@ fn run(text: &str) -> (&str, &str)
         length result.1.now < length text.now }
 {
     let mut rest = text;
-    while let Some((c, behind)) = first(rest) {
+    while let Some((c, after)) = first(rest) {
         if !goes_on(c) {
             break;
         }
-        rest = behind;
+        rest = after;
     }
     text.split_at(text.len() - rest.len())
 }
 
-/// The longest name at the front, reserved or not, and what is left behind it.
+/// The longest name at the front, reserved or not, and what is left after it.
 #[inline(always)]
 pub(crate) fn name_at(text: &str) -> Option<(&str, &str)>
     ensures value { cut_of result ≡ spec.name_at text.now }

@@ -5,7 +5,7 @@ ghost use Rattle.tm_delimiters.specs.Views.{Shortens, step_of};
 
 use tm_delimiters::front::{ascii, strip};
 
-/// The digit of a base at the front, and what is left behind it.
+/// The digit of a base at the front, and what is left after it.
 fn digit_at(base: u32, text: &str) -> Option<(u128, &str)>
     requires low { 2 ≤ base }
     requires high { base ≤ 16 }
@@ -38,7 +38,7 @@ fn with_digit(base: u32, number: u128, digit: u128) -> Option<u128>
     }
 }
 
-/// The digit at the front, or behind a `_` there, and what is left behind it.
+/// The digit at the front, or after a `_` there, and what is left after it.
 fn next_digit(base: u32, text: &str) -> Option<(u128, &str)>
     requires low { 2 ≤ base }
     requires high { base ≤ 16 }
@@ -51,7 +51,7 @@ fn next_digit(base: u32, text: &str) -> Option<(u128, &str)>
     }
 }
 
-/// The number with the digits at the front, up to the largest, and what is left behind them.
+/// The number with the digits at the front, up to the largest, and what is left after them.
 fn digits(base: u32, first: u128, text: &str) -> Option<(u128, &str)>
     requires low { 2 ≤ base }
     requires high { base ≤ 16 }
@@ -62,14 +62,14 @@ fn digits(base: u32, first: u128, text: &str) -> Option<(u128, &str)>
 {
     let mut number = first;
     let mut rest = text;
-    while let Some((digit, behind)) = next_digit(base, rest) {
+    while let Some((digit, after)) = next_digit(base, rest) {
         number = with_digit(base, number, digit)?;
-        rest = behind;
+        rest = after;
     }
     Some((number, rest))
 }
 
-/// The digits behind a prefix of a base, where one stands there.
+/// The digits after a prefix of a base, where one stands there.
 fn based<'t>(prefix: &str, base: u32, text: &'t str) -> Option<(u32, &'t str)>
     requires low { 2 ≤ base }
     requires high { base ≤ 16 }
@@ -102,7 +102,7 @@ fn base_of(text: &str) -> (u32, &str)
     }
 }
 
-/// Whether a point or an `e` stands first, and a digit behind it.
+/// Whether a point or an `e` stands first, and a digit after it.
 fn starts_fraction(text: &str) -> bool
     ensures { result ≡ spec.starts_fraction text.now }
 {
@@ -112,7 +112,7 @@ fn starts_fraction(text: &str) -> bool
     }
 }
 
-/// The whole number at the front, up to the largest, and what is left behind it.
+/// The whole number at the front, up to the largest, and what is left after it.
 pub(crate) fn number(text: &str) -> Option<(u128, &str)>
     ensures value { step_of result ≡ spec.number text.now }
     ensures small { IfSome result (λ x. x.0 < 2 ^ 127) }

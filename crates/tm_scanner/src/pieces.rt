@@ -1,4 +1,4 @@
-//! The pieces of a source: each a raw text and the tag behind it.
+//! The pieces of a source: each a raw text and the tag after it.
 ghost use Rattle.std.specs.Prelude.{◌≡◌, ◌<◌, ◌≤◌, ◌++◌, ℕ, List, [], ◌∷◌, length, IfOk, IfErr, IfSome};
 ghost use Rattle.tm_scanner.specs.Pieces as spec;
 ghost use Rattle.tm_scanner.specs.Refuses.{Refuses};
@@ -37,7 +37,7 @@ pub(crate) fn raw(
     Ok(())
 }
 
-/// Adds the tokens of an emission behind its start delimiter; its end.
+/// Adds the tokens of an emission after its start delimiter; its end.
 ///
 /// SyntaxError where it has something that is no token, or no end; OutOfMemory.
 fn emission<'s>(
@@ -58,7 +58,7 @@ fn emission<'s>(
     Ok(end)
 }
 
-/// The word of a block tag, and what is left behind it.
+/// The word of a block tag, and what is left after it.
 fn tag_word(text: &str) -> Option<(Tag, &str)>
     ensures value { step_of result ≡ spec.tag_word text.now }
     ensures shorter { Shortens result text.now }
@@ -67,7 +67,7 @@ fn tag_word(text: &str) -> Option<(Tag, &str)>
     Some((tag_of(name)?, rest))
 }
 
-/// Adds the tokens of a block tag behind its start delimiter; its end.
+/// Adds the tokens of a block tag after its start delimiter; its end.
 ///
 /// SyntaxError where no word of a tag comes first, where something is no token, or where it has
 /// no end; OutOfMemory.
@@ -92,7 +92,7 @@ fn block_tag<'s>(
     Ok(end)
 }
 
-/// Adds the text of a raw block behind its first word; its end.
+/// Adds the text of a raw block after its first word; its end.
 ///
 /// SyntaxError where its first tag or its `endraw` tag is none, OutOfMemory.
 fn raw_text<'s>(
@@ -115,7 +115,7 @@ fn raw_text<'s>(
     Ok((whitespace, rest))
 }
 
-/// Adds the tokens of a raw block or a block tag behind its start delimiter; its end.
+/// Adds the tokens of a raw block or a block tag after its start delimiter; its end.
 ///
 /// SyntaxError where it is none, OutOfMemory.
 fn block<'s>(
@@ -138,7 +138,7 @@ fn block<'s>(
     }
 }
 
-/// Adds the tokens of a tag behind its start; its end.
+/// Adds the tokens of a tag after its start; its end.
 ///
 /// SyntaxError where no such tag stands there, OutOfMemory.
 pub(crate) fn tag<'s>(

@@ -13,7 +13,7 @@ use tm_delimiters::{
     Kind, Part, Side, SyntaxConfig, Whitespace, ending, next_start, trimmed, whitespace_at,
 };
 
-/// What is left behind blanks and a word with which no longer name begins.
+/// What is left after blanks and a word with which no longer name begins.
 pub(crate) fn past_word<'t>(word: &str, text: &'t str) -> Option<&'t str>
     ensures value { place_of result ≡ spec.past_word word.now text.now }
     ensures no_longer { IfSome result (λ rest. length rest.now ≤ length text.now) }
@@ -27,8 +27,8 @@ fn endraw<'s>(syntax: &SyntaxConfig, text: &'s str) -> Option<(Whitespace, (Whit
     ensures value { closing_of result ≡ spec.endraw syntax.now text.now }
     ensures no_longer { IfSome result (λ x. length x.1.1.now ≤ length text.now) }
 {
-    let behind = strip(text, syntax.start(Kind::Block))?;
-    let (whitespace, inside) = whitespace_at(behind);
+    let after = strip(text, syntax.start(Kind::Block))?;
+    let (whitespace, inside) = whitespace_at(after);
     let rest = past_word("endraw", inside)?;
     let end = ending(syntax.end(Kind::Block), past_blanks(rest))?;
     Some((whitespace, end))
@@ -56,7 +56,7 @@ fn to_endraw<'s>(
     None
 }
 
-/// Behind the word `raw`, what is left of the text up to the first `endraw` tag, and how that
+/// After the word `raw`, what is left of the text up to the first `endraw` tag, and how that
 /// tag ends.
 pub(crate) fn raw_block<'s>(
     syntax: &SyntaxConfig,

@@ -59,7 +59,7 @@ pub fn scan(alloc: Global, syntax: &SyntaxConfig, source: &RcStr) -> Result<Vec<
     let room = MOST_ROOM.min(rest.len() / BYTES_PER_TOKEN);
     let mut tokens = Vec::with_capacity(alloc, room)?;
     let shared = SharedSource::new(source, rest);
-    while let Some((text, start, behind)) = next_tag(syntax, rest) {
+    while let Some((text, start, after)) = next_tag(syntax, rest) {
         let part = trimmed(syntax, before, Some(start), shared.part(rest, text));
         raw(alloc, &shared, part, &mut tokens)?;
         let (whitespace, left) = tag(
@@ -68,7 +68,7 @@ pub fn scan(alloc: Global, syntax: &SyntaxConfig, source: &RcStr) -> Result<Vec<
             syntax,
             &shared,
             start.kind,
-            behind,
+            after,
             &mut tokens,
         )?;
         before = Some(Side {

@@ -29,7 +29,7 @@ impl Quote {
     }
 }
 
-/// The quote at the front, and what is left behind it.
+/// The quote at the front, and what is left after it.
 pub(crate) fn quote_at(text: &str) -> Option<(Quote, &str)>
     ensures value { step_of result ≡ spec.quote_at text.now }
     ensures shorter { Shortens result text.now }
@@ -53,7 +53,7 @@ fn run(quote: Quote, text: &str) -> (&str, &str)
     }
 }
 
-/// What is left behind the quote, where it stands first.
+/// What is left after the quote, where it stands first.
 fn past_quote(quote: Quote, text: &str) -> Option<&str>
     ensures value { place_of result ≡ spec.past_quote quote text.now }
     ensures shorter { IfSome result (λ rest. length rest.now < length text.now) }
@@ -64,7 +64,7 @@ fn past_quote(quote: Quote, text: &str) -> Option<&str>
     }
 }
 
-/// A hexadecimal digit, and what is left behind it.
+/// A hexadecimal digit, and what is left after it.
 fn hex_digit(text: &str) -> Option<(u32, &str)>
     ensures value { step_of result ≡ spec.hex_digit text.now }
     ensures small { IfSome result (λ x. x.0 < 16) }
@@ -74,7 +74,7 @@ fn hex_digit(text: &str) -> Option<(u32, &str)>
     Some((char::from(byte).to_digit(16)?, rest))
 }
 
-/// The code of four hexadecimal digits, and what is left behind them.
+/// The code of four hexadecimal digits, and what is left after them.
 fn hex(text: &str) -> Option<(u32, &str)>
     ensures value { step_of result ≡ spec.hex text.now }
     ensures small { IfSome result (λ x. x.0 < 65536) }
@@ -87,7 +87,7 @@ fn hex(text: &str) -> Option<(u32, &str)>
     Some((4096 * a + 256 * b + 16 * c + d, text))
 }
 
-/// The second half of a pair of surrogates, and what is left behind it.
+/// The second half of a pair of surrogates, and what is left after it.
 fn low_surrogate(text: &str) -> Option<(u32, &str)>
     ensures value { step_of result ≡ spec.low_surrogate text.now }
     ensures small { IfSome result (λ x. x.0 < 1024) }
@@ -101,7 +101,7 @@ fn low_surrogate(text: &str) -> Option<(u32, &str)>
     }
 }
 
-/// The character of a code, or of two that are a pair, and what is left behind it.
+/// The character of a code, or of two that are a pair, and what is left after it.
 fn unicode(text: &str) -> Option<(char, &str)>
     ensures value { step_of result ≡ spec.unicode text.now }
     ensures shorter { Shortens result text.now }
@@ -116,7 +116,7 @@ fn unicode(text: &str) -> Option<(char, &str)>
     }
 }
 
-/// What a byte behind a backslash stands for.
+/// What a byte after a backslash stands for.
 fn letter(byte: u8) -> Option<char>
     ensures { result ≡ spec.letter byte }
 {
@@ -134,7 +134,7 @@ fn letter(byte: u8) -> Option<char>
     }
 }
 
-/// The character that an escape stands for, and what is left behind it.
+/// The character that an escape stands for, and what is left after it.
 fn escape(text: &str) -> Option<(char, &str)>
     ensures value { step_of result ≡ spec.escape text.now }
     ensures shorter { Shortens result text.now }
@@ -147,7 +147,7 @@ fn escape(text: &str) -> Option<(char, &str)>
     }
 }
 
-/// The text behind its opening quote, and what is left behind its closing one.
+/// The text after its opening quote, and what is left after its closing one.
 ///
 /// SyntaxError where it has an escape that is none, or no end; OutOfMemory.
 pub(crate) fn literal(alloc: Global, quote: Quote, text: &str) -> Result<(Value, &str), Error>
@@ -156,18 +156,18 @@ pub(crate) fn literal(alloc: Global, quote: Quote, text: &str) -> Result<(Value,
     ensures refused { Refuses result (spec.IsLiteral quote text.now) }
 {
     let (front, mut rest) = run(quote, text);
-    if let Some(behind) = past_quote(quote, rest) {
-        return Ok((Value::text(alloc, front)?, behind));
+    if let Some(after) = past_quote(quote, rest) {
+        return Ok((Value::text(alloc, front)?, after));
     }
     let mut content = String::from_str(alloc, front)?;
-    while let Some((character, behind)) = escape(rest) {
-        let (more, behind) = run(quote, behind);
+    while let Some((character, after)) = escape(rest) {
+        let (more, after) = run(quote, after);
         content.push(character)?;
         content.push_str(more)?;
-        rest = behind;
+        rest = after;
     }
     match past_quote(quote, rest) {
-        Some(behind) => { Ok((Value::text(alloc, &content)?, behind)) }
+        Some(after) => { Ok((Value::text(alloc, &content)?, after)) }
         None => Err(Error::from(ErrorKind::SyntaxError)),
     }
 }

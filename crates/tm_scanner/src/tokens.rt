@@ -19,7 +19,7 @@ use tm_values::{Error, ErrorKind, Value};
 /// How many brackets may be open at once.
 const DEEPEST: usize = 150;
 
-/// The longer mark where the word stands behind the shorter one, and what is left behind it.
+/// The longer mark where the word stands after the shorter one, and what is left after it.
 fn longer<'t>(text: &'t str, word: &str, longer: Sign, shorter: Sign) -> (Sign, &'t str)
     ensures value { (result.0, result.1.now)
         ≡ spec.longer_mark text.now word.now longer shorter }
@@ -31,7 +31,7 @@ fn longer<'t>(text: &'t str, word: &str, longer: Sign, shorter: Sign) -> (Sign, 
     }
 }
 
-/// The mark at the front, and what is left behind it.
+/// The mark at the front, and what is left after it.
 fn mark(text: &str) -> Option<(Sign, &str)>
     ensures value { step_of result ≡ spec.mark text.now }
     ensures shorter { Shortens result text.now }
@@ -62,7 +62,7 @@ fn mark(text: &str) -> Option<(Sign, &str)>
     }
 }
 
-/// The name or reserved word at the front, and what is left behind it.
+/// The name or reserved word at the front, and what is left after it.
 ///
 /// SyntaxError where none stands there, OutOfMemory.
 fn word<'t>(alloc: Global, names: &mut NamePool, text: &'t str) -> Result<(Token, &'t str), Error>
@@ -79,7 +79,7 @@ fn word<'t>(alloc: Global, names: &mut NamePool, text: &'t str) -> Result<(Token
     }
 }
 
-/// The number, mark, name or reserved word at the front, and what is left behind it.
+/// The number, mark, name or reserved word at the front, and what is left after it.
 ///
 /// SyntaxError where none stands there, OutOfMemory.
 fn plain<'t>(alloc: Global, names: &mut NamePool, text: &'t str) -> Result<(Token, &'t str), Error>
@@ -99,7 +99,7 @@ fn plain<'t>(alloc: Global, names: &mut NamePool, text: &'t str) -> Result<(Toke
     }
 }
 
-/// The token at the front, and what is left behind it.
+/// The token at the front, and what is left after it.
 ///
 /// SyntaxError where none stands there, OutOfMemory.
 pub(crate) fn token<'t>(
@@ -112,17 +112,17 @@ pub(crate) fn token<'t>(
     ensures refused { Refuses result (spec.IsToken text.now) }
 {
     match quote_at(text) {
-        Some((quote, behind)) => {
-            let (value, rest) = literal(alloc, quote, behind)?;
+        Some((quote, after)) => {
+            let (value, rest) = literal(alloc, quote, after)?;
             Ok((Token::Literal(value), rest))
         }
         None => plain(alloc, names, text),
     }
 }
 
-/// How many brackets are open behind a token, where they aren't too many.
-fn depth_behind(token: &Token, depth: usize) -> Option<usize>
-    ensures { result ≡ spec.depth_behind token.now depth }
+/// How many brackets are open after a token, where they aren't too many.
+fn depth_after(token: &Token, depth: usize) -> Option<usize>
+    ensures { result ≡ spec.depth_after token.now depth }
 {
     match token {
         Token::Sign(Sign::OpenRound | Sign::OpenSquare | Sign::OpenCurly) => {
@@ -204,12 +204,12 @@ pub(crate) fn content<'t>(
         if let Some(end) = past_end(by, depth, rest) {
             return Ok(end);
         }
-        let (token, behind) = token(alloc, names, rest)?;
-        let Some(deeper) = depth_behind(&token, depth) else {
+        let (token, after) = token(alloc, names, rest)?;
+        let Some(deeper) = depth_after(&token, depth) else {
             return Err(Error::from(ErrorKind::SyntaxError));
         };
         tokens.push(token)?;
         depth = deeper;
-        rest = past_blanks(behind);
+        rest = past_blanks(after);
     }
 }

@@ -22,9 +22,9 @@ pub shapes_long : (ls : List Loop) → length (shapes ls) ≡ length ls
 shapes_long [] = refl
 shapes_long (l ∷ ls) = ap suc (shapes_long ls)
 
-pub shapes_behind : (a b : List Loop) → shapes (a ++ b) ≡ shapes a ++ shapes b
-shapes_behind [] b = refl
-shapes_behind (l ∷ ls) b = ap (λ m. shape l ∷ m) (shapes_behind ls b)
+pub shapes_after : (a b : List Loop) → shapes (a ++ b) ≡ shapes a ++ shapes b
+shapes_after [] b = refl
+shapes_after (l ∷ ls) b = ap (λ m. shape l ∷ m) (shapes_after ls b)
 
 pub goes_on_same : (ls : List Loop) → GoesOn ls ls
 goes_on_same ls = ([], sym (append-nil (shapes ls)))
@@ -355,7 +355,7 @@ one_more room s w = choose room (λ _. Good tt (within s w)) (λ _. Bad (Invalid
 pub advances_within : (s : Scope) (w : World) → Advances w (within s w)
 advances_within s w = advances_frames (s ∷ w.scopes.frames) w (s ∷ [], w.scopes.frames, refl, refl)
 
--- without it, behind what keeps it
+-- without it, after what keeps it
 pub kept_popped : (s : Scope) (w world1 : World) → Kept (within s w) world1 → Kept w (pop world1)
 kept_popped s w world1 k =
     let below = below_bare s w.scopes.frames world1.scopes.frames k.same_scopes in
@@ -386,7 +386,7 @@ advances_escaped e w = record {
   same_block = refl;
 }
 
--- the escape put back, behind what keeps another
+-- the escape put back, after what keeps another
 pub kept_unescaped : (e : AutoEscape) (w world1 : World) → Kept (with_escape e w) world1 → Kept w (with_escape w.escape world1)
 kept_unescaped e w world1 k = record {
   advances = advances_then (advances_escaped e w) (advances_then k.advances (advances_escaped w.escape world1));

@@ -57,7 +57,7 @@ module _ (setting : Setting) where
   abbrev u : Under
   u = meaning setting
 
-  -- an operator behind its operands
+  -- an operator after its operands
   pub unary_then : (op : UnaryOperator) (s : Spot) (pc : ℕ) (v : Val) (stack : List Val) (w : World) →
       slice_get (context.program.code s.run.stream) pc ≡ Some (unary_code op) →
       Follows context (told s) (bind (tick w) (λ _ world1. applied_unary context.program.host op v world1))
@@ -232,7 +232,7 @@ module _ (setting : Setting) where
       (list_items_give context.program.host ls world1) h1
       (λ vs world2 k2 g. silent context (told s) _ (go vs world2 (kept_then k k2) g)))))))
 
-  -- behind a false comparison its right side is dropped, which is free
+  -- after a false comparison its right side is dropped, which is free
   pub dropped_then : (s : Spot) (end : ℕ) (v y : Val) (stack : List Val) (w : World) →
       HasAt (context.program.code s.run.stream) end (i.Swap ∷ i.DiscardTop ∷ []) →
       Follows context (told s) (bind (tick w) (λ _ world1. Good v world1)) (λ x world1. Go context s (end + 1 + 1) (x ∷ stack) world1) →
@@ -337,12 +337,12 @@ module _ (setting : Setting) where
       (bound_follows context (told s) (ticked world1 (λ world2. items_of_lists context.program.host ls world2)) g K h1)
       (λ vs world2 k2 h2. go vs world2 (kept_then k k2) tt h2)))
 
-  -- a condition before code that pushes a value, and what stands for that behind it
+  -- a condition before code that pushes a value, and what stands for that after it
   pub condition_runs : (run : Run) (first code last : Fragment) (test guarded other : World → Res Val) →
       ((w : World) → Gives context.program.host w (test w)) → ((w : World) → Gives context.program.host w (guarded w)) →
       Runs run first test → Runs run code guarded → Runs run last other →
       Runs run (first ⨾ either code last) (under_condition context.program.host test guarded other)
-  condition_runs run first code last test guarded other tested given before part behind s l pc stack w d is h =
+  condition_runs run first code last test guarded other tested given before part following s l pc stack w d is h =
       before s l pc stack w d is.0
       (bind_then context (told s) w (test w) _ _ _ (tested w) h (λ v world1 k1 h1.
       at context _ s _ (v ∷ stack) world1 is.1.0.0 (after_then context (told s) (tick world1) _
@@ -356,4 +356,4 @@ module _ (setting : Setting) where
       (bind_then context (told s) world3 (guarded world3) _ _ _ (given world3) h4 (λ x world4 k4 h5.
       at context _ s _ (x ∷ stack) world4 is.1.1 (after_then context (told s) (tick world4) _
       (bind_then context (told s) world4 (tick world4) _ _ _ (tick_gives _ world4) h5 (λ _ world5 k5 g. silent context (told s) _ g)))))))
-      (λ h4. silent context (told s) _ (behind s _ _ stack world3 deep3 is.1.2 h4)))))))))
+      (λ h4. silent context (told s) _ (following s _ _ stack world3 deep3 is.1.2 h4)))))))))

@@ -51,7 +51,7 @@ use Rattle.tm_simulation.proofs.RunAdvances.{undone_kept, in_stream}
 use Rattle.tm_simulation.proofs.RunAdvances.{put_each_long, keeping_kept, undone_at, super_undone_kept, macro_undone_kept, include_undone_kept}
 use Rattle.tm_simulation.proofs.Gives.{answered_gives, Gives, refused_arises, gives_bind, operation_gives}
 
--- A value keeps the world; a run starts at least one level deeper, within the limit, and however it ends what is put back behind it keeps the world.
+-- A value keeps the world; a run starts at least one level deeper, within the limit, and however it ends what is put back after it keeps the world.
 abbrev pub Asks : HostValue → World → Asked → Type 0
 Asks host w (has v world1) = Kept w world1
 Asks host w (refused chain world1) = Advances w world1 × Arises host chain
@@ -126,7 +126,7 @@ block_asks host b w =
       λ world2 l. undone_kept (plain_scope (undefined false)) stream (Some b) w world2 l,
     ))
 
--- a world in which the block behind one of a name was entered
+-- a world in which the block after one of a name was entered
 abbrev pub in_super : StreamId → List ℕ → World → World
 in_super stream x w =
     record (within (plain_scope (undefined false)) w) { stream = stream; places = put x (place_in x w.places + 1) w.places }

@@ -12,9 +12,9 @@ use Rattle.tm_syntax.specs.declared.jump.JumpKind.TheVariants.{IfFalse}
 use Rattle.tm_syntax.specs.Code.{for_flags, target_code, parameters_code, statements_code}
 use Rattle.tm_syntax.specs.Loops.{begins, with_place, loop_places, Numbers, within_macro, FoundLoop, FoundMacro}
 use Rattle.tm_syntax.specs.Fragments.{Fragment, straight, ◌⨾◌, jump_out, bounded, fork, looped, break_loop, next_round, declares}
-use Rattle.tm_syntax.specs.Fragments.{MacroHead, behind_body, beyond, Labels, outward, inward, jump, assemble, ending_at, over, either}
+use Rattle.tm_syntax.specs.Fragments.{MacroHead, after_body, beyond, Labels, outward, inward, jump, assemble, ending_at, over, either}
 use Rattle.tm_syntax.proofs.Standing.{HasAt, At, beyond_is}
-use Rattle.tm_simulation.proofs.Counts.{Plain, Loopless, plain, jump_none, none_loops, behind_loops, none_places}
+use Rattle.tm_simulation.proofs.Counts.{Plain, Loopless, plain, jump_none, none_loops, after_loops, none_places}
 use Rattle.tm_simulation.proofs.Counts.{one_loop_more, counted, counted_none, Has, it, front, back}
 use Rattle.tm_simulation.proofs.Entries.{entered, entered_none, Counts}
 
@@ -185,9 +185,9 @@ macro_begins {m = m} {c = c} {ls = ls} one r = record {
   number = r.number;
   found = λ all l pc is n.
       let end = beyond (pc + 1) c in
-      let none = none_places end (behind_body m (pc + 1)) (behind_loops m (pc + 1)) in
+      let none = none_places end (after_body m (pc + 1)) (after_loops m (pc + 1)) in
       subst (λ ps. Paired (IsAt all) ls ps)
-      (sym (places_then (ending_at end) (pc + 1) c (behind_body m (pc + 1))
+      (sym (places_then (ending_at end) (pc + 1) c (after_body m (pc + 1))
       ∙ ap (λ ps. loop_places (pc + 1) (assemble (ending_at end) (pc + 1) c) ++ ps) none ∙ append-nil _))
       (r.found all (ending_at end) (pc + 1) is.1 n.1);
   declared = λ all l pc is n.

@@ -7,8 +7,8 @@ use Rattle.tm_syntax.specs.declared.instruction.CaptureMode.TheVariants.{Capture
 use Rattle.tm_syntax.specs.declared.instruction.Instruction.TheVariants as i
 use Rattle.tm_meaning.specs.World.{choose, World, Res, Good, Bad, bind, tick, ticked, captured_text, is_escaping}
 use Rattle.tm_meaning.specs.Calls.{whole, NestedCall, enter_block, block_call}
-use Rattle.tm_meaning.specs.Meaning.{Run, Outcome, Ending, done, leave, next, fault, Under, so_far, use_it, behind, in_place_of, block_tag}
-use Rattle.tm_meaning.specs.Meaning.{audible as heard_here, none_waits, capturing, heard_behind, text_behind}
+use Rattle.tm_meaning.specs.Meaning.{Run, Outcome, Ending, done, leave, next, fault, Under, so_far, use_it, after, in_place_of, block_tag}
+use Rattle.tm_meaning.specs.Meaning.{audible as heard_here, none_waits, capturing, heard_after, text_after}
 use Rattle.tm_meaning.specs.Machine.{captured_value, goes, asked_in_place, stuck}
 use Rattle.tm_meaning.specs.Instructions.{end_capture_of}
 use Rattle.tm_syntax.proofs.Standing.{HasAt}
@@ -22,12 +22,12 @@ use Rattle.tm_simulation.proofs.Forms.{Stands, fits_captured, audible_is}
 use Rattle.tm_meaning.specs.declared.stream.TemplateId.{TemplateId}
 use Rattle.tm_simulation.proofs.Levels.{Deep, Here, Setting, as_at, deep_kept, meaning, placed_then}
 
--- ---------------------------------------------------------------- the parent that waits behind it
-pub behind_parent : (e : Ending) (c : NestedCall) (run : Run) (o : Outcome) → (behind e c run o).parent ≡ run.parent
-behind_parent (done vs) c run o = refl
-behind_parent leave c run o = refl
-behind_parent next c run o = refl
-behind_parent (fault chain) c run o = refl
+-- ---------------------------------------------------------------- the parent that waits after it
+pub after_parent : (e : Ending) (c : NestedCall) (run : Run) (o : Outcome) → (after e c run o).parent ≡ run.parent
+after_parent (done vs) c run o = refl
+after_parent leave c run o = refl
+after_parent next c run o = refl
+after_parent (fault chain) c run o = refl
 
 choose_parent : (b : Bool) (o p : Outcome) (q : Option TemplateId) → o.parent ≡ q → p.parent ≡ q → (choose b (λ _. o) (λ _. p)).parent ≡ q
 choose_parent true o p q h k = h
@@ -38,7 +38,7 @@ tag_parent u run b out w =
     choose_parent (none_waits run.parent && heard_here run) (in_place_of u run out (enter_block u.host b w)) (so_far run out w) run.parent
     (block_asks_by (λ q. (in_place_of u run out q).parent ≡ run.parent) u.host b w (λ kind e. refl) (λ stream room.
     let o = u.nests (whole stream) (heard_here run) out (in_block stream b w) in
-    behind_parent o.ending (block_call stream w) run o)) refl
+    after_parent o.ending (block_call stream w) run o)) refl
 
 module _ (setting : Setting) where
   open setting use {context, trees, n, entered, id, level, again, again_kept, called_in_place, called_as_value}
@@ -94,13 +94,13 @@ module _ (setting : Setting) where
       (λ h2. silent context (told s) _ (g s.parent s.out world1 (so_far_then context s.bed (as_at run s) s.out world1 D L N h2)))))))
 
   -- ---------------------------------------------------------------- what is heard in a capture
-  -- what follows behind it, where the same parent waits
+  -- what follows after it, where the same parent waits
   abbrev pub HeardThen : {A : Type 0} → Spot → (List ℕ → World → Res A) → (A → World → Type 0) → Then
   HeardThen s g K q out x = (q ≡ s.parent) × Follows context (told s) (g out x) K
 
   pub heard_then : {A : Type 0} (heard : Bool) (s : Spot) (g : List ℕ → World → Res A) (K : A → World → Type 0) (e : Ending)
       (q : Option TemplateId) (out : List ℕ) (x : World) → q ≡ s.parent →
-      Follows context (told s) (bind (heard_behind e (whole_of e q out x)) g) K →
+      Follows context (told s) (bind (heard_after e (whole_of e q out x)) g) K →
       Ends context (capture_in heard s.bed s.out) (whole_of e q out x) (HeardThen s g K) (HeardThen s g K) (HeardThen s g K)
   unfolding Ends
   heard_then heard s g K (done vs) q out x same h = (same, h)
@@ -113,21 +113,21 @@ module _ (setting : Setting) where
   TextThen s g K = HeardThen s (λ out x. g (captured_text out x) x) K
 
   text_then : (s : Spot) (g : Val → World → Res Val) (K : Val → World → Type 0) (e : Ending) (q : Option TemplateId) (out : List ℕ)
-      (x : World) → q ≡ s.parent → Follows context (told s) (bind (text_behind e (whole_of e q out x)) g) K →
+      (x : World) → q ≡ s.parent → Follows context (told s) (bind (text_after e (whole_of e q out x)) g) K →
       Ends context (captured_in s.bed s.out) (whole_of e q out x) (TextThen s g K) (TextThen s g K) (TextThen s g K)
   text_then s g K e q out x same h =
-      heard_then true s _ K e q out x same (bound_twice context (told s) (heard_behind e (whole_of e q out x)) _ g K h)
+      heard_then true s _ K e q out x same (bound_twice context (told s) (heard_after e (whole_of e q out x)) _ g K h)
 
   charged_text : (s : Spot) (run : Run) (m : Res (Unit {0})) (f : World → Outcome) (g : Val → World → Res Val) (K : Val → World → Type 0) →
       ((world1 : World) → (f world1).parent ≡ s.parent) →
-      Follows context (told s) (bind m (λ _ world1. bind (text_behind (f world1).ending (f world1)) g)) K →
+      Follows context (told s) (bind m (λ _ world1. bind (text_after (f world1).ending (f world1)) g)) K →
       Ends context (captured_in s.bed s.out) (use_it m run [] (λ _ world1. f world1)) (TextThen s g K) (TextThen s g K) (TextThen s g K)
   unfolding Ends
   charged_text s run (Good _ world1) f g K same h =
       let o = f world1 in text_then s g K o.ending o.parent o.text o.world (same world1) h
   charged_text s run (Bad chain world1) f g K same h = h
 
-  -- a capture's text is the same behind a charge
+  -- a capture's text is the same after a charge
   same_text : (out : List ℕ) {w world1 : World} → Kept w world1 → captured_text out w ≡ captured_text out world1
   same_text out k = ap (λ (e : AutoEscape). text out (is_escaping e)) (sym k.same_escape)
 
@@ -136,7 +136,7 @@ module _ (setting : Setting) where
       HasAt (context.program.code s.run.stream) pc (i.BeginCapture Capture ∷ i.CallBlock b ∷ i.EndCapture ∷ []) →
       (let tag : World → Outcome = λ world1. block_tag u (capturing true run) b [] world1 in
       Follows context (told s)
-      (ticked w (λ world1. bind (text_behind (tag world1).ending (tag world1)) (λ v world2. ticked world2 (λ world3. Good v world3))))
+      (ticked w (λ world1. bind (text_after (tag world1).ending (tag world1)) (λ v world2. ticked world2 (λ world3. Good v world3))))
       (λ v world1. Go context s (pc + 1 + 1 + 1) (v ∷ stack) world1)) → Go context s pc stack w
   self_then run s pc b stack w d is h =
       let inner : Spot = record s { bed = captured_in s.bed s.out; out = [] } in
@@ -145,7 +145,7 @@ module _ (setting : Setting) where
       let K : Val → World → Type 0 = λ v world1. Go context s (pc + 1 + 1 + 1) (v ∷ stack) world1 in
       let tag : Option TemplateId → World → Outcome = λ q world1. block_tag u (record (capturing true run) { parent = q }) b [] world1 in
       let placed = subst (λ q. Follows context (told s)
-      (ticked w (λ world1. bind (text_behind (tag q world1).ending (tag q world1)) g)) K) d.3 h in
+      (ticked w (λ world1. bind (text_after (tag q world1).ending (tag q world1)) g)) K) d.3 h in
       let stands = stands_captured run s d.1 in
       at context (i.BeginCapture Capture) s pc stack w is.0 (silent context (told s) _
       (tag_then (capturing true run) inner (pc + 1) b stack w (TextThen s g K) (TextThen s g K) (TextThen s g K) stands

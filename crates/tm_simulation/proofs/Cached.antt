@@ -429,8 +429,8 @@ module _ (host : HostValue) (plain coded : StreamId → List Instruction) (each 
   abbrev before : Program
   before = record { host = host; code = plain }
 
-  abbrev behind : Program
-  behind = record { host = host; code = coded }
+  abbrev following : Program
+  following = record { host = host; code = coded }
 
   abbrev Hold : StreamId → Caches → Caches → Type 0
   Hold s fs ts = HoldOnly (each s).0 fs × HoldOnly (each s).1 ts
@@ -462,23 +462,23 @@ module _ (host : HostValue) (plain coded : StreamId → List Instruction) (each 
     abbrev step_before : Instruction → Next
     step_before x = after (pay x c.world) (λ _ w. effect before f x (with_world w c))
 
-    abbrev step_behind : Instruction → Next
-    step_behind x = after (pay x c.world) (λ _ w. effect behind f x (with_world w (cached fs ts c)))
+    abbrev step_after : Instruction → Next
+    step_after x = after (pay x c.world) (λ _ w. effect following f x (with_world w (cached fs ts c)))
 
-    other_goes : (x y : Instruction) → NoCache x → y ≡ x → GoOn s (step_before x) (step_behind y)
+    other_goes : (x y : Instruction) → NoCache x → y ≡ x → GoOn s (step_before x) (step_after y)
     other_goes x y none is = record {
       filters = fs;
       tests = ts;
       hold = hold;
       alike =
-          subst (λ z. Alike s fs ts (step_before x) (step_behind z)) (sym is)
+          subst (λ z. Alike s fs ts (step_before x) (step_after z)) (sym is)
           (after_same s fs ts (pay x c.world) (λ _ w. effect before f x (with_world w c))
-          (λ _ w. effect behind f x (with_world w (cached fs ts c)))
+          (λ _ w. effect following f x (with_world w (cached fs ts c)))
           (λ _ w. effect_same s fs ts (with_world w c) refl host plain coded places number tables f x none));
     }
 
     filter_goes : (x : List ℕ) (n : Option ℕ) (k : ℕ) → Given numbers.0 x k → GoOn s (step_before (i.ApplyFilter x n no_cache))
-        (step_behind (i.ApplyFilter x n k))
+        (step_after (i.ApplyFilter x n k))
     filter_goes x n k there =
         let given = use_given numbers.0 x k fs hold.0 there in
         record {
@@ -488,14 +488,14 @@ module _ (host : HostValue) (plain coded : StreamId → List Instruction) (each 
           alike =
               after_same s given.0 ts (pay (i.ApplyFilter x n k) c.world)
               (λ _ w. effect before f (i.ApplyFilter x n no_cache) (with_world w c))
-              (λ _ w. effect behind f (i.ApplyFilter x n k) (with_world w (cached fs ts c)))
+              (λ _ w. effect following f (i.ApplyFilter x n k) (with_world w (cached fs ts c)))
               (λ _ w. subst (λ o. Alike s given.0 ts (effect before f (i.ApplyFilter x n no_cache) (with_world w c))
-              (on_used o w (λ held. apply_of behind applications.Filter x n (cached held ts (with_world w c))))) (sym given.1)
+              (on_used o w (λ held. apply_of following applications.Filter x n (cached held ts (with_world w c))))) (sym given.1)
               (apply_same s given.0 ts (with_world w c) refl host plain coded places number tables applications.Filter x n));
         }
 
     test_goes : (x : List ℕ) (n : Option ℕ) (k : ℕ) → Given numbers.1 x k → GoOn s (step_before (i.PerformTest x n no_cache))
-        (step_behind (i.PerformTest x n k))
+        (step_after (i.PerformTest x n k))
     test_goes x n k there =
         let given = use_given numbers.1 x k ts hold.1 there in
         record {
@@ -505,24 +505,24 @@ module _ (host : HostValue) (plain coded : StreamId → List Instruction) (each 
           alike =
               after_same s fs given.0 (pay (i.PerformTest x n k) c.world)
               (λ _ w. effect before f (i.PerformTest x n no_cache) (with_world w c))
-              (λ _ w. effect behind f (i.PerformTest x n k) (with_world w (cached fs ts c)))
+              (λ _ w. effect following f (i.PerformTest x n k) (with_world w (cached fs ts c)))
               (λ _ w. subst (λ o. Alike s fs given.0 (effect before f (i.PerformTest x n no_cache) (with_world w c))
-              (on_used o w (λ held. apply_of behind applications.Test x n (cached fs held (with_world w c))))) (sym given.1)
+              (on_used o w (λ held. apply_of following applications.Test x n (cached fs held (with_world w c))))) (sym given.1)
               (apply_same s fs given.0 (with_world w c) refl host plain coded places number tables applications.Test x n));
         }
 
-    instruction_goes : (x y : Instruction) → Numbers numbers.0 numbers.1 x y → GoOn s (step_before x) (step_behind y)
+    instruction_goes : (x y : Instruction) → Numbers numbers.0 numbers.1 x y → GoOn s (step_before x) (step_after y)
     instruction_goes (i.ApplyFilter x n m) y is =
-        subst (λ z. GoOn s (step_before (i.ApplyFilter x n m)) (step_behind z)) (sym is.2)
-        (subst (λ k. GoOn s (step_before (i.ApplyFilter x n k)) (step_behind (i.ApplyFilter x n is.0))) (sym is.1)
+        subst (λ z. GoOn s (step_before (i.ApplyFilter x n m)) (step_after z)) (sym is.2)
+        (subst (λ k. GoOn s (step_before (i.ApplyFilter x n k)) (step_after (i.ApplyFilter x n is.0))) (sym is.1)
         (filter_goes x n is.0 is.3))
     instruction_goes (i.PerformTest x n m) y is =
-        subst (λ z. GoOn s (step_before (i.PerformTest x n m)) (step_behind z)) (sym is.2)
-        (subst (λ k. GoOn s (step_before (i.PerformTest x n k)) (step_behind (i.PerformTest x n is.0))) (sym is.1)
+        subst (λ z. GoOn s (step_before (i.PerformTest x n m)) (step_after z)) (sym is.2)
+        (subst (λ k. GoOn s (step_before (i.PerformTest x n k)) (step_after (i.PerformTest x n is.0))) (sym is.1)
         (test_goes x n is.0 is.3))
     instruction_goes x y is = other_goes x y tt is
 
-    act_goes : (x y : Option Instruction) → NumbersAt numbers.0 numbers.1 x y → GoOn s (act before f x c) (act behind f y (cached fs ts c))
+    act_goes : (x y : Option Instruction) → NumbersAt numbers.0 numbers.1 x y → GoOn s (act before f x c) (act following f y (cached fs ts c))
     act_goes None None is =
         let size = as_long numbers.0 numbers.1 (plain s) (coded s) numbers.2 in
         record {
@@ -537,12 +537,12 @@ module _ (host : HostValue) (plain coded : StreamId → List Instruction) (each 
     act_goes None (Some y) is = absurd is
     act_goes (Some x) None is = absurd is
 
-    step_goes : GoOn s (step before f c) (step behind f (cached fs ts c))
+    step_goes : GoOn s (step before f c) (step following f (cached fs ts c))
     step_goes = act_goes _ _ (numbers_at numbers.0 numbers.1 c.run.place (plain s) (coded s) numbers.2)
 
   -- ---------------------------------------------------------------- runs
   pub leads_too : {f : Base} {t : List ℕ} {n : Next} {o : Final} (s : StreamId) (fs ts : Caches) (m : Next) → Hold s fs ts →
-      Alike s fs ts n m → Leads before f t n o → Leads behind f t m o
+      Alike s fs ts n m → Leads before f t n o → Leads following f t m o
   leads_too s fs ts m hold alike (over is end) = over (subst (λ n. Alike s fs ts n m) is alike) end
   leads_too {f = f} s fs ts m hold alike (more {c = c} is rest) =
       let on = subst (λ n. Alike s fs ts n m) is alike in
@@ -553,42 +553,42 @@ module _ (host : HostValue) (plain coded : StreamId → List Instruction) (each 
       let go = step_goes f [] [] c (none_held (each c.run.stream).0, none_held (each c.run.stream).1) in
       let ran = leads_too c.run.stream go.filters go.tests _ go.hold go.alike rest in
       restart on.2
-      (subst (λ k. Leads behind f t (step behind f (cached c.run.filters k c)) o) (sym on.1)
-      (subst (λ k. Leads behind f t (step behind f (cached k [] c)) o) (sym on.0) ran))
+      (subst (λ k. Leads following f t (step following f (cached c.run.filters k c)) o) (sym on.1)
+      (subst (λ k. Leads following f t (step following f (cached k [] c)) o) (sym on.0) ran))
   leads_too {t = t} s fs ts m hold alike (nest {g = g} {c = c} {back = back} {e = e} is inner rest) =
       let on = subst (λ n. Alike s fs ts n m) is alike in
       let go = step_goes g [] [] c (none_held (each c.run.stream).0, none_held (each c.run.stream).1) in
       let ran = leads_too c.run.stream go.filters go.tests _ go.hold go.alike inner in
       nest on.3
-      (subst (λ k. Leads behind g t (step behind g (cached c.run.filters k c)) e) (sym on.2)
-      (subst (λ k. Leads behind g t (step behind g (cached k [] c)) e) (sym on.1) ran))
+      (subst (λ k. Leads following g t (step following g (cached c.run.filters k c)) e) (sym on.2)
+      (subst (λ k. Leads following g t (step following g (cached k [] c)) e) (sym on.1) ran))
       (leads_too s fs ts _ hold (back_same s fs ts back e.end on.0) rest)
 
   -- A run that begins with empty caches comes to the same end.
   reaches_too : (f : Base) (t : List ℕ) (c : Config) (o : Final) → c.run.filters ≡ [] → c.run.tests ≡ [] → Reaches before f t c o →
-      Reaches behind f t c o
+      Reaches following f t c o
   reaches_too f t c o no_filters no_tests run =
       let go = step_goes f [] [] c (none_held (each c.run.stream).0, none_held (each c.run.stream).1) in
-      subst (λ k. Leads behind f t (step behind f (cached c.run.filters k c)) o) (sym no_tests)
-      (subst (λ k. Leads behind f t (step behind f (cached k [] c)) o) (sym no_filters)
+      subst (λ k. Leads following f t (step following f (cached c.run.filters k c)) o) (sym no_tests)
+      (subst (λ k. Leads following f t (step following f (cached k [] c)) o) (sym no_filters)
       (leads_too c.run.stream go.filters go.tests _ go.hold go.alike run))
 
   tables_too : (r : StreamId) → entries (coded r) ≡ entries (plain r)
   tables_too r = same_entries (each r).0 (each r).1 [] None (plain r) (coded r) (each r).2
 
   begun_too : (f : Base) (t : List ℕ) (a : Option Activation) (ks : List Capture) (w : World) (o : Final) → AreEmpty a →
-      Leads before f t (begun before f a ks w) o → Leads behind f t (begun behind f a ks w) o
+      Leads before f t (begun before f a ks w) o → Leads following f t (begun following f a ks w) o
   begun_too f t None ks w o empty run = over refl (one_end run (over refl refl))
   begun_too f t (Some a) ks w o empty run = reaches_too f t (running a ks w) o empty.0 empty.1 run
 
-  first_too : (k : Callee) (floor : ℕ) → first_run behind k floor ≡ first_run before k floor
+  first_too : (k : Callee) (floor : ℕ) → first_run following k floor ≡ first_run before k floor
   first_too (whole r) floor = refl
   first_too (macro_of r n given) floor = ap (λ es. option_and_then (run_of_macro r given floor) (slice_get es n)) (tables_too r)
 
   -- A callee's run comes to the same end.
   pub begins_too : (f : Base) (t : List ℕ) (k : Callee) (ks : List Capture) (w : World) (o : Final) →
-      Leads before f t (begins before f k ks w) o → Leads behind f t (begins behind f k ks w) o
+      Leads before f t (begins before f k ks w) o → Leads following f t (begins following f k ks w) o
   begins_too f t k ks w o run =
       let a = first_run before k (length ks) in
-      subst (λ b. Leads behind f t (begun behind f b ks w) o) (sym (first_too k (length ks)))
+      subst (λ b. Leads following f t (begun following f b ks w) o) (sym (first_too k (length ks)))
       (begun_too f t a ks w o (starts_empty before k (length ks)) run)

@@ -135,7 +135,7 @@ may_wrap kind (inl e) = ap is_wrapping e
 may_wrap kind (inr (inl e)) = ap is_wrapping e
 may_wrap kind (inr (inr e)) = ap is_wrapping e
 
--- Want of memory is OutOfMemory behind the kinds that wrap, and no other chain is.
+-- Running out of memory is OutOfMemory after the kinds that wrap, and no other chain is.
 pub want_wrapped : (ks : List ErrorKind) → All MayWrap ks → is_want_of_memory (ks ++ kinds.OutOfMemory ∷ []) ≡ true
 want_wrapped [] h = refl
 want_wrapped (k ∷ []) h = and_from (is_wrapping k) _ (may_wrap k (All-head MayWrap k [] h)) refl

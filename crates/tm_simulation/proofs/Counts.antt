@@ -9,7 +9,7 @@ use Rattle.tm_syntax.specs.declared.jump.JumpKind.{JumpKind}
 use Rattle.tm_syntax.specs.declared.jump.JumpKind.TheVariants.{IfFalse, IfFalseOrPop, IfTrueOrPop}
 use Rattle.tm_syntax.specs.Loops.{begins, with_place, one_more_loop, loops_before, loop_places, Numbers, within_macro}
 use Rattle.tm_syntax.specs.Fragments.{Fragment, straight, ◌⨾◌, jump_out, bounded, fork, looped, break_loop, next_round, declares}
-use Rattle.tm_syntax.specs.Fragments.{MacroHead, building, behind_body, beyond_all, beyond, Labels, outward, inward, jump}
+use Rattle.tm_syntax.specs.Fragments.{MacroHead, building, after_body, beyond_all, beyond, Labels, outward, inward, jump}
 use Rattle.tm_syntax.specs.Fragments.{assemble, ending_at}
 use Rattle.tm_syntax.proofs.Standing.{HasAt, At, AtWhere}
 use Rattle.tm_simulation.specs.Uncached.{is_uncached, AllUncached}
@@ -152,7 +152,7 @@ plain_uncached l pc next_round h = (refl, tt)
 plain_uncached l pc (declares m c) h =
     let k = ending_at (beyond (pc + 1) c) in (
       refl,
-      both_uncached (assemble k (pc + 1) c) (behind_body m (pc + 1)) (plain_uncached k (pc + 1) c h)
+      both_uncached (assemble k (pc + 1) c) (after_body m (pc + 1)) (plain_uncached k (pc + 1) c h)
           (refl, building_uncached m.free m (pc + 1)),
     )
 
@@ -186,8 +186,8 @@ building_loops : (xs : List (List ℕ)) (m : MacroHead) (place : ℕ) → NoLoop
 building_loops [] m place = (refl, (refl, (refl, tt)))
 building_loops (x ∷ xs) m place = (refl, building_loops xs m place)
 
-pub behind_loops : (m : MacroHead) (place : ℕ) → NoLoops (behind_body m place)
-behind_loops m place = (refl, building_loops m.free m place)
+pub after_loops : (m : MacroHead) (place : ℕ) → NoLoops (after_body m place)
+after_loops m place = (refl, building_loops m.free m place)
 
 pub one_begins : (all : List Instruction) (pc at : ℕ) (x : Instruction) → begins x ≡ None → slice_get all pc ≡ Some x →
     loops_before pc all ≡ at → loops_before (pc + 1) all ≡ at
@@ -252,6 +252,6 @@ loops_counted all l at pc break_loop h p e = one_begins all pc at.loops (i.Jump 
 loops_counted all l at pc next_round h p e = one_begins all pc at.loops (i.Jump l.again) refl h e
 loops_counted all l at pc (declares m c) h p e =
     let end = beyond (pc + 1) c in
-    loops_kept all end (counted (within_macro at) c).loops (behind_body m (pc + 1)) (behind_loops m (pc + 1)) h.2
+    loops_kept all end (counted (within_macro at) c).loops (after_body m (pc + 1)) (after_loops m (pc + 1)) h.2
     (loops_counted all (ending_at end) (within_macro at) (pc + 1) c h.1 p
     (one_begins all pc at.loops (i.Jump (end + 1)) refl h.0 e))

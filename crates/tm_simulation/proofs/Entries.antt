@@ -13,7 +13,7 @@ use Rattle.tm_syntax.specs.declared.instruction.Instruction.{Instruction}
 use Rattle.tm_syntax.specs.declared.instruction.Instruction.TheVariants as i
 use Rattle.tm_syntax.specs.Loops.{loops_before, Numbers, first_numbers, within_macro}
 use Rattle.tm_syntax.specs.Fragments.{Fragment, straight, ◌⨾◌, jump_out, bounded, fork, looped, break_loop, next_round, declares}
-use Rattle.tm_syntax.specs.Fragments.{MacroHead, name_list, building, behind_body, beyond, Labels, outward, inward, jump}
+use Rattle.tm_syntax.specs.Fragments.{MacroHead, name_list, building, after_body, beyond, Labels, outward, inward, jump}
 use Rattle.tm_syntax.specs.Fragments.{assemble, ending_at, whole_labels, assembled}
 use Rattle.tm_syntax.specs.Entries.{Entries, entries_from, entries, entry_number, name_count}
 use Rattle.tm_syntax.proofs.Standing.{At, AtWhere, beyond_is, beyond_all_is, stands_whole}
@@ -131,9 +131,9 @@ entered_up_to pc (looped g c d) =
 entered_up_to pc break_loop = tt
 entered_up_to pc next_round = tt
 entered_up_to pc (declares m c) =
-    let behind = beyond pc (declares m c) in
-    let less : beyond (pc + 1) c ≤ behind = omega (arith, beyond_all_is (beyond (pc + 1) c) (behind_body m (pc + 1))) in
-    (omega (arith, less, grows (pc + 1) c), up_to_more (beyond (pc + 1) c) behind (entered (pc + 1) c) less (entered_up_to (pc + 1) c))
+    let following = beyond pc (declares m c) in
+    let less : beyond (pc + 1) c ≤ following = omega (arith, beyond_all_is (beyond (pc + 1) c) (after_body m (pc + 1))) in
+    (omega (arith, less, grows (pc + 1) c), up_to_more (beyond (pc + 1) c) following (entered (pc + 1) c) less (entered_up_to (pc + 1) c))
 
 -- ---------------------------------------------------------------- the entries of assembled code
 insert_last : (k : ℕ × ℕ) (ks : Entries) (place n : ℕ) → place < k.0 →
@@ -147,7 +147,7 @@ insert_after e es place n less =
     let c : nat_eq place e.0 ≡ false = ne_eqb place e.0 (λ same. absurd (omega (arith, less, same))) in
     rw (b, c) refl
 
--- an entry between those before its place and those behind it
+-- an entry between those before its place and those after it
 insert_between : (es ks : Entries) (pc n : ℕ) → UpTo pc es → Beyond (pc + 1) ks →
     insert_entry nat_cmp (es ++ ks) (pc + 1) n ≡ es ++ (pc + 1, n) ∷ ks
 insert_between [] [] pc n h b = refl
@@ -155,7 +155,7 @@ insert_between [] (k ∷ ks) pc n h b = insert_last k ks (pc + 1) n b.0
 insert_between (e ∷ es) ks pc n h b =
     insert_after e (es ++ ks) (pc + 1) n (omega (arith, h.0)) ∙ ap (λ r. e ∷ r) (insert_between es ks pc n h.1 b)
 
--- Instructions behind which the entries are these and new ones, where these stand up to a place.
+-- Instructions after which the entries are these and new ones, where these stand up to a place.
 abbrev Adds : List Instruction → ℕ → Entries → Type 0
 Adds is pc new =
     (es : Entries) → UpTo pc es → (b : Option ℕ) (rest : List Instruction) →
@@ -210,13 +210,13 @@ building_passed [] m place es b rest =
 building_passed (x ∷ xs) m place es b rest = building_passed xs m place es None rest
 
 declares_adds : (a : List Instruction) (m : MacroHead) (pc to : ℕ) (new : Entries) → Beyond (pc + 1) new → Adds a (pc + 1) new →
-    Adds (i.Jump to ∷ (a ++ behind_body m (pc + 1))) pc ((pc + 1, length m.parameters) ∷ new)
+    Adds (i.Jump to ∷ (a ++ after_body m (pc + 1))) pc ((pc + 1, length m.parameters) ∷ new)
 declares_adds a m pc to new later f = λ es up b rest.
-    let behind = behind_body m (pc + 1) in
-    let inner = f es (up_to_more pc (pc + 1) es (omega arith) up) None (behind ++ rest) in
+    let following = after_body m (pc + 1) in
+    let inner = f es (up_to_more pc (pc + 1) es (omega arith) up) None (following ++ rest) in
     let built = building_passed m.free m (pc + 1) (es ++ new) None rest in (
       None,
-      ap (entries_from es None) (append_assoc a behind rest) ∙ inner.1 ∙ built
+      ap (entries_from es None) (append_assoc a following rest) ∙ inner.1 ∙ built
           ∙ ap (λ k. entries_from k None rest) (insert_between es new pc (length m.parameters) up later),
     )
 
@@ -275,10 +275,10 @@ Counts all at pc break_loop = Unit {0}
 Counts all at pc next_round = Unit {0}
 Counts all at pc (declares m c) = (entry_number (pc + 1) all ≡ at.macros) × Counts all (within_macro at) (pc + 1) c
 
--- what stands before code that stands behind code without loops and macros
-pub counts_behind : (all : List Instruction) (at : Numbers) (pc : ℕ) (c d : Fragment) → Loopless c → Counts all at pc (c ⨾ d) →
+-- what stands before code that stands after code without loops and macros
+pub counts_after : (all : List Instruction) (at : Numbers) (pc : ℕ) (c d : Fragment) → Loopless c → Counts all at pc (c ⨾ d) →
     Counts all at (beyond pc c) d
-counts_behind all at pc c d h n = subst (λ m. Counts all m (beyond pc c) d) (counted_none at c h) n.1
+counts_after all at pc c d h n = subst (λ m. Counts all m (beyond pc c) d) (counted_none at c h) n.1
 
 -- The place of a macro with this number.
 abbrev pub of_number : List Instruction → ℕ → ℕ → Bool
@@ -291,7 +291,7 @@ one_marked all at l pc _ it h n = (h.0, h.1, h.2, eq-eqb (entry_number (pc + 1) 
 one_marked all at l pc (c ⨾ d) (front one none) h n =
     (one_marked all at l pc c one h.0 n.0, marked_so (of_number all at.macros) all l (beyond pc c) d none h.1)
 one_marked all at l pc (c ⨾ d) (back none one) h n =
-    (marked_so (of_number all at.macros) all l pc c none h.0, one_marked all at l (beyond pc c) d one h.1 (counts_behind all at pc c d none n))
+    (marked_so (of_number all at.macros) all l pc c none h.0, one_marked all at l (beyond pc c) d one h.1 (counts_after all at pc c d none n))
 
 before_it : (before : Entries) (pc n : ℕ) (rest : Entries) → UpTo pc before →
     prefix_len (λ (e : ℕ × ℕ). ltb e.0 (pc + 1)) (before ++ (pc + 1, n) ∷ rest) ≡ length before

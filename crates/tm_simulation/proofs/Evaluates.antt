@@ -33,8 +33,8 @@ use Rattle.tm_meaning.specs.World.{World, HostValue, loop_scope, next_turn, clea
 use Rattle.tm_meaning.specs.World.{looked_up}
 use Rattle.tm_meaning.specs.World.{lookup, records_of, with_member, set_member, unpacked_items}
 use Rattle.tm_meaning.specs.Calls.{Callee, NestedCall, undone, wrapped, Asked, has, refused, runs, recurs, applied}
-use Rattle.tm_meaning.specs.Meaning.{RowValues, text_behind, Run, Outcome, Ending, done, leave, next, fault, Under, audible, value_of, value_behind}
-use Rattle.tm_meaning.specs.Meaning.{in_place_of, behind, block_tag, eval, eval_all, eval_pairs}
+use Rattle.tm_meaning.specs.Meaning.{RowValues, text_after, Run, Outcome, Ending, done, leave, next, fault, Under, audible, value_of, value_after}
+use Rattle.tm_meaning.specs.Meaning.{in_place_of, after, block_tag, eval, eval_all, eval_pairs}
 use Rattle.tm_meaning.specs.Operators.{truth, applied_unary, operated, applied_binary}
 use Rattle.tm_meaning.specs.Meaning.{eval_argument, eval_arguments, eval_keywords, eval_lists, one_counted, selected, loop_items}
 use Rattle.tm_meaning.specs.Operators.{listed, mapped, merged_by, merged_values, items_of_lists, named_by, passed_by}
@@ -48,7 +48,7 @@ use Rattle.tm_simulation.proofs.Raised.{Raises, sliced_raises, merged_raises, sp
 use Rattle.tm_simulation.proofs.Advances.{Advances, Kept, advances_then, lasts_by_namespaces, kept_same, kept_then, kept_lasting}
 use Rattle.tm_simulation.proofs.RunAdvances.{in_stream}
 use Rattle.tm_simulation.proofs.Advances.{store_kept, kept_popped, kept_cleared}
-use Rattle.tm_simulation.proofs.RunAdvances.{mark_behind, in_loop_of, kept_turned, advances_around}
+use Rattle.tm_simulation.proofs.RunAdvances.{mark_after, in_loop_of, kept_turned, advances_around}
 use Rattle.tm_simulation.proofs.RunAdvances.{opened, opened_kept}
 use Rattle.tm_simulation.proofs.Gives.{Gives, RunEnds, run_ends_as, EndingKeeps, OutcomeKeeps, ends_as, gives_bind, gives_kept}
 use Rattle.tm_simulation.proofs.Gives.{choose_gives, tick_gives}
@@ -106,7 +106,7 @@ pub selected_gives : (host : HostValue) (w : World) (condition : Val → World �
     Gives host w (selected host condition n vs x)
 selected_gives host w condition given n [] x i =
     gives_kept host w x (tick x) _ (advances_around pass_flags w x i) (tick_gives host x) (λ _ world1 h.
-    kept_popped (loop_scope (mark_behind pass_flags w)) w (next_turn world1) (kept_turned pass_flags w world1 (kept_then i h)))
+    kept_popped (loop_scope (mark_after pass_flags w)) w (next_turn world1) (kept_turned pass_flags w world1 (kept_then i h)))
 selected_gives host w condition given n (v ∷ vs) x i =
     gives_kept host w x (tick x) _ (advances_around pass_flags w x i) (tick_gives host x) (λ _ world1 h1.
     let y = cleared (next_turn world1) in
@@ -125,7 +125,7 @@ selected_gives host w condition given n (v ∷ vs) x i =
     (gives_kept host w world4 (tick world4) _ around4 (tick_gives host world4)
     (λ _ world5 h5. selected_gives host w condition given n vs world5 (kept_then kept4 h5)))))))
 
--- ---------------------------------------------------------------- behind a run
+-- ---------------------------------------------------------------- after a run
 wrap_arises : (host : HostValue) (wrap : Option Wrapping) (chain : List ErrorKind) → Arises host chain → Arises host (wrapped wrap chain)
 wrap_arises host None chain h = h
 wrap_arises host (Some wrapping.EvalBlock) chain h = wraps refl h
@@ -134,14 +134,14 @@ wrap_arises host (Some wrapping.BadInclude) chain h = wraps refl h
 value_by : (host : HostValue) (w world1 : World) (c : NestedCall) (e : Ending) (o : Outcome) →
     EndingKeeps host (in_stream o.world.stream world1) e o.world →
     ((world2 : World) → Advances (in_stream world2.stream world1) world2 → Kept w (undone c.undo world2)) →
-    Gives host w (value_behind e c o)
+    Gives host w (value_after e c o)
 value_by host w world1 c (done vs) o h k = k o.world h.advances
 value_by host w world1 c leave o h k = k o.world h.advances
 value_by host w world1 c next o h k = k o.world h.advances
 value_by host w world1 c (fault chain) o h k = ((k o.world h.0).advances, wrap_arises host c.wrap chain h.1)
 
 text_by : (host : HostValue) (w world1 : World) (e : Ending) (o : Outcome) → Kept w world1 → EndingKeeps host world1 e o.world →
-    Gives host w (text_behind e o)
+    Gives host w (text_after e o)
 text_by host w world1 (done vs) o h k = kept_then h k
 text_by host w world1 leave o h k = kept_then h k
 text_by host w world1 next o h k = kept_then h k
@@ -150,7 +150,7 @@ text_by host w world1 (fault chain) o h k = (advances_then h.advances k.0, k.1)
 place_by : (host : HostValue) (w world1 : World) (c : NestedCall) (run : Run) (e : Ending) (o : Outcome) →
     EndingKeeps host (in_stream o.world.stream world1) e o.world →
     ((world2 : World) → Advances (in_stream world2.stream world1) world2 → Kept w (undone c.undo world2)) →
-    OutcomeKeeps host run.parent w (behind e c run o)
+    OutcomeKeeps host run.parent w (after e c run o)
 place_by host w world1 c run (done vs) o h k = ends_here host w _ run o.text (k o.world h.advances)
 place_by host w world1 c run leave o h k = ends_here host w _ run o.text (k o.world h.advances)
 place_by host w world1 c run next o h k = ends_here host w _ run o.text (k o.world h.advances)
@@ -267,7 +267,7 @@ module _ (u : Under) (nest_ends : (k : Callee) (heard : Bool) (out : List ℕ) (
     eval_gives run (SelfBlock b) w =
         ticked_gives u.host w _ (λ world1.
         let o = block_tag u (capturing true run) b [] world1 in
-        gives_bind u.host world1 (text_behind o.ending o) _
+        gives_bind u.host world1 (text_after o.ending o) _
         (text_by u.host world1 world1 o.ending o (kept_same world1) (ends_as u.host world1 o (tag_ends (capturing true run) b [] world1)))
         (λ v world2. ticked_gives u.host world2 _ (λ world3. kept_same world3)))
     eval_gives run (unary op a) w =

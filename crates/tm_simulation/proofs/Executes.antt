@@ -19,9 +19,9 @@ use Rattle.tm_meaning.specs.Calls.{Callee}
 use Rattle.tm_meaning.specs.Meaning.{Run, Outcome, Under, use_it, say, eval, loop_items, assign}
 use Rattle.tm_meaning.specs.Runs.{again_in, turn_of}
 use Rattle.tm_meaning.specs.Operators.{truth}
-use Rattle.tm_meaning.specs.Meaning.{set_to, set_each, capturing, loop_over, has_none, exec_behind_loop, emit, filtered, use_text}
+use Rattle.tm_meaning.specs.Meaning.{set_to, set_each, capturing, loop_over, has_none, exec_after_loop, emit, filtered, use_text}
 use Rattle.tm_meaning.specs.Meaning.{import, import_names}
-use Rattle.tm_meaning.specs.Meaning.{behind_first, exec, exec_all, exec_else, declared, take_parameters, call, with_caller}
+use Rattle.tm_meaning.specs.Meaning.{after_first, exec, exec_all, exec_else, declared, take_parameters, call, with_caller}
 use Rattle.tm_meaning.specs.Runs.{macro_body}
 use Rattle.std.specs.Prelude.{codes}
 use Rattle.tm_simulation.proofs.Advances.{kept_same, within, advances_within, kept_popped, advances_escaped, kept_unescaped}
@@ -46,10 +46,10 @@ module _ (u : Under) (nest_ends : (k : Callee) (heard : Bool) (out : List ℕ) (
       (emitted_gives u.host v world1)
       (λ t world2. ends_here u.host world2 world2 run (say run t out) (kept_same world2)))
 
-  behind_first_ends : {q : Option TemplateId} (other : Otherwise) (run : Run) (w : World) (o : Outcome) → OutcomeKeeps u.host q w o →
-      OutcomeKeeps u.host q w (behind_first other run o)
-  behind_first_ends no_else run w o h = h
-  behind_first_ends (otherwise _ body) run w o h =
+  after_first_ends : {q : Option TemplateId} (other : Otherwise) (run : Run) (w : World) (o : Outcome) → OutcomeKeeps u.host q w o →
+      OutcomeKeeps u.host q w (after_first other run o)
+  after_first_ends no_else run w o h = h
+  after_first_ends (otherwise _ body) run w o h =
       ends_do u.host w run o _ h (λ run1 out1 world1. ends_use u.host world1 (tick world1) run1 out1 _ (tick_gives u.host world1)
       (λ _ world2. ends_here u.host world2 world2 run1 out1 (kept_same world2)))
 
@@ -74,7 +74,7 @@ module _ (u : Under) (nest_ends : (k : Callee) (heard : Bool) (out : List ℕ) (
         ends_use u.host w (eval u run c w) run out _ (eval_gives u nest_ends again_ends run c w) (λ v world1.
         ends_use u.host world1 (tick world1) run out _ (tick_gives u.host world1) (λ _ world2.
         ends_use u.host world2 (truth u.host v world2) run out _ (truth_gives u.host v world2) (λ b world3.
-        choose_ends u.host world3 b _ _ (behind_first_ends other run world3 _ (execs_end at body run out world3))
+        choose_ends u.host world3 b _ _ (after_first_ends other run world3 _ (execs_end at body run out world3))
         (else_ends (pasts at body) other run out world3))))
     exec_ends at (EmitBlock b) run out w = ends_use u.host w (tick w) run out _ (tick_gives u.host w)
         (λ _ world1. tag_ends u nest_ends again_ends run b out world1)
@@ -104,7 +104,7 @@ module _ (u : Under) (nest_ends : (k : Callee) (heard : Bool) (out : List ℕ) (
         (λ item run1 out1 world2. ends_use u.host world2 (assign u run1 t item world2) run1 out1 _
         (assign_gives u nest_ends again_ends run1 t item world2) (λ _ world3. execs_end (within_loop c at) body run1 out1 world3)) vs run
         out)
-        (λ run1 out1 world2. behind_loop_ends (pasts (within_loop c at) body) other (has_none vs) run1 out1 world2))
+        (λ run1 out1 world2. after_loop_ends (pasts (within_loop c at) body) other (has_none vs) run1 out1 world2))
     exec_ends at Break run out w = ends_leave u.host w run out
     exec_ends at Continue run out w = ends_next u.host w run out
     exec_ends at (CaptureBlock' becomes filters _ body) run out w =
@@ -150,10 +150,10 @@ module _ (u : Under) (nest_ends : (k : Callee) (heard : Bool) (out : List ℕ) (
     else_ends at no_else run out w = ends_here u.host w w run out (kept_same w)
     else_ends at (otherwise _ body) run out w = execs_end at body run out w
 
-    pub behind_loop_ends : (at : Numbers) (other : Otherwise) (none_taken : Bool) (run : Run) (out : List ℕ) (w : World) →
-        OutcomeKeeps u.host run.parent w (exec_behind_loop u at other none_taken run out w)
-    behind_loop_ends at no_else none_taken run out w = ends_here u.host w w run out (kept_same w)
-    behind_loop_ends at (otherwise _ body) none_taken run out w =
+    pub after_loop_ends : (at : Numbers) (other : Otherwise) (none_taken : Bool) (run : Run) (out : List ℕ) (w : World) →
+        OutcomeKeeps u.host run.parent w (exec_after_loop u at other none_taken run out w)
+    after_loop_ends at no_else none_taken run out w = ends_here u.host w w run out (kept_same w)
+    after_loop_ends at (otherwise _ body) none_taken run out w =
         ends_use u.host w (tick w) run out _ (tick_gives u.host w)
         (λ _ world1. choose_ends u.host world1 none_taken _ _ (execs_end at body run out world1)
         (ends_here u.host world1 world1 run out (kept_same world1)))

@@ -146,7 +146,7 @@ module _ (setting : Setting) where
         (λ world1. eval_gives u (nest_ends setting) again_kept run a world1)
         (λ s1 l1 pc1 stack1 world1 deep1 is1 h1. expr_runs a run s1 l1 pc1 stack1 world1 deep1 is1 h1) s l pc stack w d is h
 
-    -- conditions before code that pushes a value, and what stands for that behind it
+    -- conditions before code that pushes a value, and what stands for that after it
     conditions_run : {m : _} → (cs : Row_of-Condition m) (run : Run) (code : Fragment) (guarded : World → Res Val) →
         ((w : World) → Gives context.program.host w (guarded w)) → Runs setting run code guarded →
         Runs setting run (conditions_code cs code) (eval_conditions u run cs guarded)
@@ -391,7 +391,7 @@ module _ (setting : Setting) where
         (λ h3. silent context (told s) _ (expr_runs a run s _ (pc + 1) stack world2
         (here_kept setting run s k2 (here_kept setting run s k d)) is.1 h3)))))))
 
-    -- Comparisons in a row replace both sides of the first. Behind them stands a jump over the dropping of the right side of a false one.
+    -- Comparisons in a row replace both sides of the first. After them stands a jump over the dropping of the right side of a false one.
     links_run : {m : _} → (op : BinaryOperator) (cs : Row_of-Comparison m) (run : Run) (s : Spot) (l : Labels) (pc jump : ℕ) (x y : Val)
         (stack : List Val) (w : World) → Here setting run s w → In setting s l pc (links_code op cs) → beyond pc (links_code op cs) ≡ jump →
         slice_get (context.program.code s.run.stream) jump ≡ Some (i.Jump (l.out + 1 + 1)) →

@@ -10,7 +10,7 @@ use Rattle.tm_meaning.specs.World.{choose, World, HostValue, Scope, Res, Good, B
 use Rattle.tm_meaning.specs.Meaning.{Run, Outcome, Ending, done, leave, next, fault, ended, so_far, use_it, then_do, closing_by, closing}
 use Rattle.tm_meaning.specs.Meaning.{captured_by, captured, round_end}
 use Rattle.tm_simulation.proofs.Advances.{Kept, within, one_more}
-use Rattle.tm_simulation.proofs.RunAdvances.{mark_behind, recorded, opened}
+use Rattle.tm_simulation.proofs.RunAdvances.{mark_after, recorded, opened}
 use Rattle.tm_simulation.proofs.Gives.{Gives, EndingKeeps, OutcomeKeeps, ends_as}
 use Rattle.tm_meaning.specs.Machine.{Capture, Activation, Config, Failed, Next, More, Program, after, goes}
 use Rattle.tm_meaning.specs.Steps.{act, step, Final, final, Leads, over, more}
@@ -66,7 +66,7 @@ abbrev pub Follows : {A : Type 0} → RunContext → List ℕ → Res A → (A �
 Follows context t (Good a w) K = K a w
 Follows context t (Bad chain w) K = context.final ≡ final t (Failed chain w)
 
--- what a statement goes on with: behind itself, behind its loop, at the next item
+-- what a statement goes on with: after itself, after its loop, at the next item
 abbrev pub Then : Type 1
 Then = Option TemplateId → List ℕ → World → Type 0
 
@@ -293,7 +293,7 @@ unfolding Ends
 next_then context b run out w D L N h = h
 
 -- ---------------------------------------------------------------- loops
--- what follows behind a round, charged: what comes next
+-- what follows after a round, charged: what comes next
 abbrev pub Goes : RunContext → Bed → Run → (Run → List ℕ → World → Outcome) → Then → Then → Then → Then
 Goes context b run g D L N q out w = Ends context b (use_it (tick w) (record run { parent = q }) out
     (λ _ world1. g (record run { parent = q }) out world1)) D L N
@@ -319,9 +319,9 @@ round_then context b run o g D L N h = round_by context b run o.ending o.parent 
 -- a loop opened, where there is room for its scope
 pub opened_then : (context : RunContext) (b : Bed) (g0 : LoopFlags) (n : ℕ) (w : World) (vs : List Val) (room : Bool) (run : Run)
     (out : List ℕ) (g : Unit {0} → World → Outcome) (D L N : Then) (K : World → Type 0) →
-    Ends context b (use_it (bind (one_more room (loop_scope (mark_behind g0 w)) w) (λ _ world1. recorded g0 n vs w world1)) run out g) D L
+    Ends context b (use_it (bind (one_more room (loop_scope (mark_after g0 w)) w) (λ _ world1. recorded g0 n vs w world1)) run out g) D L
     N → (room ≡ true → Ends context b (g tt (opened g0 n w vs)) D L N → K (opened g0 n w vs)) →
-    Follows context (told_by b out) (bind (one_more room (loop_scope (mark_behind g0 w)) w) (λ _ world1. recorded g0 n vs w world1))
+    Follows context (told_by b out) (bind (one_more room (loop_scope (mark_after g0 w)) w) (λ _ world1. recorded g0 n vs w world1))
     (λ _ world1. K world1)
 unfolding Ends
 opened_then context b g0 n w vs true run out g D L N K h k = k refl h
@@ -330,9 +330,9 @@ opened_then context b g0 n w vs false run out g D L N K h k = h
 -- the same before values
 pub opened_follows : {A : Type 0} (context : RunContext) (t : List ℕ) (g : LoopFlags) (n : ℕ) (w : World) (vs : List Val) (room : Bool)
     (rest : World → Res A) (K : A → World → Type 0) (L : World → Type 0) →
-    Follows context t (bind (bind (one_more room (loop_scope (mark_behind g w)) w) (λ _ world1. recorded g n vs w world1))
+    Follows context t (bind (bind (one_more room (loop_scope (mark_after g w)) w) (λ _ world1. recorded g n vs w world1))
     (λ _ x. rest x)) K → (room ≡ true → Follows context t (rest (opened g n w vs)) K → L (opened g n w vs)) →
-    Follows context t (bind (one_more room (loop_scope (mark_behind g w)) w) (λ _ world1. recorded g n vs w world1)) (λ _ world1. L world1)
+    Follows context t (bind (one_more room (loop_scope (mark_after g w)) w) (λ _ world1. recorded g n vs w world1)) (λ _ world1. L world1)
 opened_follows context t g n w vs true rest K L h k = k refl h
 opened_follows context t g n w vs false rest K L h k = h
 

@@ -4,8 +4,8 @@ use Rattle.std.proofs.Common.{refl, sym, ◌∙◌, subst, arith, lt-ltb, le-ltb
 use Rattle.tm_values.specs.Val.{Val}
 use Rattle.tm_meaning.specs.World.{choose, World}
 use Rattle.tm_meaning.specs.Calls.{Callee, NestedCall, undone, wrapped, run_value, runs}
-use Rattle.tm_meaning.specs.Meaning.{Run, Outcome, Ending, done, leave, next, fault, Under, audible as heard_here, say, behind, in_place_of}
-use Rattle.tm_meaning.specs.Meaning.{left_by, value_behind, value_of, capturing}
+use Rattle.tm_meaning.specs.Meaning.{Run, Outcome, Ending, done, leave, next, fault, Under, audible as heard_here, say, after, in_place_of}
+use Rattle.tm_meaning.specs.Meaning.{left_by, value_after, value_of, capturing}
 use Rattle.tm_meaning.specs.Machine.{Activation, Finished, Failed, Back, More, Program, audible, put_in, put_out, writes, back_to}
 use Rattle.tm_meaning.specs.Machine.{Capture, base_of, first_run, nested, new_capture, waiting, pushed, nested_in_place, nested_as_value}
 use Rattle.tm_meaning.specs.Steps.{begun, begins, Final, final, Leads, over, more, nest}
@@ -103,7 +103,7 @@ module _ (context : RunContext) where
 
   in_place_by : (k : NestedCall) (run : Run) (a : Activation) (b : Bed) (e : Ending) (parent : Option TemplateId) (out : List ℕ) (w : World)
       (D L N : Then) →
-      Ends context b (behind e k run (whole_of e parent out w)) D L N → (D run.parent out (undone k.undo w) →
+      Ends context b (after e k run (whole_of e parent out w)) D L N → (D run.parent out (undone k.undo w) →
       LeadsToEnd context (told_by b out) (More [] (record { run = a; captures = captures_of b out; world = undone k.undo w }))) →
       LeadsToEnd context (end_by e b out w).text (back_to (record { run = a; call = k; value = false }) (end_by e b out w).end)
   in_place_by k run a b (done vs) parent out w D L N h g = g (so_far_then context b run out _ D L N h)
@@ -130,7 +130,7 @@ module _ (context : RunContext) where
       (nested_then a (heard_here run) (captures_of s.bed s.out) v back (told s) _ entered rest)
 
   value_by : (k : NestedCall) (a : Activation) (b : Bed) (out0 : List ℕ) (e : Ending) (o : Outcome) (K : Val → World → Type 0) →
-      Follows context (told_by b out0) (value_behind e k o) K →
+      Follows context (told_by b out0) (value_after e k o) K →
       (K (run_value k.text o.text (undone k.undo o.world)) (undone k.undo o.world) →
       LeadsToEnd context (told_by b out0) (More [] (record {
         run = pushed (run_value k.text o.text (undone k.undo o.world)) a;

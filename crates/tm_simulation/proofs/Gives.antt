@@ -17,7 +17,7 @@ use Rattle.tm_simulation.specs.Chains.{is_raised, Arises, raised, AnswersOnly}
 use Rattle.tm_simulation.proofs.Raised.{Raises, raised_arise}
 use Rattle.tm_simulation.proofs.Advances.{Advances, Kept, advances_then, lasts_by_fuel, advances_same, kept_same, kept_then}
 use Rattle.tm_simulation.proofs.Advances.{kept_lasting, within, one_more, kept_popped, kept_cleared}
-use Rattle.tm_simulation.proofs.RunAdvances.{in_stream, mark_behind, in_loop_of}
+use Rattle.tm_simulation.proofs.RunAdvances.{in_stream, mark_after, in_loop_of}
 use Rattle.tm_simulation.proofs.RunAdvances.{kept_turned, kept_in, names_advance}
 use Rattle.tm_meaning.specs.declared.stream.StreamId.{StreamId}
 use Rattle.tm_simulation.proofs.RunAdvances.{advances_around, opened, opened_kept, recorded, NoMore, charged_by}
@@ -60,7 +60,7 @@ pub ends_from : (host : HostValue) {q : Option TemplateId} (w : World) (o : Outc
     parents_left host o.parent o.world ≤ parents_left host q w → OutcomeKeeps host q w o
 ends_from host w o h p = record { keeps = h; parents = p }
 
--- no more are left behind what keeps the world
+-- no more are left after what keeps the world
 pub parents_advance : (host : HostValue) (q : Option TemplateId) {w world1 : World} → Advances w world1 →
     parents_left host q world1 ≤ parents_left host q w
 parents_advance host q h = omega (arith, names_advance host h)
@@ -97,19 +97,19 @@ pub run_ends_from : (host : HostValue) (w : World) (o : Outcome) → EndingKeeps
 unfolding RunEnds
 run_ends_from host w o h = h
 
-behind_kept : (host : HostValue) (w v : World) (e : Ending) (world1 : World) → Kept w v → EndingKeeps host v e world1 →
+after_kept : (host : HostValue) (w v : World) (e : Ending) (world1 : World) → Kept w v → EndingKeeps host v e world1 →
     EndingKeeps host w e world1
-behind_kept host w v (done vs) world1 h k = kept_then h k
-behind_kept host w v leave world1 h k = kept_then h k
-behind_kept host w v next world1 h k = kept_then h k
-behind_kept host w v (fault chain) world1 h k = (advances_then h.advances k.0, k.1)
+after_kept host w v (done vs) world1 h k = kept_then h k
+after_kept host w v leave world1 h k = kept_then h k
+after_kept host w v next world1 h k = kept_then h k
+after_kept host w v (fault chain) world1 h k = (advances_then h.advances k.0, k.1)
 
--- and behind another one, in whichever stream it begins
-pub run_ends_behind : (host : HostValue) (w v : World) (s : StreamId) (o : Outcome) → Kept w v → RunEnds host (in_stream s v) o →
+-- and after another one, in whichever stream it begins
+pub run_ends_after : (host : HostValue) (w v : World) (s : StreamId) (o : Outcome) → Kept w v → RunEnds host (in_stream s v) o →
     RunEnds host w o
-run_ends_behind host w v s o h k =
+run_ends_after host w v s o h k =
     let there = o.world.stream in
-    run_ends_from host w o (behind_kept host (in_stream there w) (in_stream there v) o.ending o.world (kept_in there h)
+    run_ends_from host w o (after_kept host (in_stream there w) (in_stream there v) o.ending o.world (kept_in there h)
     (run_ends_as host (in_stream s v) o k))
 
 -- asking a loop for its next item loads nothing
@@ -184,7 +184,7 @@ module _ (host : HostValue) where
       OutcomeKeeps host run.parent w (ended (fault (kind ∷ [])) run out w)
   ends_refused w run out kind e = ends_fault w w run out (kind ∷ []) (advances_same w) (raised e)
 
-  -- behind what keeps the world and leaves as many parents
+  -- after what keeps the world and leaves as many parents
   pub ends_after : {q q1 : Option TemplateId} (w world1 : World) (o : Outcome) → Kept w world1 →
       parents_left host q1 world1 ≤ parents_left host q w → OutcomeKeeps host q1 world1 o → OutcomeKeeps host q w o
   ends_after w world1 o h p k =
@@ -254,7 +254,7 @@ module _ (host : HostValue) where
   ends_within w s true run out g h = h
   ends_within w s false run out g h = ends_refused w run out InvalidOperation refl
 
-  -- and behind it, whatever the ending
+  -- and after it, whatever the ending
   closed_parents : (q : Option TemplateId) (w v : World) (close : World → World) → Advances w v →
       ((x : World) → (close x).loaded ≡ x.loaded) → (parent : Option TemplateId) (world1 : World) →
       parents_left host parent world1 ≤ parents_left host q v → parents_left host parent (close world1) ≤ parents_left host q w
@@ -282,7 +282,7 @@ module _ (host : HostValue) where
   closing_ends w v close l k same o h =
       closing_by_ends w v close l k same o.ending o.parent o.text o.world (ends_as host v o h) (ends_parents host v o h)
 
-  -- behind a capture
+  -- after a capture
   captured_by_ends : {q : Option TemplateId} (w : World) (run : Run) (out : List ℕ) (f : Run → List ℕ → World → Outcome) →
       ((run1 : Run) (x : List ℕ) (world1 : World) → OutcomeKeeps host run1.parent world1 (f run1 x world1)) →
       (e : Ending) (x : List ℕ) (world1 : World) → EndingKeeps host w e world1 →
@@ -318,7 +318,7 @@ module _ (host : HostValue) where
   round_end_ends w x run f k leave out world1 i h p =
       ends_kept_at w world1 (tick world1) run out _ (advances_around (for_flags false) w world1 (kept_then i h)) p (tick_gives world1)
       (λ _ world2 h2. ends_from host w _
-      (kept_popped (loop_scope (mark_behind (for_flags false) w)) w world2 (kept_then i (kept_then h h2)))
+      (kept_popped (loop_scope (mark_after (for_flags false) w)) w world2 (kept_then i (kept_then h h2)))
       (omega (arith, p, parents_kept host run.parent h2)))
   round_end_ends w x run f k next out world1 i h p =
       ends_kept_at w world1 (tick world1) run out _ (advances_around (for_flags false) w world1 (kept_then i h)) p (tick_gives world1)
@@ -335,7 +335,7 @@ module _ (host : HostValue) where
       ends_kept_at w world1 (tick world1) run out _ (advances_around (for_flags false) w world1 i) p (tick_gives world1) (λ _ world2 h.
       let x = next_turn world2 in
       let turned = kept_turned (for_flags false) w world2 (kept_then i h) in
-      ends_from host w (so_far run out (pop x)) (kept_popped (loop_scope (mark_behind (for_flags false) w)) w x turned)
+      ends_from host w (so_far run out (pop x)) (kept_popped (loop_scope (mark_after (for_flags false) w)) w x turned)
       (omega (arith, p, parents_kept host run.parent h, next_names host world2)))
   rounds_end {q = q} w turn k (v ∷ vs) run out world1 i p =
       ends_kept_at w world1 (tick world1) run out _ (advances_around (for_flags false) w world1 i) p (tick_gives world1) (λ _ world2 h.
@@ -349,7 +349,7 @@ module _ (host : HostValue) where
   opened_ends : (n : ℕ) (recursive : Bool) (w : World) (vs : List Val) (turn : Val → Run → List ℕ → World → Outcome) →
       ((v : Val) (run : Run) (out : List ℕ) (x : World) → OutcomeKeeps host run.parent x (turn v run out x)) →
       (run : Run) (out : List ℕ) (room : Bool) →
-      let opening = one_more room (loop_scope (mark_behind (for_flags false) w)) w in
+      let opening = one_more room (loop_scope (mark_after (for_flags false) w)) w in
       OutcomeKeeps host run.parent w (use_it (bind opening (λ _ world1. recorded (for_flags recursive) n vs w world1)) run out
       (λ _ world1. rounds turn vs run out world1))
   opened_ends n recursive w vs turn k run out true =
@@ -359,7 +359,7 @@ module _ (host : HostValue) where
   -- what stands in a loop that was opened, where there is room for it
   pub opened_gives : {A : Type 0} (g : LoopFlags) (n : ℕ) (w : World) (vs : List Val) (room : Bool) (rest : World → Res A) →
       Gives host w (rest (opened g n w vs)) →
-      let opening = one_more room (loop_scope (mark_behind g w)) w in
+      let opening = one_more room (loop_scope (mark_after g w)) w in
       Gives host w (bind (bind opening (λ _ world1. recorded g n vs w world1)) (λ _ x. rest x))
   opened_gives g n w vs true rest k = k
   opened_gives g n w vs false rest k = refused_arises w InvalidOperation refl

@@ -15,7 +15,7 @@ use Rattle.tm_meaning.specs.World.{World, Scope, Res, Good, Bad, bind, tick, pop
 use Rattle.tm_meaning.specs.World.{captured_text}
 use Rattle.tm_meaning.specs.Calls.{enter_include, include_call, in_template}
 use Rattle.tm_meaning.specs.Meaning.{Run, Outcome, Under, use_it, in_place_of, audible, eval, capturing}
-use Rattle.tm_meaning.specs.Meaning.{include, heard_behind, included, import, give_each, import_names}
+use Rattle.tm_meaning.specs.Meaning.{include, heard_after, included, import, give_each, import_names}
 use Rattle.tm_meaning.specs.Machine.{goes}
 use Rattle.tm_simulation.proofs.Advances.{Kept, kept_top, kept_frames, kept_then, kept_popped, within, one_more}
 use Rattle.tm_simulation.proofs.Gives.{tick_gives}
@@ -28,10 +28,10 @@ use Rattle.tm_simulation.proofs.Forms.{Stands}
 use Rattle.tm_simulation.proofs.Levels.{Deep, Setting, as_at, deep_kept, deep_within, here, meaning, nest_ends, placed_then}
 use Rattle.tm_simulation.proofs.Arguments.{In}
 use Rattle.tm_simulation.proofs.Expressions.{expr_runs}
-use Rattle.tm_simulation.proofs.BlockTags.{behind_parent, capture_ended_then, stands_in_capture, HeardThen, heard_then}
+use Rattle.tm_simulation.proofs.BlockTags.{after_parent, capture_ended_then, stands_in_capture, HeardThen, heard_then}
 use Rattle.tm_simulation.proofs.Targets.{popped_then, target_runs}
 
--- ---------------------------------------------------------------- the parent that waits behind it
+-- ---------------------------------------------------------------- the parent that waits after it
 use_parent : {A : Type 0} (m : Res A) (run : Run) (out : List ℕ) (g : A → World → Outcome) →
     ((a : A) (w : World) → (g a w).parent ≡ run.parent) → (use_it m run out g).parent ≡ run.parent
 use_parent (Good a w) run out g h = h a w
@@ -44,7 +44,7 @@ include_parent u run e missing out w =
     include_asks_by (λ q. (in_place_of u run out q).parent ≡ run.parent) u.host world2 (λ chain h. refl) refl (λ t room.
     let c = include_call t world2 in
     let o = u.nests c.callee (audible run) out (in_template u.host t world2) in
-    behind_parent o.ending c run o) v missing))
+    after_parent o.ending c run o) v missing))
 
 -- a scope more, where there is room for it, before what is bound twice
 room_then : {A B : Type 0} (context : RunContext) (t : List ℕ) (w : World) (s : Scope) (room : Bool) (rest : World → Res A)
@@ -95,7 +95,7 @@ module _ (setting : Setting) where
   begins_then true s pc stack w e g = at context (i.BeginCapture Capture) s pc stack w e (silent context (told s) _ g)
   begins_then false s pc stack w e g = at context (i.BeginCapture Discard) s pc stack w e (silent context (told s) _ g)
 
-  -- It runs in a capture and a scope of its own, which stand behind it.
+  -- It runs in a capture and a scope of its own, which stand after it.
   included_runs : {A : Type 0} (heard : Bool) (e : Expr) (run : Run) (s : Spot) (l : Labels) (pc : ℕ) (stack : List Val) (w : World)
       (g : List ℕ → World → Res A) (K : A → World → Type 0) → Deep setting run s w →
       slice_get (context.program.code s.run.stream) pc ≡ Some (i.BeginCapture (mode_of heard)) →
@@ -111,7 +111,7 @@ module _ (setting : Setting) where
       let fits = stands_in_capture setting heard run s d.1 in
       let x = within blank w in
       let o = include u run2 e false [] x in
-      let heard_of : World → Res (List ℕ) = λ y. let q = include u run2 e false [] y in heard_behind q.ending q in
+      let heard_of : World → Res (List ℕ) = λ y. let q = include u run2 e false [] y in heard_after q.ending q in
       let T = HeardThen setting s g K in
       let D : Then = λ q out world1. Kept x world1 × T q out world1 in
       begins_then heard s pc stack w begins
@@ -142,17 +142,17 @@ module _ (setting : Setting) where
       (λ _ world1. Go context s (beyond (beyond (pc + 1) (included_code e) + 1 + 1 + 1) (target_code t)) stack world1) →
       Go context s pc stack w
   import_runs e t run s l pc stack w d is h =
-      let behind = beyond (pc + 1) (included_code e) in
+      let after = beyond (pc + 1) (included_code e) in
       included_runs true e run s l pc stack w _ _ d is.0.0 is.1.0 h (λ x world1 k1 h1.
-      at context i.EndCapture (later (captured_at true s) s.parent x) behind stack world1 is.1.1.0.0
+      at context i.EndCapture (later (captured_at true s) s.parent x) after stack world1 is.1.1.0.0
       (after_then context (told s) (tick world1) _
       (bind_then context (told s) world1 (tick world1) _ _ _ (tick_gives _ world1) h1 (λ _ world2 k2 h2.
       let m = module_of world2 x in
       let k = kept_then k1 k2 in
-      capture_ended_then setting true s s.parent x behind stack world2 (omega (arith, d.1.1))
-      (at context i.ExportLocals s (behind + 1) (captured_text x world2 ∷ stack) world2 is.1.1.0.1.0 (silent context (told s) _
-      (left_then s (behind + 1 + 1) (m ∷ stack) w world2 d.0.scopes k is.1.1.0.1.1.0
-      (target_runs setting t (as_at run s) s l (behind + 1 + 1 + 1) m stack (pop world2)
+      capture_ended_then setting true s s.parent x after stack world2 (omega (arith, d.1.1))
+      (at context i.ExportLocals s (after + 1) (captured_text x world2 ∷ stack) world2 is.1.1.0.1.0 (silent context (told s) _
+      (left_then s (after + 1 + 1) (m ∷ stack) w world2 d.0.scopes k is.1.1.0.1.1.0
+      (target_runs setting t (as_at run s) s l (after + 1 + 1 + 1) m stack (pop world2)
       (here setting run s (pop world2) (deep_kept setting run s (kept_popped blank w world2 k) d)) is.1.1.1 h2))))))))
 
   -- Names are looked up, the scope is left, and the values are given to names where the code of that stands.
@@ -188,12 +188,12 @@ module _ (setting : Setting) where
       Go context s pc stack w
   import_names_run e xs run s l pc stack w d is h =
       let host = context.program.host in
-      let behind = beyond (pc + 1) (included_code e) in
-      let stores = beyond behind (lookups_code xs) + 1 in
+      let after = beyond (pc + 1) (included_code e) in
+      let stores = beyond after (lookups_code xs) + 1 in
       let last = beyond stores (stores_code xs) in
       included_runs false e run s l pc stack w _ _ d is.0.0 is.1.0 h (λ x world1 k1 h1.
       let inner = later (captured_at false s) s.parent x in
-      names_run xs inner l stores behind stack w world1 d.0.scopes k1 is.1.1.0 is.1.1.1.0.0 refl is.1.1.1.1.0
+      names_run xs inner l stores after stack w world1 d.0.scopes k1 is.1.1.0 is.1.1.1.0.0 refl is.1.1.1.1.0
       (bind_then context (told s) w (give_each host xs world1) _ _ _ (give_each_gives host blank w xs world1 k1) h1 (λ _ world2 k2 h2.
       at context i.EndCapture inner last stack world2 is.1.1.1.1.1.0 (after_then context (told s) (tick world2) _
       (follows_map context (told s) (tick world2) _ _ h2 (λ _ world3 g.

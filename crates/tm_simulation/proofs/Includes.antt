@@ -7,7 +7,7 @@ use Rattle.tm_syntax.specs.declared.tree.Imported.{Imported}
 use Rattle.tm_meaning.specs.World.{World, HostValue, Scope, Res, bind, tick, pop, depth, plain_scope, looked_up, module_of}
 use Rattle.tm_meaning.specs.Calls.{Callee}
 use Rattle.tm_meaning.specs.Meaning.{Run, Outcome, Ending, done, leave, next, fault, Under, eval, capturing, assign, give, include}
-use Rattle.tm_meaning.specs.Meaning.{heard_behind, import, give_each, import_names}
+use Rattle.tm_meaning.specs.Meaning.{heard_after, import, give_each, import_names}
 use Rattle.tm_simulation.proofs.Advances.{Kept, kept_then, kept_popped, store_kept, within, advances_within, advances_then}
 use Rattle.tm_simulation.proofs.Gives.{Gives, RunEnds, EndingKeeps, OutcomeKeeps, ends_as, ends_use, tick_gives, ticked_gives, gives_bind}
 use Rattle.tm_simulation.proofs.Gives.{gives_kept, gives_then, room_gives}
@@ -15,7 +15,7 @@ use Rattle.tm_simulation.proofs.Asks.{include_asks}
 use Rattle.tm_simulation.proofs.Evaluates.{eval_gives, place_ends, assign_gives, looked_up_gives}
 
 -- what was heard
-heard_gives : (host : HostValue) (w : World) (e : Ending) (o : Outcome) → EndingKeeps host w e o.world → Gives host w (heard_behind e o)
+heard_gives : (host : HostValue) (w : World) (e : Ending) (o : Outcome) → EndingKeeps host w e o.world → Gives host w (heard_after e o)
 heard_gives host w (done vs) o h = h
 heard_gives host w leave o h = h
 heard_gives host w next o h = h
@@ -48,11 +48,11 @@ module _ (u : Under) (nest_ends : (k : Callee) (heard : Bool) (out : List ℕ) (
   -- what is heard of a template in a scope of its own, and what comes of it where that is left
   in_scope_gives : {A : Type 0} (run : Run) (e : Expr) (w : World) (s : Scope) (g : List ℕ → World → Res A) →
       ((x : List ℕ) (world1 : World) → Kept (within s w) world1 → Gives u.host w (g x world1)) →
-      let o = include u run e false [] (within s w) in Gives u.host w (bind (heard_behind o.ending o) g)
+      let o = include u run e false [] (within s w) in Gives u.host w (bind (heard_after o.ending o) g)
   in_scope_gives run e w s g k =
       let o = include u run e false [] (within s w) in
       let ends = ends_as u.host (within s w) o (include_ends run e false [] (within s w)) in
-      gives_kept u.host w (within s w) (heard_behind o.ending o) g (advances_within s w)
+      gives_kept u.host w (within s w) (heard_after o.ending o) g (advances_within s w)
       (heard_gives u.host (within s w) o.ending o ends) k
 
   pub import_gives : (run : Run) (e : Expr) (t : AssignmentTarget) (w : World) → Gives u.host w (import u run e t w)

@@ -12,7 +12,7 @@ use Rattle.tm_meaning.specs.Calls.{Callee, whole, macro_of, NestedCall, block_ca
 use Rattle.tm_meaning.specs.Calls.{include_depth, include_call, in_template, enter_include}
 use Rattle.tm_meaning.specs.Meaning.{ended, Run, Outcome, Ending, done, leave, next, fault, Nests, Under}
 use Rattle.tm_meaning.specs.Runs.{over, under, again_of, done_by}
-use Rattle.tm_meaning.specs.Meaning.{behind, in_place_of, block_tag, audible, none_waits}
+use Rattle.tm_meaning.specs.Meaning.{after, in_place_of, block_tag, audible, none_waits}
 use Rattle.tm_meaning.specs.Runs.{at_end, new_run, nests_of, rendered, chain_in}
 use Rattle.tm_meaning.specs.Meaning.{eval}
 use Rattle.tm_meaning.specs.Runs.{chain_of, macro_body, macro_run, stream_run, restarting, run_of, failed}
@@ -26,7 +26,7 @@ use Rattle.tm_simulation.proofs.RunAdvances.{in_stream, undone_scopes, undone_ke
 use Rattle.tm_simulation.proofs.Advances.{own_bare}
 use Rattle.tm_simulation.proofs.RunAdvances.{include_undone_bare}
 use Rattle.tm_simulation.proofs.Parents.{blocks_same}
-use Rattle.tm_simulation.proofs.Gives.{Gives, RunEnds, run_ends, run_ends_by, run_ends_from, run_ends_behind, run_ends_as, ends_advance}
+use Rattle.tm_simulation.proofs.Gives.{Gives, RunEnds, run_ends, run_ends_by, run_ends_from, run_ends_after, run_ends_as, ends_advance}
 use Rattle.tm_simulation.proofs.Gives.{EndingKeeps, OutcomeKeeps, ends_as, ends_from, ends_parents, parents_left, parents_kept}
 use Rattle.tm_simulation.proofs.Gives.{parents_advance, refused_arises, tick_gives}
 use Rattle.tm_simulation.proofs.Gives.{ends_refused, ends_use, choose_ends}
@@ -54,13 +54,13 @@ at_end_ends : (host : HostValue) {q : Option TemplateId} (w : World) (o : Outcom
     OutcomeKeeps host q w (at_end o.ending o)
 at_end_ends host w o h = at_end_by host w o.ending o.parent o.text o.world (ends_as host w o h) (ends_parents host w o h)
 
--- in the stream in which it began, or a parent's root behind it
-there_behind : (w v : World) (t : TemplateId) (o : Outcome) → v.stream ≡ w.stream →
+-- in the stream in which it began, or a parent's root after it
+there_after : (w v : World) (t : TemplateId) (o : Outcome) → v.stream ≡ w.stream →
     EndsThere v.stream o ⊎ EndsThere (root_of t) o → EndsThere w.stream o
-there_behind w v t o h (inl (inl e)) = inl (e ∙ h)
-there_behind w v t o h (inl (inr r)) = inr r
-there_behind w v t o h (inr (inl e)) = inr (t, e)
-there_behind w v t o h (inr (inr r)) = inr r
+there_after w v t o h (inl (inl e)) = inl (e ∙ h)
+there_after w v t o h (inl (inr r)) = inr r
+there_after w v t o h (inr (inl e)) = inr (t, e)
+there_after w v t o h (inr (inr r)) = inr r
 
 -- Loops that are called end so, where what nests does.
 pub again_end : (host : HostValue) (nests : Nests)
@@ -115,9 +115,9 @@ module _ (host : HostValue) (nests : Nests)
   restart_ends w (done vs) None out v f h k = run_ends_by host w _ h
   restart_ends w leave None out v f h k = run_ends_by host w _ h
   restart_ends w next None out v f h k = run_ends_by host w _ h
-  restart_ends w (done vs) (Some t) out v f h k = run_ends_behind host w v (root_of t) (f t) h (k t)
-  restart_ends w leave (Some t) out v f h k = run_ends_behind host w v (root_of t) (f t) h (k t)
-  restart_ends w next (Some t) out v f h k = run_ends_behind host w v (root_of t) (f t) h (k t)
+  restart_ends w (done vs) (Some t) out v f h k = run_ends_after host w v (root_of t) (f t) h (k t)
+  restart_ends w leave (Some t) out v f h k = run_ends_after host w v (root_of t) (f t) h (k t)
+  restart_ends w next (Some t) out v f h k = run_ends_after host w v (root_of t) (f t) h (k t)
 
   pub run_of_ends : (n : ℕ) (s : StreamId) (run : Run) (out : List ℕ) (w : World) → RunEnds host w (run_of host nests trees n s run out w)
   run_of_ends zero s run out w =
@@ -137,9 +137,9 @@ module _ (host : HostValue) (nests : Nests)
   restart_there w (done vs) None out v f h k = inl h
   restart_there w leave None out v f h k = inl h
   restart_there w next None out v f h k = inl h
-  restart_there w (done vs) (Some t) out v f h k = there_behind w v t (f t) h (k t)
-  restart_there w leave (Some t) out v f h k = there_behind w v t (f t) h (k t)
-  restart_there w next (Some t) out v f h k = there_behind w v t (f t) h (k t)
+  restart_there w (done vs) (Some t) out v f h k = there_after w v t (f t) h (k t)
+  restart_there w leave (Some t) out v f h k = there_after w v t (f t) h (k t)
+  restart_there w next (Some t) out v f h k = there_after w v t (f t) h (k t)
 
   pub run_of_there : (n : ℕ) (s : StreamId) (run : Run) (out : List ℕ) (w : World) →
       EndsThere w.stream (run_of host nests trees n s run out w)
@@ -218,11 +218,11 @@ render_ends_there host trees w =
     (new_run true w) [] w)
 
 -- ---------------------------------------------------------------- what a block's tag puts back
-behind_world : (e : Ending) (c : NestedCall) (run : Run) (o : Outcome) → (behind e c run o).world ≡ undone c.undo o.world
-behind_world (done vs) c run o = refl
-behind_world leave c run o = refl
-behind_world next c run o = refl
-behind_world (fault chain) c run o = refl
+after_world : (e : Ending) (c : NestedCall) (run : Run) (o : Outcome) → (after e c run o).world ≡ undone c.undo o.world
+after_world (done vs) c run o = refl
+after_world leave c run o = refl
+after_world next c run o = refl
+after_world (fault chain) c run o = refl
 
 choose_puts_back : (w : World) (b : Bool) (o q : Outcome) → PutsBack w o.world → PutsBack w q.world →
     PutsBack w (choose b (λ _. o) (λ _. q)).world
@@ -249,7 +249,7 @@ entered_puts_back u run b out w stream ends =
     let began = in_stream o.world.stream (in_block stream b w) in
     let l = ends_advance u.host began o.ending o.world (run_ends_as u.host (in_block stream b w) o ends) in
     let k = (undone_kept (plain_scope (undefined false)) stream (Some b) w o.world l).advances.lasts in
-    subst (PutsBack w) (sym (behind_world o.ending c run o)) (record {
+    subst (PutsBack w) (sym (after_world o.ending c run o)) (record {
       same_scopes = undone_scopes (plain_scope (undefined false)) stream (Some b) w o.world l;
       same_stream = refl;
       same_block = refl;
@@ -276,7 +276,7 @@ super_entered_puts_back u run out w stream x ends =
     let began = in_stream o.world.stream (in_super stream x w) in
     let h = ends_advance u.host began o.ending o.world (run_ends_as u.host (in_super stream x w) o ends) in
     let places = put x (place_in x w.places + 1) w.places in
-    subst (PutsBack w) (sym (behind_world o.ending c run o)) (record {
+    subst (PutsBack w) (sym (after_world o.ending c run o)) (record {
       same_scopes = super_undone_scopes (plain_scope (undefined false)) stream places w o.world h;
       same_stream = refl;
       same_block = refl;
@@ -322,7 +322,7 @@ included_gives_back u run out w t ends =
     let h = ends_advance u.host (in_stream o.world.stream began) o.ending o.world (run_ends_as u.host began o ends) in
     let same = include_undone_bare (include_depth + w.scopes.outer) (root_of t) (template_at u.host t).escape
     (own_blocks t (template_at u.host t).blocks) w o.world h in
-    subst (GivesBack w) (sym (behind_world o.ending c run o)) (record {
+    subst (GivesBack w) (sym (after_world o.ending c run o)) (record {
       same_scopes = same;
       same_closure = own_closure_back w.scopes.frames _ (sym (own_bare (own_closure w.scopes.frames) _) ∙ same);
       same_outer = refl;

@@ -13,7 +13,7 @@ use Rattle.tm_meaning.specs.Meaning.{Run, Outcome, Nests, eval}
 use Rattle.tm_meaning.specs.Runs.{under, failed, new_run, leaving, stream_run, restarting, run_of}
 use Rattle.tm_meaning.specs.Runs.{nests_of, rendered, evaluated, value_left}
 
--- no parent waits behind it
+-- no parent waits after it
 no_parent : (m : Res Val) (heard : Bool) (w : World) (out : List ℕ) (f : TemplateId → Outcome) →
     let o = leaving m (new_run heard w) out in restarting o.ending o f ≡ o
 no_parent (Good v x) heard w out f = refl
@@ -25,14 +25,14 @@ run_leaves : (host : HostValue) (nests : Nests) (trees : Trees) (n : ℕ) (s : S
     leaving (eval (under host nests (expression e)) (new_run heard w) e w) (new_run heard w) out
 run_leaves host nests trees zero s e heard out w is =
     let run = new_run heard w in
-    let behind = λ (o : Outcome). restarting o.ending o (λ t. failed InvalidOperation run o.text o.world) in
-    ap (λ (t : StreamTree). behind (stream_run (under host nests t) t run out w)) is
+    let after = λ (o : Outcome). restarting o.ending o (λ t. failed InvalidOperation run o.text o.world) in
+    ap (λ (t : StreamTree). after (stream_run (under host nests t) t run out w)) is
     ∙ no_parent (eval (under host nests (expression e)) run e w) heard w out _
 run_leaves host nests trees (suc n) s e heard out w is =
     let run = new_run heard w in
-    let behind = λ (o : Outcome). restarting o.ending o
+    let after = λ (o : Outcome). restarting o.ending o
     (λ t. run_of host nests trees n (root_of t) run o.text (record o.world { stream = root_of t })) in
-    ap (λ (t : StreamTree). behind (stream_run (under host nests t) t run out w)) is
+    ap (λ (t : StreamTree). after (stream_run (under host nests t) t run out w)) is
     ∙ no_parent (eval (under host nests (expression e)) run e w) heard w out _
 
 -- An expression's run evaluates it.

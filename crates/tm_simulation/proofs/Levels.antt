@@ -9,7 +9,7 @@ use Rattle.tm_meaning.specs.World.{depth}
 use Rattle.tm_meaning.specs.World.{with_escape}
 use Rattle.tm_meaning.specs.Calls.{Callee, Asked, has, refused, runs, recurs}
 use Rattle.tm_meaning.specs.Tree.{Trees}
-use Rattle.tm_meaning.specs.Meaning.{Again, text_behind, Run}
+use Rattle.tm_meaning.specs.Meaning.{Again, text_after, Run}
 use Rattle.tm_meaning.specs.Runs.{over}
 use Rattle.tm_meaning.specs.Meaning.{Under, value_of, in_place_of}
 use Rattle.tm_meaning.specs.Meaning.{audible as heard_here}
@@ -75,7 +75,7 @@ DeepIn context n id level run s w = Levels context n level w × Stands context.b
 abbrev pub HereIn : RunContext → ℕ → StreamId → ℕ → Run → Spot → World → Type 0
 HereIn context n id level run s w = Levels context n level w × Stands context.base run s × (s.run.stream ≡ id) × (run.parent ≡ s.parent)
 
--- A loop that is called, in place and as a value, comes behind its call with what its rounds mean.
+-- A loop that is called, in place and as a value, comes after its call with what its rounds mean.
 abbrev pub CalledInPlace : RunContext → ℕ → StreamId → ℕ → Again → Type 1
 CalledInPlace context n id level again =
     (m : ℕ) (items : List Val) (run : Run) (s : Spot) (pc : ℕ) (stack old : List Val) (w0 w : World) (D L N : Then) →
@@ -89,7 +89,7 @@ abbrev pub CalledAsValue : RunContext → ℕ → StreamId → ℕ → Again →
 CalledAsValue context n id level again =
     (m : ℕ) (items : List Val) (run : Run) (s : Spot) (pc : ℕ) (stack old : List Val) (w0 w : World) (K : Val → World → Type 0) →
     HereIn context n id level run s w →
-    (let o = again m items (capturing true run) [] w in Follows context (told s) (text_behind o.ending o) K) →
+    (let o = again m items (capturing true run) [] w in Follows context (told s) (text_after o.ending o) K) →
     ((v : Val) (x : World) → K v x → Go context s (pc + 1) (v ∷ stack) x) →
     LeadsToEnd context (told s) (recursion context.program (cfg s pc old w0) true stack (new_capture true ∷ captures_of s.bed s.out) m
     (place_of_loop context.program (cfg s pc old w0) m) items w)

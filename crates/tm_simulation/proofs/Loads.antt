@@ -59,7 +59,7 @@ pub load_gives : (host : HostValue) (q : Option TemplateId) (w : World) (m : Res
 load_gives host q w (Good t world1) h = h.0
 load_gives host q w (Bad chain world1) h = h
 
--- what waits behind it
+-- what waits after it
 pub waits_ends : (host : HostValue) (w : World) (run : Run) (out : List ℕ) (m : Res TemplateId) → LoadGives host run.parent w m →
     OutcomeKeeps host run.parent w (use_it m run out (λ t world1. so_far (record run { parent = Some t }) out world1))
 waits_ends host w run out (Good t world1) h = ends_from host w (so_far (record run { parent = Some t }) out world1) h.0 h.1

@@ -10,8 +10,8 @@ use Rattle.tm_syntax.specs.declared.instruction.LoopFlags.{LoopFlags}
 use Rattle.tm_meaning.specs.declared.mark.LoopMark.{LoopMark}
 use Rattle.tm_meaning.specs.Meaning.{has_none}
 use Rattle.tm_simulation.specs.Kept.{shape, shapes}
-use Rattle.tm_simulation.proofs.Advances.{Kept, shapes_long, shapes_behind, kept_top}
-use Rattle.tm_simulation.proofs.RunAdvances.{turned_shapes, opened, mark_behind, in_loop_of}
+use Rattle.tm_simulation.proofs.Advances.{Kept, shapes_long, shapes_after, kept_top}
+use Rattle.tm_simulation.proofs.RunAdvances.{turned_shapes, opened, mark_after, in_loop_of}
 
 pub seam_some : {A : Type 0} (a b : List A) (v : A) → slice_get (a ++ v ∷ b) (length a) ≡ Some v
 seam_some [] b v = refl
@@ -63,7 +63,7 @@ turned_record n [] l e = absurd (cc e)
 turned_record zero (x ∷ ls) l e = let same : x ≡ l = cc e in ap (λ m. Some (turned m)) same
 turned_record (suc n) (x ∷ ls) l e = turned_record n ls l e
 
-top_is : (g : LoopFlags) (w0 w : World) → Kept (in_loop_of g w0) w → top_mark w.scopes.frames ≡ Some (mark_behind g w0)
+top_is : (g : LoopFlags) (w0 w : World) → Kept (in_loop_of g w0) w → top_mark w.scopes.frames ≡ Some (mark_after g w0)
 top_is g w0 w k = kept_top k
 
 -- what is asked of a record of its items and turns
@@ -93,7 +93,7 @@ next_record g w0 w l k e =
 pub new_record : (g : LoopFlags) (n : ℕ) (w : World) (vs : List Val) → slice_get (shapes (opened g n w vs).loops) (length w.loops) ≡ Some
     (new_loop vs g n w)
 new_record g n w vs =
-    ap (λ ls. slice_get ls (length w.loops)) (shapes_behind w.loops (new_loop vs g n w ∷ []))
+    ap (λ ls. slice_get ls (length w.loops)) (shapes_after w.loops (new_loop vs g n w ∷ []))
     ∙ ap (slice_get (shapes w.loops ++ new_loop vs g n w ∷ [])) (sym (shapes_long w.loops))
     ∙ seam_some (shapes w.loops) [] (new_loop vs g n w)
 

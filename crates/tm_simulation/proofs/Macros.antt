@@ -50,7 +50,7 @@ module _ (setting : Setting) where
       (λ v world1. goes (v ∷ stack) world1 (cfg s pc (name_list m.parameters ∷ closure_value o ∷ stack) w))
   built_is m place nth o s pc stack w is = rw (closure_back o, names_back m.parameters, is) refl
 
-  -- the value of a macro behind its closure
+  -- the value of a macro after its closure
   abbrev built : ℕ → MacroHead → World → Res Val
   built nth m w =
       ticked w (λ world1. ticked world1 (λ world2.

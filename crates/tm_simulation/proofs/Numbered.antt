@@ -23,7 +23,7 @@ both_uncached (x ∷ a) b h k = (h.0, both_uncached a b h.1 k)
 abbrev pub Given : List (List ℕ) → List ℕ → ℕ → Type 0
 Given names x k = (k ≡ no_cache) ⊎ ((nat_lt k cache_count ≡ true) × (slice_get names k ≡ Some x))
 
--- a name stands so many places behind the one from which is counted
+-- a name stands so many places after the one from which is counted
 abbrev StandsAt : List ℕ → List (List ℕ) → ℕ → ℕ → Type 0
 StandsAt x ys m n = (j : ℕ) × (n ≡ m + j) × (slice_get ys j ≡ Some x)
 
@@ -52,7 +52,7 @@ within [] k x e = absurd (cc e)
 within (y ∷ ys) zero x e = omega arith
 within (y ∷ ys) (suc k) x e = omega (arith, within ys k x e)
 
--- the names that have numbers behind one more
+-- the names that have numbers after one more
 module _ (x : List ℕ) (names : List (List ℕ)) (room : length names ≤ cache_count) where
   given_by : (o : Option ℕ) → place_from 0 x names ≡ o → (b : Bool) → nat_lt (length names) cache_count ≡ b →
       Given (joined_by o x names) x (number_by o names)
@@ -96,7 +96,7 @@ EachNumbers fs ts (x ∷ is) [] = ⊥
 EachNumbers fs ts [] (y ∷ js) = ⊥
 EachNumbers fs ts (x ∷ is) (y ∷ js) = Numbers fs ts x y × EachNumbers fs ts is js
 
--- the names that have numbers behind code
+-- the names that have numbers after code
 abbrev filters_after : List (List ℕ) → List Instruction → List (List ℕ)
 filters_after fs [] = fs
 filters_after fs (i.ApplyFilter x n k ∷ is) = filters_after (joined x fs) is

@@ -84,7 +84,7 @@ pub mapped_long : (ps : List (Val × Val)) (w : World) → IsLong (rows_of (leng
 mapped_long [] w = refl
 mapped_long (p ∷ ps) w = long_bind 1 (tick w) _ (λ _ world1. refl)
 
--- what ends a row: the row, the value that is spread, and the rows behind it
+-- what ends a row: the row, the value that is spread, and the rows after it
 ended_long : (n m k : ℕ) (ls vs : List Val) (v : Val) → length ls ≡ n → length vs ≡ m → k ≡ n + 1 + m → length (ls ++ v ∷ vs) ≡ k
 ended_long n m k ls vs v e f g = omega (arith, length-append ls (v ∷ vs), e, f, g)
 
@@ -167,7 +167,7 @@ pub bind_long : {A B : Type 0} (context : RunContext) (t : List ℕ) (w : World)
 bind_long context t w n (Good xs world1) g K L e l h k = k xs world1 e l h
 bind_long context t w n (Bad chain world1) g K L e l h k = h
 
--- keys, each with its value behind it
+-- keys, each with its value after it
 abbrev pub flat : List (Val × Val) → List Val
 flat [] = []
 flat (x ∷ xs) = x.0 ∷ x.1 ∷ flat xs

@@ -10,7 +10,7 @@ use Rattle.tm_syntax.specs.Names.{is_among}
 use Rattle.tm_syntax.proofs.Named.{find_put, find_put_other, same_or_not, same_text}
 use Rattle.tm_meaning.specs.World.{Card, Template}
 use Rattle.tm_meaning.specs.declared.stream.TemplateId.{TemplateId}
-use Rattle.tm_meaning.specs.Inheritance.{behind_all, with_blocks, count_left}
+use Rattle.tm_meaning.specs.Inheritance.{after_all, with_blocks, count_left}
 use Rattle.tm_simulation.specs.Kept.{BlocksGrow, NamesGrow}
 
 -- ---------------------------------------------------------------- lists of blocks
@@ -26,22 +26,22 @@ blocks_then a b c h k = λ x l found.
     let last = k x (l ++ first.0) first.1 in
     (first.0 ++ last.0, last.1 ∙ ap (λ (ts : List TemplateId). Some ts) (append_assoc l first.0 last.0))
 
--- a template's block behind those of its name
-behind_by : (t : TemplateId) (x : List ℕ) (ls : Named (List TemplateId)) (y : List ℕ) (l : List TemplateId) → find y ls ≡ Some l →
+-- a template's block after those of its name
+after_by : (t : TemplateId) (x : List ℕ) (ls : Named (List TemplateId)) (y : List ℕ) (l : List TemplateId) → find y ls ≡ Some l →
     (y ≡ x) ⊎ (y ≢ x) →
-    (more : List TemplateId) × (find y (put x (behind_all t (find x ls)) ls) ≡ Some (l ++ more))
-behind_by t x ls y l found (inl same) =
+    (more : List TemplateId) × (find y (put x (after_all t (find x ls)) ls) ≡ Some (l ++ more))
+after_by t x ls y l found (inl same) =
     let there : find x ls ≡ Some l = ap (λ z. find z ls) (sym same) ∙ found in
-    let all = put x (behind_all t (find x ls)) ls in
-    (t ∷ [], ap (λ z. find z all) same ∙ find_put x (behind_all t (find x ls)) ls ∙ ap (λ o. Some (behind_all t o)) there)
-behind_by t x ls y l found (inr apart) = ([], find_put_other y x apart (behind_all t (find x ls)) ls ∙ found ∙ same_list l)
+    let all = put x (after_all t (find x ls)) ls in
+    (t ∷ [], ap (λ z. find z all) same ∙ find_put x (after_all t (find x ls)) ls ∙ ap (λ o. Some (after_all t o)) there)
+after_by t x ls y l found (inr apart) = ([], find_put_other y x apart (after_all t (find x ls)) ls ∙ found ∙ same_list l)
 
-pub blocks_behind : (t : TemplateId) (bs : Named Card) (ls : Named (List TemplateId)) → BlocksGrow ls (with_blocks t bs ls)
-blocks_behind t [] ls = blocks_same ls
-blocks_behind t (b ∷ bs) ls =
-    let first = put b.0 (behind_all t (find b.0 ls)) ls in
-    blocks_then ls first (with_blocks t bs first) (λ y l found. behind_by t b.0 ls y l found (same_or_not y b.0))
-    (blocks_behind t bs first)
+pub blocks_after : (t : TemplateId) (bs : Named Card) (ls : Named (List TemplateId)) → BlocksGrow ls (with_blocks t bs ls)
+blocks_after t [] ls = blocks_same ls
+blocks_after t (b ∷ bs) ls =
+    let first = put b.0 (after_all t (find b.0 ls)) ls in
+    blocks_then ls first (with_blocks t bs first) (λ y l found. after_by t b.0 ls y l found (same_or_not y b.0))
+    (blocks_after t bs first)
 
 -- ---------------------------------------------------------------- names that are left
 pub names_same : (names : List (List ℕ)) → NamesGrow names names

@@ -1,4 +1,4 @@
--- Loops that are called come behind their calls with what their rounds mean.
+-- Loops that are called come after their calls with what their rounds mean.
 use Rattle.std.proofs.Common.{◌≡◌, ℕ, suc, ◌+◌, ◌<◌, ◌≤◌, ◌⊎◌, inl, inr, List, [], ◌∷◌, length, Option, Some, None, Bool}
 use Rattle.std.proofs.Common.{true, false, refl, sym, ap, subst, arith, lt-ltb}
 use Rattle.std.specs.Prelude.{slice_get, nat_lt}
@@ -12,7 +12,7 @@ use Rattle.tm_syntax.specs.Code.{target_code, statements_code}
 use Rattle.tm_meaning.specs.World.{choose, World, Loop, loop_scope, new_loop, open_loop}
 use Rattle.tm_meaning.specs.World.{top_loop, depth, pop}
 use Rattle.tm_meaning.specs.World.{captured_text}
-use Rattle.tm_meaning.specs.Meaning.{ended, text_behind, Run, Ending, done, leave, next}
+use Rattle.tm_meaning.specs.Meaning.{ended, text_after, Run, Ending, done, leave, next}
 use Rattle.tm_meaning.specs.Runs.{again_in}
 use Rattle.tm_meaning.specs.Meaning.{fault, Under}
 use Rattle.tm_meaning.specs.Meaning.{capturing}
@@ -32,7 +32,7 @@ use Rattle.tm_simulation.proofs.Entries.{Counts}
 use Rattle.tm_simulation.proofs.TreeLoops.{found}
 use Rattle.tm_simulation.proofs.Loops.{on_top_loop, new_record}
 use Rattle.tm_simulation.proofs.Advances.{Kept, kept_frames}
-use Rattle.tm_simulation.proofs.RunAdvances.{mark_behind, in_loop_of, opened, opened_kept}
+use Rattle.tm_simulation.proofs.RunAdvances.{mark_after, in_loop_of, opened, opened_kept}
 use Rattle.tm_simulation.proofs.Follow.{LeadsToEnd}
 use Rattle.tm_simulation.proofs.Follow.{opened_then, captures_of, told_by, Spot, told, cfg}
 use Rattle.tm_simulation.proofs.Follow.{later, Follows, Then, Ends, whole_of}
@@ -122,7 +122,7 @@ module _ (setting : Setting) where
       rounds_run setting (Some o) (for_flags true) l.target l.at l.body.row lo.labels place lo.after
       (stmts_run setting [] l.at (round_labels lo.labels place round) l.body.row) items items run (in_call s1) [] w
       (opened (for_flags true) m w items) (new_loop items (for_flags true) m w) D L N fits
-      (levels_called context n level (loop_scope (mark_behind (for_flags false) w)) w room d.0, fits, d.2)
+      (levels_called context n level (loop_scope (mark_after (for_flags false) w)) w room d.0, fits, d.2)
       (opened_kept (for_flags true) m w items) (new_record (for_flags true) m w items)
       (record { before = []; same = refl; all = refl; turns = refl })
       (subst (λ c. At c lo.labels place (a_loop (for_flags true) round lo.after)) all_is lo.code)
@@ -180,7 +180,7 @@ module _ (setting : Setting) where
 
   -- as a value: its text goes into a capture of its own
   pub text_ends : (s : Spot) (e : Ending) (parent : Option TemplateId) (out : List ℕ) (w : World) (K : Val → World → Type 0) →
-      Follows context (told s) (text_behind e (whole_of e parent out w)) K →
+      Follows context (told s) (text_after e (whole_of e parent out w)) K →
       Ends context (captured_in s.bed s.out) (whole_of e parent out w) (λ q out1 x. K (captured_text out1 x) x)
       (λ q out1 x. K (captured_text out1 x) x) (λ q out1 x. K (captured_text out1 x) x)
   unfolding Ends

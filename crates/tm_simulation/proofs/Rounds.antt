@@ -40,7 +40,7 @@ use Rattle.tm_simulation.proofs.TreeLoops.{expr_loopless}
 use Rattle.tm_simulation.proofs.Loops.{LeftOf, next_item, no_item, left_then, turned_items, on_top_loop, next_record, new_record, none_is}
 use Rattle.tm_simulation.proofs.Advances.{Kept, kept_frames, kept_then, kept_record}
 use Rattle.tm_simulation.proofs.Advances.{kept_cleared}
-use Rattle.tm_simulation.proofs.RunAdvances.{kept_turned, mark_behind, in_loop_of, opened, opened_kept}
+use Rattle.tm_simulation.proofs.RunAdvances.{kept_turned, mark_after, in_loop_of, opened, opened_kept}
 use Rattle.tm_simulation.proofs.Gives.{ends_use, OutcomeKeeps, tick_gives}
 use Rattle.tm_simulation.proofs.Asks.{items_give}
 use Rattle.tm_simulation.proofs.Evaluates.{eval_gives}
@@ -65,7 +65,7 @@ use Rattle.tm_simulation.proofs.Targets.{Jumps, StmtsRun, around_kept, target_ru
 abbrev pub looped : Option Return → Spot → Spot
 looped o s = record s { run = record s.run { loops = o ∷ s.run.loops } }
 
--- the rounds of a loop at a place, their labels, and the place behind them
+-- the rounds of a loop at a place, their labels, and the place after them
 abbrev pub round_code : {m : _} → AssignmentTarget → Row_of-Stmt m → Fragment
 round_code t body = target_code t ⨾ statements_code [] body
 
@@ -128,7 +128,7 @@ module _ (setting : Setting) where
       (assign_gives u (nest_ends setting) again_kept run t v w) (λ _ world1. execs_end u (nest_ends setting) again_kept numbers body run out
       world1)
 
-  -- what follows once all rounds are over, at the place behind the jump back
+  -- what follows once all rounds are over, at the place after the jump back
   abbrev Rounded : Option Return → Spot → List Val → List Val → World → Then → ℕ → Type 0
   Rounded o s stack items w D end =
       (q : Option TemplateId) (out : List ℕ) (x : World) (l : Loop) → Kept (in_loop_of (for_flags false) w) x →
@@ -214,7 +214,7 @@ module _ (setting : Setting) where
   abbrev after_pass : Fragment
   after_pass = straight (i.PopLoopFrame ∷ i.BuildList None ∷ [])
 
-  -- From where the next item is asked for the pass comes behind its loop, with what it takes below the count.
+  -- From where the next item is asked for the pass comes after its loop, with what it takes below the count.
   pass_runs : (t : AssignmentTarget) (c : Expr) (k : Labels) (pc : ℕ) (items vs : List Val) (n : ℕ) (run : Run) (s : Spot)
       (below : List Val)
       (w x : World) (l : Loop) →
@@ -244,7 +244,7 @@ module _ (setting : Setting) where
       let test = beyond (beyond (again + 1 + 1) (target_code t)) (expr_code c) in
       let taken_at = is.2.1.1.1.0 in
       let count = number (pos n) in
-      let deep = here_within setting run s (loop_scope (mark_behind pass_flags w)) w room d in
+      let deep = here_within setting run s (loop_scope (mark_after pass_flags w)) w room d in
       let q = looped None s in
       at context (i.Iterate end) q again (count ∷ below) x is.1 (after_then context (told s) (tick x) _
       (bind_then context (told s) x (tick x) _ _ _ (tick_gives _ x) h (λ _ world1 k1 h1.

@@ -10,11 +10,11 @@ use Rattle.tm_meaning.specs.World.{Bindings, World, Scopes, Scope, Loop, loop_sc
 use Rattle.tm_meaning.specs.World.{top_mark, next_turn, Res, Good, depth}
 use Rattle.tm_meaning.specs.World.{own_closure, owning}
 use Rattle.tm_meaning.specs.Calls.{keeping_at, is_changed, outermost, undone, of_block, of_super, of_macro, of_include, run_undone}
-use Rattle.tm_meaning.specs.Calls.{scopes_behind}
+use Rattle.tm_meaning.specs.Calls.{scopes_after}
 use Rattle.tm_meaning.specs.declared.stream.TemplateId.{TemplateId}
 use Rattle.tm_meaning.specs.declared.mark.LoopMark.{LoopMark}
 use Rattle.tm_simulation.specs.Kept.{shape, shapes, bare}
-use Rattle.tm_simulation.proofs.Parents.{blocks_same, blocks_behind, names_same, count_fewer}
+use Rattle.tm_simulation.proofs.Parents.{blocks_same, blocks_after, names_same, count_fewer}
 use Rattle.tm_meaning.specs.Inheritance.{with_blocks, names_left}
 use Rattle.tm_meaning.specs.World.{HostValue, Template}
 use Rattle.tm_meaning.specs.declared.stream.TemplateId.TheVariants.{Entry as entry}
@@ -23,7 +23,7 @@ use Rattle.tm_syntax.specs.Named.{Named, name_cmp, put, put_each}
 use Rattle.std.specs.Ordering.{match_ordering}
 use Rattle.std.specs.declared.cmp.Ordering.{Ordering}
 use Rattle.std.specs.declared.cmp.Ordering.TheVariants.{Less, Equal, Greater}
-use Rattle.tm_simulation.proofs.Advances.{shapes_long, shapes_behind, goes_on_same, lie_same, outermost_below, outermost_bare, Lasts}
+use Rattle.tm_simulation.proofs.Advances.{shapes_long, shapes_after, goes_on_same, lie_same, outermost_below, outermost_bare, Lasts}
 use Rattle.tm_simulation.proofs.Advances.{Advances, Kept, lasts_then, advances_then, lasts_anywhere, lasts_by_loops, kept_lasting}
 use Rattle.tm_simulation.proofs.Advances.{kept_top, own_bare, within, advances_within}
 
@@ -65,7 +65,7 @@ kept_in s {w = w} {v = v} h =
 abbrev pub within_at : ℕ → Scope → World → World
 within_at outer s w = record w { scopes = record { frames = s ∷ w.scopes.frames; outer = outer } }
 
--- A block's run, in whichever stream it ended: what is put back behind it gives the very scopes before it, and all is kept.
+-- A block's run, in whichever stream it ended: what is put back after it gives the very scopes before it, and all is kept.
 pub undone_scopes_at : (outer : ℕ) (s : Scope) (stream : StreamId) (block : Option (List ℕ)) (w v : World) →
     Advances (in_stream v.stream (record (within_at outer s w) { stream = stream; block = block })) v →
     (undone (of_block w) v).scopes ≡ w.scopes
@@ -86,7 +86,7 @@ pub undone_scopes : (s : Scope) (stream : StreamId) (block : Option (List ℕ)) 
     Advances (in_stream v.stream (record (within s w) { stream = stream; block = block })) v → (undone (of_block w) v).scopes ≡ w.scopes
 undone_scopes s stream block w v l = undone_scopes_at w.scopes.outer s stream block w v l
 
--- the very scopes are there behind a `super()` too
+-- the very scopes are there after a `super()` too
 pub super_undone_scopes : (s : Scope) (stream : StreamId) (places : Named ℕ) (w v : World) →
     Advances (in_stream v.stream (record (within s w) { stream = stream; places = places })) v → (undone (of_super w) v).scopes ≡ w.scopes
 super_undone_scopes s stream places w v h =
@@ -96,7 +96,7 @@ pub undone_kept : (s : Scope) (stream : StreamId) (block : Option (List ℕ)) (w
     Advances (in_stream v.stream (record (within s w) { stream = stream; block = block })) v → Kept w (undone (of_block w) v)
 undone_kept s stream block w v l = undone_at w.scopes.outer s stream block w v l
 
--- The same behind a `super()`, in whose run the places were others.
+-- The same after a `super()`, in whose run the places were others.
 pub super_undone_kept : (s : Scope) (stream : StreamId) (places : Named ℕ) (w v : World) →
     Advances (in_stream v.stream (record (within s w) { stream = stream; places = places })) v → Kept w (undone (of_super w) v)
 super_undone_kept s stream places w v h =
@@ -128,7 +128,7 @@ loading_kept x t w = kept_lasting (record {
   streams = omega arith;
   temps = omega arith;
   loaded = (x ∷ [], refl);
-  blocks = blocks_behind (entry x) t.blocks w.blocks;
+  blocks = blocks_after (entry x) t.blocks w.blocks;
   same_places = refl;
 }) refl refl refl refl
 
@@ -139,7 +139,7 @@ names_advance host {w = w} {v = v} h =
     subst (λ names. names_left host (record v { loaded = names }) ≤ names_left host w) (sym loaded.1)
     (count_fewer host.templates w.loaded loaded.0)
 
--- What lasts in a run lasts behind it, which began in other scopes and another stream, with another block, escape and lists of blocks.
+-- What lasts in a run lasts after it, which began in other scopes and another stream, with another block, escape and lists of blocks.
 run_lasts : (scopes back : Scopes) (stream : StreamId) (block : Option (List ℕ)) (escape : AutoEscape) (blocks : Named (List TemplateId))
     (places : Named ℕ) (w v : World) →
     Lasts (record w { scopes = scopes; stream = stream; block = block; escape = escape; blocks = blocks; places = places }) v →
@@ -158,14 +158,14 @@ run_lasts scopes back stream block escape blocks places w v l = record {
   same_places = refl;
 }
 
--- A macro's run, in whichever scopes, and whichever stream it ended: what is put back behind it are the very scopes before it, and all is
+-- A macro's run, in whichever scopes, and whichever stream it ended: what is put back after it are the very scopes before it, and all is
 -- kept.
 pub macro_undone_kept : (scopes : Scopes) (stream : StreamId) (w v : World) →
     Advances (in_stream v.stream (record w { scopes = scopes; stream = stream; block = None })) v → Kept w (undone (of_macro w) v)
 macro_undone_kept scopes stream w v h =
     kept_lasting (run_lasts scopes w.scopes v.stream None w.escape w.blocks w.places w v h.lasts) refl refl refl refl
 
--- An include's run, in whichever stream it ended: what is put back behind it are the scopes before it, but for the names of the innermost
+-- An include's run, in whichever stream it ended: what is put back after it are the scopes before it, but for the names of the innermost
 -- one, and all is kept.
 abbrev pub in_include : ℕ → StreamId → AutoEscape → Named (List TemplateId) → World → World
 in_include outer stream escape blocks w = record w {
@@ -188,7 +188,7 @@ pub include_undone_kept : (outer : ℕ) (stream : StreamId) (escape : AutoEscape
     Advances (in_stream v.stream (in_include outer stream escape blocks w)) v → Kept w (undone (of_include w) v)
 include_undone_kept outer stream escape blocks w v h =
     let inner : Scopes = record { frames = owning None w.scopes.frames; outer = outer } in
-    let back = scopes_behind w.scopes v.scopes in
+    let back = scopes_after w.scopes v.scopes in
     let same = include_undone_bare outer stream escape blocks w v h in
     record {
       advances = record {
@@ -204,9 +204,9 @@ include_undone_kept outer stream escape blocks w v h =
 
 -- ---------------------------------------------------------------- loops
 -- the record that is asked for its next item
-pub turned_behind : (a b : List Loop) → turned_at (length a) (a ++ b) ≡ a ++ turned_at 0 b
-turned_behind [] b = refl
-turned_behind (l ∷ ls) b = ap (λ m. l ∷ m) (turned_behind ls b)
+pub turned_after : (a b : List Loop) → turned_at (length a) (a ++ b) ≡ a ++ turned_at 0 b
+turned_after [] b = refl
+turned_after (l ∷ ls) b = ap (λ m. l ∷ m) (turned_after ls b)
 
 shape_if : (b : Bool) (l : Loop) → shape (if b then l else record l { turns = l.turns + 1 }) ≡ (if b then shape l else record (shape l)
     { turns = l.turns + 1 })
@@ -218,23 +218,23 @@ turned_shapes n [] = refl
 turned_shapes zero (l ∷ ls) = ap (λ m. m ∷ shapes ls) (shape_if (nat_lt (length l.items) l.turns) l)
 turned_shapes (suc n) (l ∷ ls) = ap (λ m. shape l ∷ m) (turned_shapes n ls)
 
--- the mark of a loop whose record stands behind those of a world
-abbrev pub mark_behind : LoopFlags → World → LoopMark
-mark_behind g w = record { number = length w.loops; variable = g.variable }
+-- the mark of a loop whose record stands after those of a world
+abbrev pub mark_after : LoopFlags → World → LoopMark
+mark_after g w = record { number = length w.loops; variable = g.variable }
 
 -- a world with its scope more
 abbrev pub in_loop_of : LoopFlags → World → World
-in_loop_of g w = within (loop_scope (mark_behind g w)) w
+in_loop_of g w = within (loop_scope (mark_after g w)) w
 
 pub kept_turned : (g : LoopFlags) (w world1 : World) → Kept (in_loop_of g w) world1 → Kept (in_loop_of g w) (next_turn world1)
 kept_turned g w world1 k =
-    let top : top_mark world1.scopes.frames ≡ Some (mark_behind g w) = kept_top k in
+    let top : top_mark world1.scopes.frames ≡ Some (mark_after g w) = kept_top k in
     let is : next_turn world1 ≡ record world1 { loops = turned_at (length w.loops) world1.loops } = ap (λ m. turned_of m world1) top in
     let a = k.advances in
     let l = a.lasts in
     let long = ap (λ n. turned_at n (shapes w.loops ++ l.loops.0)) (sym (shapes_long w.loops)) in
     let loops : shapes (turned_at (length w.loops) world1.loops) ≡ shapes w.loops ++ turned_at 0 l.loops.0 =
-    turned_shapes (length w.loops) world1.loops ∙ ap (turned_at (length w.loops)) l.loops.1 ∙ long ∙ turned_behind
+    turned_shapes (length w.loops) world1.loops ∙ ap (turned_at (length w.loops)) l.loops.1 ∙ long ∙ turned_after
     (shapes w.loops) l.loops.0 in
     subst (λ x. Kept (in_loop_of g w) x) (sym is) (record {
       advances = record {
@@ -262,7 +262,7 @@ kept_turned g w world1 k =
 
 -- what is so in a loop's scope is so around it
 pub advances_around : (g : LoopFlags) (w world1 : World) → Kept (in_loop_of g w) world1 → Advances w world1
-advances_around g w world1 k = advances_then (advances_within (loop_scope (mark_behind g w)) w) k.advances
+advances_around g w world1 k = advances_then (advances_within (loop_scope (mark_after g w)) w) k.advances
 
 -- a world with a loop of these items more
 abbrev pub opened : LoopFlags → ℕ → World → List Val → World
@@ -271,7 +271,7 @@ opened g n w vs = record (in_loop_of g w) { loops = w.loops ++ new_loop vs g n w
 pub opened_kept : (g : LoopFlags) (n : ℕ) (w : World) (vs : List Val) → Kept (in_loop_of g w) (opened g n w vs)
 opened_kept g n w vs =
     let one = new_loop vs g n w ∷ [] in
-    kept_lasting (lasts_by_loops (in_loop_of g w) (w.loops ++ one) (one, shapes_behind w.loops one)) refl refl refl refl
+    kept_lasting (lasts_by_loops (in_loop_of g w) (w.loops ++ one) (one, shapes_after w.loops one)) refl refl refl refl
 
 keeping_shape : (b : Bool) (args : List Val) (l : Loop) → shape (if b then record l { kept = Some args } else l) ≡ shape l
 keeping_shape true args l = refl

@@ -83,14 +83,14 @@ unnumbered_of tree = assembled (fragment_of tree)
 abbrev pub IsUnnumbered : Trees → Program → Type 0
 IsUnnumbered trees p = (s : StreamId) → p.code s ≡ unnumbered_of (trees s)
 
--- the numbers behind a stream's tree
-abbrev numbers_behind : StreamTree → Numbers
-numbers_behind (statements body) = pasts first_numbers body.row
-numbers_behind (expression e) = first_numbers
+-- the numbers after a stream's tree
+abbrev numbers_after : StreamTree → Numbers
+numbers_after (statements body) = pasts first_numbers body.row
+numbers_after (expression e) = first_numbers
 
 -- a stream's code begins the loops and macros of its tree
 pub tree_begins : (tree : StreamTree) →
-    Begins first_numbers (fragment_of tree) (stream_loops tree) (stream_macros tree) (numbers_behind tree)
+    Begins first_numbers (fragment_of tree) (stream_loops tree) (stream_macros tree) (numbers_after tree)
 tree_begins (statements body) = statements_begin [] first_numbers body.row
 tree_begins (expression e) = none_begin first_numbers (expr_code e) (expr_loopless e)
 
@@ -117,7 +117,7 @@ module _ (p : Program) (trees : Trees) (compiled : IsUnnumbered trees p) where
       (q : Option TemplateId) (x : List ℕ) (v : World) → Kept w v → Ended context s.bed w close q x v →
       Go context (later s q x) stop [] v
 
-  -- What follows a stream: the run of a parent that waits, behind this text and in this world.
+  -- What follows a stream: the run of a parent that waits, after this text and in this world.
   abbrev Restarted : Type 0
   Restarted = TemplateId → List ℕ → World → Outcome
 
@@ -132,7 +132,7 @@ module _ (p : Program) (trees : Trees) (compiled : IsUnnumbered trees p) where
       let c = cfg (later (spot_of id b out) (Some t) x) (length (p.code id)) [] v in
       Leads p g (told_by b x) (step p g (restarted t c)) (end_of b (f t x v))
 
-  -- behind the last instruction
+  -- after the last instruction
   finishes_by : (id : StreamId) (heard : Bool) (b : Bed) (out : List ℕ) (w : World) (f : Restarted) → Restarts id heard b out w f →
       (end : Final) (q : Option TemplateId) (x : List ℕ) (v : World) → Kept w v →
       let context = running heard b out w end in
@@ -247,7 +247,7 @@ module _ (p : Program) (trees : Trees) (compiled : IsUnnumbered trees p) where
       (sym (ap entries (coded id) ∙ entries_are (code_at id) (tree_begins (trees id)).plain_code))
       ((tree_begins (trees id)).declared (p.code id) (whole_labels (code_at id)) 0 (stands_at id) (counts_at id)))
 
-  -- Loops that are called come behind their calls. Level zero isn't reached: each call opens a scope within the limit, and there is one
+  -- Loops that are called come after their calls. Level zero isn't reached: each call opens a scope within the limit, and there is one
   -- level more than the limit.
   again_runs : (f : Base) (end : Final) (n : ℕ) →
       AllNested p trees n →

@@ -31,14 +31,14 @@ use Rattle.tm_meaning.specs.Operators.{truth}
 use Rattle.tm_meaning.specs.Meaning.{eval}
 use Rattle.tm_meaning.specs.Meaning.{loop_items}
 use Rattle.tm_meaning.specs.Meaning.{filtered, set_to, set_each, capturing}
-use Rattle.tm_meaning.specs.Meaning.{rounds, loop_over, has_none, exec_behind_loop, behind_first, exec, exec_all}
+use Rattle.tm_meaning.specs.Meaning.{rounds, loop_over, has_none, exec_after_loop, after_first, exec, exec_all}
 use Rattle.tm_meaning.specs.Meaning.{exec_else, declared, assign, call, with_caller, import, import_names}
 use Rattle.tm_meaning.specs.Machine.{after, goes}
 use Rattle.tm_meaning.specs.Instructions.{replacing, awaiting}
 use Rattle.tm_meaning.specs.Instructions.{looping}
 use Rattle.tm_simulation.specs.Kept.{shapes}
 use Rattle.tm_syntax.specs.Loops.{Numbers, loops_before, passes, within_loop, past, pasts}
-use Rattle.tm_simulation.proofs.Entries.{Counts, counts_behind, of_number, one_marked}
+use Rattle.tm_simulation.proofs.Entries.{Counts, counts_after, of_number, one_marked}
 use Rattle.tm_syntax.proofs.Standing.{AtWhere}
 use Rattle.tm_simulation.proofs.Begins.{after_none}
 use Rattle.tm_simulation.proofs.TreeLoops.{expr_loopless, target_loopless, assignments_loopless, found, iterable_begins, statement_begins}
@@ -46,7 +46,7 @@ use Rattle.tm_simulation.proofs.TreeLoops.{statements_begin, call_has}
 use Rattle.tm_simulation.proofs.Loops.{new_record}
 use Rattle.tm_simulation.proofs.Advances.{Kept, kept_top, kept_frames, kept_same, kept_then, kept_popped}
 use Rattle.tm_simulation.proofs.Advances.{within}
-use Rattle.tm_simulation.proofs.RunAdvances.{mark_behind, in_loop_of, opened, opened_kept}
+use Rattle.tm_simulation.proofs.RunAdvances.{mark_after, in_loop_of, opened, opened_kept}
 use Rattle.tm_simulation.proofs.Gives.{loop_ends, tick_gives}
 use Rattle.tm_simulation.proofs.Asks.{escape_gives}
 use Rattle.tm_simulation.proofs.Asks.{innermost_asks, super_asks}
@@ -85,7 +85,7 @@ module _ (setting : Setting) where
   u = meaning setting
 
   mutual
-    -- A statement's code comes behind itself with what it means, or to its fault.
+    -- A statement's code comes after itself with what it means, or to its fault.
     stmt_runs : (os : List Opened) (numbers : Numbers) (x : Stmt) (run : Run) (s : Spot) (l : Labels) (pc : ℕ) (stack : List Val) (w : World)
         (L N : Then) → Stands context.base run s → Deep setting run s w → Around setting l os s stack w L N →
         In setting s l pc (statement_code os x) → Counts (context.program.code s.run.stream) numbers pc (statement_code os x) →
@@ -111,7 +111,7 @@ module _ (setting : Setting) where
         (innermost_asks context.program.host v world2) (deep_kept setting run s k2 (deep_kept setting run s k1 d)) h2
         (λ q1 out1 world3 g. g))))))
     stmt_runs os numbers (If' c z body other) run s l pc stack w L N fits d j is nth h =
-        let nth1 = counts_behind (context.program.code s.run.stream) numbers pc (expr_code c)
+        let nth1 = counts_after (context.program.code s.run.stream) numbers pc (expr_code c)
         (branches_code os (statements_code os body) other) (expr_loopless c) nth in
         expr_runs setting c (as_at run s) s l pc stack w (here setting run s w d) is.0
         (use_then context s.bed w (eval u (as_at run s) c w) (as_at run s) s.out _ _ L N _
@@ -124,24 +124,24 @@ module _ (setting : Setting) where
         let round = round_code t body in
         let inner = round_labels l pc1 round in
         let within = within_loop c numbers in
-        let behind = after_loop_code os other in
-        let nth1 = subst (λ m. Counts all m pc1 (a_loop (for_flags recursive) round behind))
+        let following = after_loop_code os other in
+        let nth1 = subst (λ m. Counts all m pc1 (a_loop (for_flags recursive) round following))
         (iterable_begins numbers t e c (found numbers c recursive t body)).number nth.1 in
         let number1 : loops_before pc1 all ≡ numbers.loops + passes c = nth1.0 in
-        let number2 = counts_behind all within (pc1 + 1 + 1) (target_code t) (statements_code [] body) (target_loopless t) nth1.1 in
-        let number3 = subst (λ m. Counts all m (end_at pc1 round) behind)
+        let number2 = counts_after all within (pc1 + 1 + 1) (target_code t) (statements_code [] body) (target_loopless t) nth1.1 in
+        let number3 = subst (λ m. Counts all m (end_at pc1 round) following)
         (after_none (target_code t) (target_loopless t) (statements_begin [] within body)).number nth1.2 in
         let D0 : Then = λ q out1 v. Go context (later s q out1) (beyond (end_at pc1 round) (after_loop_code os other)) stack v in
         iterable_runs setting recursive numbers t e c (as_at run s) s l pc stack w (here setting run s w d) is.0 is.1.0 nth.0
         (use_then context s.bed w (loop_items u numbers.loops (as_at run s) t e c w) (as_at run s) s.out _ D0 L N _
         (loop_items_give u (nest_ends setting) again_kept numbers.loops (as_at run s) t e c w) h (λ vs world1 k1 h1 old.
         let turn = turn_of setting t (within_loop c numbers) body in
-        let deep_behind = deep_kept setting run s k1 d in
+        let deep_after = deep_kept setting run s k1 d in
         let j1 = around_kept setting l os s stack L N k1 j in
-        let DoneThen : Then = λ q out1 x. Ends context s.bed (exec_behind_loop u (pasts (within_loop c numbers) body) other (has_none vs)
+        let DoneThen : Then = λ q out1 x. Ends context s.bed (exec_after_loop u (pasts (within_loop c numbers) body) other (has_none vs)
         (record run { parent = q }) out1 x) D0 L N in
         let over_it = do_then context s.bed (as_at run s) world1 (loop_over context.program.host (numbers.loops + passes c) recursive turn vs
-        (as_at run s) s.out world1) (λ run1 out1 world2. exec_behind_loop u (pasts (within_loop c numbers) body) other (has_none vs) run1
+        (as_at run s) s.out world1) (λ run1 out1 world2. exec_after_loop u (pasts (within_loop c numbers) body) other (has_none vs) run1
         out1 world2) D0 L N DoneThen
         (loop_ends context.program.host (numbers.loops + passes c) recursive world1 turn (turn_ends setting t (within_loop c numbers) body) vs
         (as_at run s) s.out) h1 (λ q out1 x k3 h3. h3) in
@@ -156,11 +156,11 @@ module _ (setting : Setting) where
         (rounds_run setting None (for_flags recursive) t (within_loop c numbers) body l pc1 (after_loop_code os other)
         (stmts_run [] (within_loop c numbers) inner body) vs vs run s stack world1
         (opened (for_flags recursive) (numbers.loops + passes c) world1 vs) (new_loop vs (for_flags recursive) (numbers.loops + passes c) world1)
-        DoneThen L N fits (deep_within setting run s (loop_scope (mark_behind (for_flags false) world1)) world1 room deep_behind)
+        DoneThen L N fits (deep_within setting run s (loop_scope (mark_after (for_flags false) world1)) world1 room deep_after)
         (opened_kept (for_flags recursive) (numbers.loops + passes c) world1 vs) (new_record (for_flags recursive) (numbers.loops + passes c) world1 vs)
         (record { before = []; same = refl; all = refl; turns = refl })
         is.1 number2 (λ q out1 x r k3 e3 same deep_last.
-        behind_loop_runs os (pasts (within_loop c numbers) body) other vs run s l (end_at pc1 round) stack world1 x r L N fits deep_behind
+        after_loop_runs os (pasts (within_loop c numbers) body) other vs run s l (end_at pc1 round) stack world1 x r L N fits deep_after
         j1 k3 e3 same is.1.4 number3 q out1 deep_last) h4))))))
     stmt_runs os numbers Break run s l pc stack w L N fits d j is nth h = j.0 s.parent s.out w pc (kept_same w) is.0 is.1
         (leave_then context s.bed (as_at run s) s.out w _ L N h)
@@ -195,7 +195,7 @@ module _ (setting : Setting) where
         so_far_then context s.bed (as_at run s) s.out world1 _ L N h1))
     stmt_runs os numbers (With' given _ body) run s l pc stack w L N fits d j is nth h =
         let a = plain_scope (undefined false) in
-        let nth1 = (counts_behind (context.program.code s.run.stream) numbers (pc + 1) (assignments_code given)
+        let nth1 = (counts_after (context.program.code s.run.stream) numbers (pc + 1) (assignments_code given)
         (statements_code (a_scope ∷ os) body ⨾ straight (i.PopFrame ∷ [])) (assignments_loopless given) nth.1).0 in
         at context i.PushWith s pc stack w is.0.0 (after_then context (told s) (push context.program.host a w) _
         (within_then context s.bed w a (nat_lt (depth w.scopes) context.program.host.limit) (as_at run s) s.out _ _ L N
@@ -224,17 +224,17 @@ module _ (setting : Setting) where
         at context i.EndCapture (later inner q x) _ stack world1 is.1.1.0.0 (after_then context (told s) (tick world1) _
         (use_then context s.bed world1 (tick world1) (record run { parent = q }) s.out _ _ L N _ (tick_gives _ world1) h1 (λ _ world2 k2 h2.
         ended_then setting s q x _ stack world2 (omega (arith, fits.1))
-        (let behind = later s q s.out in
+        (let following = later s q s.out in
         let run1 = record run { parent = q } in
         let deep2 = deep_later setting run s world2 q s.out (deep_kept setting run s k2 (deep_kept setting run s k1 d)) in
-        filters_run setting filters run1 behind l _ (captured_text x world2) stack world2 (here setting run behind world2 deep2)
+        filters_run setting filters run1 following l _ (captured_text x world2) stack world2 (here setting run following world2 deep2)
         is.1.1.1.0
         (use_then context s.bed world2 (filtered u run1 filters (captured_text x world2) world2) run1 s.out _ _ L N _
         (filtered_gives u (nest_ends setting) again_kept run1 filters (captured_text x world2) world2) h2 (λ v world3 k3 h3.
-        used_then setting becomes run behind l _ v stack world3 L N (stands_later context.base run s fits q s.out)
-        (deep_kept setting run behind k3 deep2) is.1.1.1.1 h3))))))))))
+        used_then setting becomes run following l _ v stack world3 L N (stands_later context.base run s fits q s.out)
+        (deep_kept setting run following k3 deep2) is.1.1.1.1 h3))))))))))
     stmt_runs os numbers (AutoEscape' e _ body) run s l pc stack w L N fits d j is nth h =
-        let nth1 = (counts_behind (context.program.code s.run.stream) numbers pc (expr_code e)
+        let nth1 = (counts_after (context.program.code s.run.stream) numbers pc (expr_code e)
         (straight (i.PushAutoEscape ∷ []) ⨾ statements_code (an_escape ∷ os) body ⨾ straight (i.PopAutoEscape ∷ [])) (expr_loopless e)
         nth).1.0 in
         expr_runs setting e (as_at run s) s l pc stack w (here setting run s w d) is.0
@@ -327,7 +327,7 @@ module _ (setting : Setting) where
         In setting s l pc (branches_code os (statements_code os body) other) →
         Counts (context.program.code s.run.stream) numbers pc (branches_code os (statements_code os body) other) →
         Ends context s.bed (use_it (tick w) (as_at run s) s.out (λ _ world1. use_it (truth context.program.host v world1) (as_at run s)
-        s.out (λ b world2. choose b (λ _. behind_first other (as_at run s) (exec_all u numbers body (as_at run s) s.out world2))
+        s.out (λ b world2. choose b (λ _. after_first other (as_at run s) (exec_all u numbers body (as_at run s) s.out world2))
         (λ _. exec_else u (pasts numbers body) other (as_at run s) s.out world2))))
         (λ q out1 world1. Go context (later s q out1) (beyond pc (branches_code os (statements_code os body) other)) stack world1) L N →
         Go context s pc (v ∷ stack) w
@@ -344,7 +344,7 @@ module _ (setting : Setting) where
         let nth1 = nth.0.1 in
         let nth2 = subst (λ m. Counts all m second (statements_code os eb)) (statements_begin os numbers body).number nth.1 in
         let D : Then = λ q out1 world1. Go context (later s q out1) (beyond second (statements_code os eb)) stack world1 in
-        tested_then setting run s pc _ v stack w (λ x. behind_first (otherwise _ eb) (as_at run s)
+        tested_then setting run s pc _ v stack w (λ x. after_first (otherwise _ eb) (as_at run s)
         (exec_all u numbers body (as_at run s) s.out x)) (λ x. exec_all u (pasts numbers body) eb (as_at run s) s.out x) D L N is.0.0 h
         (λ x k h1. part second run s (pc + 1) stack x L N fits (deep_kept setting run s k d) (around_kept setting l os s stack L N k j)
         is.0.1 nth1
@@ -358,26 +358,26 @@ module _ (setting : Setting) where
         (λ x k h1. stmts_run os (pasts numbers body) l eb run s second stack x L N fits (deep_kept setting run s k d)
         (around_kept setting l os s stack L N k j) is.2 nth2 h1)
 
-    -- behind a loop's last round
-    behind_loop_runs : (os : List Opened) (numbers : Numbers) (other : Otherwise) (vs : List Val) (run : Run) (s : Spot) (l : Labels) (end : ℕ)
+    -- after a loop's last round
+    after_loop_runs : (os : List Opened) (numbers : Numbers) (other : Otherwise) (vs : List Val) (run : Run) (s : Spot) (l : Labels) (end : ℕ)
         (stack : List Val) (w x : World) (r : Loop) (L N : Then) → Stands context.base run s → Deep setting run s w →
         Around setting l os s stack w L N →
         Kept (in_loop_of (for_flags false) w) x → slice_get (shapes x.loops) (length w.loops) ≡ Some r → r.items ≡ vs →
         In setting s l end (after_loop_code os other) →
         Counts (context.program.code s.run.stream) numbers end (after_loop_code os other) →
         (q : Option TemplateId) (out : List ℕ) →
-        Ends context s.bed (exec_behind_loop u numbers other (has_none vs) (record run { parent = q }) out (pop x))
+        Ends context s.bed (exec_after_loop u numbers other (has_none vs) (record run { parent = q }) out (pop x))
         (λ q1 out1 v. Go context (later s q1 out1) (beyond end (after_loop_code os other)) stack v) L N →
         Go context (later (looped None s) q out) end stack x
-    behind_loop_runs os numbers no_else vs run s l end stack w x r L N fits d j kept e same is nth q out h =
+    after_loop_runs os numbers no_else vs run s l end stack w x r L N fits d j kept e same is nth q out h =
         left_loop_then setting (for_flags false) s q out end stack w x r d.0.scopes kept e is.0
         (so_far_then context s.bed (record run { parent = q }) out (pop x) _ L N h)
-    behind_loop_runs os numbers (otherwise _ eb) vs run s l end stack w x r L N fits d j kept e same is nth q out h =
+    after_loop_runs os numbers (otherwise _ eb) vs run s l end stack w x r L N fits d j kept e same is nth q out h =
         let all = context.program.code s.run.stream in
         let b = has_none vs in
         let D0 : Then = λ q1 out1 v. Go context (later s q1 out1) (beyond (end + 1 + 1 + 1) (statements_code os eb)) stack v in
         let nth1 = nth.1.1 in
-        let popped = kept_popped (loop_scope (mark_behind (for_flags false) w)) w x kept in
+        let popped = kept_popped (loop_scope (mark_after (for_flags false) w)) w x kept in
         at context i.PushDidNotIterate (later (looped None s) q out) end stack x is.0.0
         (subst (λ n. LeadsToEnd context (told_by s.bed out) n)
         (sym (did_not_is setting None (for_flags false) s q out end stack w x r vs kept

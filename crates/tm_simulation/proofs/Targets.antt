@@ -255,7 +255,7 @@ module _ (setting : Setting) where
     jumps_capture l.again os s stack w N stands j.1,
   )
 
-  -- The code of statements comes behind itself with what they mean, or to their fault.
+  -- The code of statements comes after itself with what they mean, or to their fault.
   abbrev pub StmtsRun : {m : _} → Numbers → Labels → List Opened → Row_of-Stmt m → Type 1
   StmtsRun numbers l os ss =
       (run : Run) (s : Spot) (pc : ℕ) (stack : List Val) (w : World) (L N : Then) → Stands context.base run s → Deep setting run s w →

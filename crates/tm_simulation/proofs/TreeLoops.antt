@@ -42,7 +42,7 @@ use Rattle.tm_syntax.specs.Forms.{spread_keywords, item, slice, binary, compare,
 use Rattle.tm_syntax.specs.Code.{unary_code, binary_code, application_code, passed_count, merging, passing_by, close_all, for_flags}
 use Rattle.tm_syntax.specs.Code.{row_end, caller_end, passing_code, step_call_code, steps_call_code, call_code, called_alone}
 use Rattle.tm_syntax.specs.Code.{together}
-use Rattle.tm_syntax.specs.Code.{list_of_row, map_of_row, merged_code, has_spread, has_spread_keyword, row_behind, keywords_behind}
+use Rattle.tm_syntax.specs.Code.{list_of_row, map_of_row, merged_code, has_spread, has_spread_keyword, row_after, keywords_after}
 use Rattle.tm_syntax.specs.Blocks.{body_of}
 use Rattle.tm_syntax.specs.Loops.{Numbers, FoundLoop, FoundMacro, with_pass, within_loop, within_macro, passes, past, pasts, past_else}
 use Rattle.tm_syntax.specs.Loops.{loops_of, loops_in, loops_else, macros_of, macros_in, macros_else}
@@ -142,7 +142,7 @@ mutual
       Loopless (lists_code before given more by_name)
   lists_loopless before no_argument more by_name h = (h, list_loopless (before + more))
   lists_loopless before (argument a rest) more by_name h =
-      (listed_loopless before a, lists_loopless (row_behind before a) rest more by_name h)
+      (listed_loopless before a, lists_loopless (row_after before a) rest more by_name h)
 
   keyword_loopless : (n : ℕ) (k : Keyword) → Loopless (keyword_code n k)
   keyword_loopless n (keyword x a) = ((refl, tt), expr_loopless a)
@@ -150,7 +150,7 @@ mutual
 
   keywords_loopless : {n : _} → (before : ℕ) (ks : Row_of-Keyword n) → Loopless (keywords_code row_end before ks)
   keywords_loopless before no_keyword = map_loopless before
-  keywords_loopless before (keyword_and k more) = (keyword_loopless before k, keywords_loopless (keywords_behind before k) more)
+  keywords_loopless before (keyword_and k more) = (keyword_loopless before k, keywords_loopless (keywords_after before k) more)
 
   pub step_loopless : (s : Step) → Loopless (step_code s)
   step_loopless (Attribute x) = (refl, tt)
@@ -211,12 +211,12 @@ closed_loopless (a_scope ∷ os) = (refl, closed_loopless os)
 closed_loopless (an_escape ∷ os) = (refl, closed_loopless os)
 closed_loopless (a_capture ∷ os) = (refl, (refl, closed_loopless os))
 
--- what stands behind the rounds of a loop that is called
-behind_exit : (all : List Instruction) (l : Labels) (end : ℕ) (os : List Opened) (other : Otherwise) →
+-- what stands after the rounds of a loop that is called
+after_exit : (all : List Instruction) (l : Labels) (end : ℕ) (os : List Opened) (other : Otherwise) →
     At all l end (after_loop_code os other) → HasAt all end (i.PopLoopFrame ∷ []) ⊎ HasAt all end
     (i.PushDidNotIterate ∷ i.PopLoopFrame ∷ [])
-behind_exit all l end os no_else h = inl h
-behind_exit all l end os (otherwise _ body) h = inr h.0
+after_exit all l end os no_else h = inl h
+after_exit all l end os (otherwise _ body) h = inr h.0
 
 -- ---------------------------------------------------------------- nor do imports
 included_loopless : (e : Expr) → Loopless (included_code e)
@@ -251,13 +251,13 @@ module _ (x : Fragment) where
 
   keywords_have : {n : _} → (before : ℕ) (ks : Row_of-Keyword n) → Has x (keywords_code (caller_end x) before ks)
   keywords_have before no_keyword = end_has before
-  keywords_have before (keyword_and k more) = back (keyword_loopless before k) (keywords_have (keywords_behind before k) more)
+  keywords_have before (keyword_and k more) = back (keyword_loopless before k) (keywords_have (keywords_after before k) more)
 
   lists_have : {n : _} → (before : ℕ) (given : Row_of-Argument n) (more : ℕ) (by_name : Fragment) → Has x by_name →
       Has x (lists_code before given more by_name)
   lists_have before no_argument more by_name h = front h (list_loopless (before + more))
   lists_have before (argument a rest) more by_name h =
-      back (listed_loopless before a) (lists_have (row_behind before a) rest more by_name h)
+      back (listed_loopless before a) (lists_have (row_after before a) rest more by_name h)
 
   passing_has_by : {n m : _} → (b : Bool) (before : ℕ) (given : Row_of-Argument n) (named : Row_of-Keyword m) (by_place by_name : Fragment)
       (lists : Fragment → Fragment) → Loopless by_place → Has x by_name → Has x (lists by_name) →
@@ -295,13 +295,13 @@ module _ (x : Fragment) where
 abbrev pub found : {n : _} → Numbers → Option Expr → Bool → AssignmentTarget → Row_of-Stmt n → FoundLoop
 found at c r t body = record { recursive = r; target = t; body = body_of body; at = within_loop c at }
 
--- behind the pass of a condition
-abbrev pub behind_pass : Option Expr → Numbers → Numbers
-behind_pass c at = record at { loops = at.loops + passes c }
+-- after the pass of a condition
+abbrev pub after_pass : Option Expr → Numbers → Numbers
+after_pass c at = record at { loops = at.loops + passes c }
 
 is_loop : {n : _} → (os : List Opened) (at : Numbers) (c : Option Expr) (r : Bool) (t : AssignmentTarget) (body : Row_of-Stmt n)
     (other : Otherwise) →
-    IsLoop (found at c r t body) (behind_pass c at) (for_flags r) (target_code t ⨾ statements_code [] body) (after_loop_code os other)
+    IsLoop (found at c r t body) (after_pass c at) (for_flags r) (target_code t ⨾ statements_code [] body) (after_loop_code os other)
 is_loop os at c r t body other all l pc is n = (
   refl,
   λ yes. (
@@ -310,7 +310,7 @@ is_loop os at c r t body other all l pc is n = (
       labels = l;
       after = after_loop_code os other;
       code = subst (λ b. At all l pc (looped (for_flags b) (target_code t ⨾ statements_code [] body) (after_loop_code os other))) yes is;
-      exit = behind_exit all l _ os other is.4;
+      exit = after_exit all l _ os other is.4;
       numbered =
           subst (λ m. Counts all m (beyond (pc + 1 + 1) (target_code t)) (statements_code [] body))
           (counted_none (within_loop c at) (target_code t) (target_loopless t)) n.1;
@@ -341,7 +341,7 @@ pass_of None l = []
 pass_of (Some c) l = record l { recursive = false } ∷ []
 
 pub iterable_begins : (at : Numbers) (t : AssignmentTarget) (e : Expr) (c : Option Expr) (l : FoundLoop) →
-    Begins at (iterable_code t e c) (pass_of c l) [] (behind_pass c at)
+    Begins at (iterable_code t e c) (pass_of c l) [] (after_pass c at)
 iterable_begins at t e None l =
     let none : at.loops ≡ at.loops + 0 = omega arith in
     subst (λ n. Begins at (expr_code e) [] [] (record at { loops = n })) none (none_begin at (expr_code e) (expr_loopless e))
@@ -388,7 +388,7 @@ mutual
       (past at (For' t e c r n body other)))
       (with_pass_is c l (loops_in m body ++ loops_else (pasts m body) other))
       (both_begin (iterable_begins at t e c l) (loop_begins (is_loop os at c r t body other) rounds
-      (behind_loop_begins os (pasts m body) other)))
+      (after_loop_begins os (pasts m body) other)))
   statement_begins os at (Macro' x ps _ body) =
       let inner = after_none (parameters_code ps) (parameters_loopless ps) (statements_begin [] (within_macro at) body) in
       before_none (straight (i.StoreLocal x ∷ [])) (refl, tt) (macro_begins (is_macro at x ps body) inner)
@@ -416,8 +416,8 @@ mutual
       (subst (λ ns. Begins at (branches_code os first no_else) ls ns m) (sym (append-nil ms)) (over_begins IfFalse f))
   branches_begin os at first ls ms m f (otherwise _ eb) = either_begins f (statements_begin os m eb)
 
-  behind_loop_begins : (os : List Opened) (at : Numbers) (other : Otherwise) →
+  after_loop_begins : (os : List Opened) (at : Numbers) (other : Otherwise) →
       Begins at (after_loop_code os other) (loops_else at other) (macros_else at other) (past_else at other)
-  behind_loop_begins os at no_else = none_begin at (straight (i.PopLoopFrame ∷ [])) (refl, tt)
-  behind_loop_begins os at (otherwise _ body) = after_none (straight _) (refl, (refl, tt))
+  after_loop_begins os at no_else = none_begin at (straight (i.PopLoopFrame ∷ [])) (refl, tt)
+  after_loop_begins os at (otherwise _ body) = after_none (straight _) (refl, (refl, tt))
       (over_begins IfFalse (statements_begin os at body))

@@ -18,7 +18,7 @@ abbrev pub shapes : List Loop → List Loop
 shapes [] = []
 shapes (l ∷ ls) = shape l ∷ shapes ls
 
--- records are there still, but for the arguments that they keep, and perhaps more behind them
+-- records are there still, but for the arguments that they keep, and perhaps more after them
 abbrev pub GoesOn : List Loop → List Loop → Type 0
 GoesOn old new = (more : List Loop) × (shapes new ≡ shapes old ++ more)
 
@@ -32,12 +32,12 @@ bare (s ∷ ss) = record s { locals = []; own_closure = None } ∷ ss
 abbrev pub LieOver : List Scope → List Scope → Type 0
 LieOver old new = (more : List Scope) × (there : List Scope) × (new ≡ more ++ there) × (bare there ≡ bare old)
 
--- The list of each block that was there has its templates still, and perhaps more behind them.
+-- The list of each block that was there has its templates still, and perhaps more after them.
 abbrev pub BlocksGrow : Named (List TemplateId) → Named (List TemplateId) → Type 0
 BlocksGrow old new =
     (x : List ℕ) (l : List TemplateId) → find x old ≡ Some l → (more : List TemplateId) × (find x new ≡ Some (l ++ more))
 
--- The names that were loaded are there still, and perhaps more behind them.
+-- The names that were loaded are there still, and perhaps more after them.
 abbrev pub NamesGrow : List (List ℕ) → List (List ℕ) → Type 0
 NamesGrow old new = (more : List (List ℕ)) × (new ≡ old ++ more)
 

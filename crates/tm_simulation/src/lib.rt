@@ -176,7 +176,7 @@ pub fn the_last_kind_counts()
         ends_in_memory (ks ++ kind ∷ []) ≡ false }
 {}
 
-/// Want of memory, of which the public contracts speak, is OutOfMemory behind EvalBlock, BadInclude and InvalidOperation alone.
+/// Running out of memory, in public contracts, is OutOfMemory after EvalBlock, BadInclude and InvalidOperation alone.
 pub fn want_of_memory_ends_in_memory()
     ensures wrapped { (ks : List ErrorKind) → All MayWrap ks → is_want_of_memory (ks ++ kinds.OutOfMemory ∷ []) ≡ true }
     ensures only { (ks : List ErrorKind) → is_want_of_memory (ks ++ kinds.OutOfMemory ∷ []) ≡ true → All MayWrap ks }

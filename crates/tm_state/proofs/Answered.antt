@@ -109,11 +109,11 @@ more_left left made within more = let apart : made < left = omega (arith, within
 module _ (host : HostValue) (test printed : Bool) (first : Asked) (left made : ℕ) (reply : Reply) (call : Call) (x w : World)
     (asked : is_for_memory reply ≡ false → first ≡ shown printed (replied (further_calls (left - made) made host) reply x))
     (is : reply ≡ asks_for call) (same : x ≡ w) (within : made ≤ left) (more : made ≡ left → ⊥) where
-  abbrev behind : MakesFurther
-  behind = further_calls (left - (made + 1)) (made + 1) host
+  abbrev after : MakesFurther
+  after = further_calls (left - (made + 1)) (made + 1) host
 
   abbrev once : Asked
-  once = further_call behind (made + 1) host call w
+  once = further_call after (made + 1) host call w
 
   suc_of : suc made ≡ made + 1
   suc_of = omega arith
@@ -125,23 +125,23 @@ module _ (host : HostValue) (test printed : Bool) (first : Asked) (left made : �
       ∙ ap (shown printed) (one_made (left - made) (left - (made + 1)) made host call w (more_left left made within more))
       ∙ ap (λ n. shown printed (further_call (further_calls (left - (made + 1)) n host) n host call w)) suc_of
 
-  -- What answered it is what was asked at first, behind one call less that is left;
+  -- What answered it is what was asked at first, after one call less that is left;
   pub went_on : (answer : Stated) (y : World) → ((make : MakesFurther) → FurtherComes make test call (Ok (further.Answered answer))
       (further_call make (made + 1) host call w) y) → is_for_memory answer.reply ≡ false →
-      first ≡ shown (printed || is_macro call) (replied behind answer.reply (record y { temps = put_each answer.temps y.temps }))
-  went_on answer y comes m = made_once ∙ ap (shown printed) (comes behind m) ∙ shown_then printed (is_macro call) _
+      first ≡ shown (printed || is_macro call) (replied after answer.reply (record y { temps = put_each answer.temps y.temps }))
+  went_on answer y comes m = made_once ∙ ap (shown printed) (comes after m) ∙ shown_then printed (is_macro call) _
 
   -- or it needs a run,
   pub run_there : (e : Box NestedRun) (y : World) → ((make : MakesFurther) → FurtherComes make test call (Ok (further.Run e))
       (further_call make (made + 1) host call w) y) → NeedsRun e.value (tested test first) y
   run_there e y comes =
-      subst (λ q. NeedsRun e.value (tested test q) y) (sym made_once) (run_needed printed test e.value once y (comes behind))
+      subst (λ q. NeedsRun e.value (tested test q) y) (sym made_once) (run_needed printed test e.value once y (comes after))
 
   -- or it was refused.
   pub ended_there : (chain : List ErrorKind) (y : World) → ((make : MakesFurther) → FurtherComes make test call (Err chain)
       (further_call make (made + 1) host call w) y) → Becomes (Err chain) (tested test first) y
   ended_there chain y comes = λ m.
-      ap (tested test) (made_once ∙ ap (shown printed) (comes behind m) ∙ shown_refused printed chain y) ∙ tested_refused test chain y
+      ap (tested test) (made_once ∙ ap (shown printed) (comes after m) ∙ shown_refused printed chain y) ∙ tested_refused test chain y
 
 -- a fault that is handed on
 pub handed_on : (r : Result CallResult (List ErrorKind)) (chain : List ErrorKind) (asked : Asked) (w : World) →

@@ -11,8 +11,8 @@ use Rattle.tm_values.specs.Map.{find as find_key}
 use Rattle.tm_values.specs.Val.{MacroData, Val, text, text_in, undefined}
 use Rattle.tm_syntax.specs.Named.{same_name}
 use Rattle.tm_meaning.specs.World.{choose}
-use Rattle.tm_meaning.specs.Calls.{all_used, behind_first, bound, is_argument, is_used}
-use Rattle.tm_state.specs.Macros.{argument_of, before_all, behind_all}
+use Rattle.tm_meaning.specs.Calls.{all_used, after_first, bound, is_argument, is_used}
+use Rattle.tm_state.specs.Macros.{argument_of, before_all, after_all}
 
 -- ---------------------------------------------------------------- lists that are read one after the other
 pub get_dropped : {A : Type 0} (k : ℕ) (xs : List A) → slice_get (drop k xs) 0 ≡ slice_get xs k
@@ -68,8 +68,8 @@ too_many [] (v ∷ vs) given h = refl
 too_many (x ∷ xs) [] given h = absurd (omega (arith, h))
 too_many (x ∷ xs) (v ∷ vs) given h = by (is_none (find_key (text x false) given)) (too_many xs vs given (omega (arith, h)))
   where
-    by : (b : Bool) → bound xs vs given ≡ None → choose b (λ _. behind_first v (bound xs vs given)) (λ _. None) ≡ None
-    by true e = ap (behind_first v) e
+    by : (b : Bool) → bound xs vs given ≡ None → choose b (λ _. after_first v (bound xs vs given)) (λ _. None) ≡ None
+    by true e = ap (after_first v) e
     by false e = refl
 
 as_many : (rs : List (RcStr Global)) → length (each rc_str_bytes rs) ≡ length rs
@@ -85,16 +85,16 @@ one_by_one : (x : List ℕ) (xs : List (List ℕ)) (vs : List Val) (given : List
 one_by_one x xs [] given = refl
 one_by_one x xs (v ∷ vs) given = by (find_key (text x false) given)
   where
-    by : (named : Option Val) → choose (is_none named) (λ _. behind_first v (bound xs vs given)) (λ _. None)
+    by : (named : Option Val) → choose (is_none named) (λ _. after_first v (bound xs vs given)) (λ _. None)
         ≡ before_all (argument_of (Some v) named) (bound xs vs given)
     by None = refl
     by (Some w) = refl
 
-pub none_before : (o : Option (List Val)) → o ≡ behind_all [] o
+pub none_before : (o : Option (List Val)) → o ≡ after_all [] o
 none_before None = refl
 none_before (Some vs) = refl
 
-one_more : (before : List Val) (v : Val) (o : Option (List Val)) → behind_all before (behind_first v o) ≡ behind_all (before ++ v ∷ []) o
+one_more : (before : List Val) (v : Val) (o : Option (List Val)) → after_all before (after_first v o) ≡ after_all (before ++ v ∷ []) o
 one_more before v None = refl
 one_more before v (Some vs) = ap Some (sym (append_assoc before (v ∷ []) vs))
 
@@ -126,11 +126,11 @@ bound_to_rest [] (v ∷ vs) h = absurd (omega (arith, h))
 bound_to_rest (x ∷ xs) [] h =
     let none : length xs - 0 ≡ length xs = omega arith in
     let more : suc (length xs) - 0 ≡ suc (length xs) = omega arith in
-    ap (behind_first (undefined false)) (bound_to_rest xs [] (omega arith))
+    ap (after_first (undefined false)) (bound_to_rest xs [] (omega arith))
     ∙ ap (λ n. Some (undefined false ∷ undefineds n)) none ∙ ap (λ n. Some (undefineds n)) (sym more)
 bound_to_rest (x ∷ xs) (v ∷ vs) h =
     let same : length xs - length vs ≡ suc (length xs) - suc (length vs) = omega arith in
-    ap (behind_first v) (bound_to_rest xs vs (omega (arith, h))) ∙ ap (λ n. Some (v ∷ (vs ++ undefineds n))) same
+    ap (after_first v) (bound_to_rest xs vs (omega (arith, h))) ∙ ap (λ n. Some (v ∷ (vs ++ undefineds n))) same
 
 pub bound_plainly : (names : List (RcStr Global)) (vs given : List Val) (k : ℕ) → length vs ≤ length names → length names ≤ k → k ≤ length names →
     given ++ undefineds (length names - k) ≡ vs ++ undefineds (length names - length vs) → bound (each rc_str_bytes names) vs [] ≡ Some given
@@ -159,16 +159,16 @@ module _ (names : List (RcStr Global)) (plain : List Val) (given : List (Val × 
   -- one argument more is bound
   pub bound_more : (k : ℕ) (r : RcStr Global) (before : List Val) (v : Val) → k < length names → r ≡ get_or names k r →
       argument_of (slice_get plain k) (find_key (text (rc_str_bytes r) false) given) ≡ Some v →
-      behind_all before (bound_from k) ≡ behind_all (before ++ v ∷ []) (bound_from (k + 1))
+      after_all before (bound_from k) ≡ after_all (before ++ v ∷ []) (bound_from (k + 1))
   bound_more k r before v h e is =
-      ap (behind_all before) (next_bound k r h e ∙ ap (λ o. before_all o (bound_from (k + 1))) is) ∙ one_more before v (bound_from (k + 1))
+      ap (after_all before) (next_bound k r h e ∙ ap (λ o. before_all o (bound_from (k + 1))) is) ∙ one_more before v (bound_from (k + 1))
 
   -- or one isn't, and so none are
   pub bound_none : (k : ℕ) (r : RcStr Global) (before : List Val) → k < length names → r ≡ get_or names k r →
-      argument_of (slice_get plain k) (find_key (text (rc_str_bytes r) false) given) ≡ None → behind_all before (bound_from k) ≡ None
-  bound_none k r before h e is = ap (behind_all before) (next_bound k r h e ∙ ap (λ o. before_all o (bound_from (k + 1))) is)
+      argument_of (slice_get plain k) (find_key (text (rc_str_bytes r) false) given) ≡ None → after_all before (bound_from k) ≡ None
+  bound_none k r before h e is = ap (after_all before) (next_bound k r h e ∙ ap (λ o. before_all o (bound_from (k + 1))) is)
 
-  pub bound_all : (k : ℕ) (before : List Val) → length names ≤ k → length plain ≤ length names → behind_all before (bound_from k) ≡ Some before
+  pub bound_all : (k : ℕ) (before : List Val) → length names ≤ k → length plain ≤ length names → after_all before (bound_from k) ≡ Some before
   bound_all k before h fits =
-      ap (λ l. behind_all before (bound (each rc_str_bytes l) (drop k plain) given)) (drop_past k names h)
-      ∙ ap (λ vs. behind_all before (bound [] vs given)) (drop_past k plain (omega (arith, h, fits))) ∙ ap Some (append-nil before)
+      ap (λ l. after_all before (bound (each rc_str_bytes l) (drop k plain) given)) (drop_past k names h)
+      ∙ ap (λ vs. after_all before (bound [] vs given)) (drop_past k plain (omega (arith, h, fits))) ∙ ap Some (append-nil before)

@@ -1,4 +1,4 @@
--- The parents that are loaded, and the blocks behind those that run.
+-- The parents that are loaded, and the blocks after those that run.
 use Rattle.std.proofs.Common.{◌≡◌, ◌∙◌, ◌+◌, ◌-◌, ◌≤◌, ℕ, suc, List, [], ◌∷◌, ◌++◌, length, Some, Bool, true, false, refl, sym, ap, arith, cond, subst}
 use Rattle.std.specs.Prelude.{◌||◌, drop, if◌then◌else◌, slice_get}
 use Rattle.std.specs.Borrow.{Bor}
@@ -89,11 +89,11 @@ by_names t (b ∷ bs) ls = by_names t bs _
 
 module _ (host : HostValue) (x : List ℕ) (old : World) (lent : Bor (Rc (List (List ℕ)) Global)) (fresh : is_among x old.loaded ≡ false)
     (there : AreBlocksOf lent (find x host.templates)) where
-  abbrev Behind : World
-  Behind = record old { loaded = old.loaded ++ x ∷ []; blocks = with_each (Entry x) (lent.now.value) old.blocks }
+  abbrev After : World
+  After = record old { loaded = old.loaded ++ x ∷ []; blocks = with_each (Entry x) (lent.now.value) old.blocks }
 
   -- it is loaded,
-  pub loads : load_named host x old ≡ Good (Entry x) Behind
+  pub loads : load_named host x old ≡ Good (Entry x) After
   loads =
       let t = there.0 in
       rw (fresh, there.1)
@@ -101,7 +101,7 @@ module _ (host : HostValue) (x : List ℕ) (old : World) (lent : Bor (Rc (List (
       (by_names (Entry x) t.blocks old.blocks ∙ ap (λ ks. with_each (Entry x) ks old.blocks) there.2))
 
   -- and leaves a name fewer
-  pub leaves_fewer : names_left host Behind + 1 ≤ names_left host old
+  pub leaves_fewer : names_left host After + 1 ≤ names_left host old
   leaves_fewer = count_loaded host.templates x there.0 old.loaded there.1 fresh
 
   -- in the state that stands there.
@@ -109,7 +109,7 @@ module _ (host : HostValue) (x : List ℕ) (old : World) (lent : Bor (Rc (List (
       y ≡ x → bs ≡ with_each (Entry y) (lent.now.value) seen.blocks → ps ≡ seen.places → names ≡ seen.loaded ++ x ∷ [] →
       load_named host x old ≡ Good (Entry y) (record seen { blocks = bs; places = ps; loaded = names })
   loads_into {seen = seen} y bs ps names same name is stay more =
-      let at : record seen { blocks = bs; places = ps; loaded = names } ≡ Behind =
+      let at : record seen { blocks = bs; places = ps; loaded = names } ≡ After =
       ap (λ q. record seen { blocks = bs; places = q; loaded = names }) stay
       ∙ ap (λ b. record seen { blocks = b; loaded = names }) (is ∙ ap (λ z. with_each (Entry z) (lent.now.value) seen.blocks) name)
       ∙ ap (λ n. record seen { blocks = with_each (Entry x) (lent.now.value) seen.blocks; loaded = n }) more
@@ -122,18 +122,18 @@ module _ (host : HostValue) (x : List ℕ) (old : World) (lent : Bor (Rc (List (
       subst (λ ns. count_left host.templates ns + 1 ≤ names_left host old)
       (sym (more ∙ ap (λ (v : World). v.loaded ++ x ∷ []) same)) leaves_fewer
 
--- ---------------------------------------------------------------- a block behind the one that runs
+-- ---------------------------------------------------------------- a block after the one that runs
 -- the block at the next place
 pub next_there : (w : World) (x : List ℕ) (l : List TemplateId) (place next : ℕ) (t : TemplateId) (s : StreamId) → w.block ≡ Some x →
     find x w.blocks ≡ Some l → place ≡ place_in x w.places → next ≡ place + 1 → slice_get l (place + 1) ≡ Some t → s ≡ block_of t x →
     IsNextOf s x next w
-next_there w x l place next t s runs found at behind there is =
+next_there w x l place next t s runs found at after there is =
     let same : s.template ≡ t = ap (λ (q : StreamId). q.template) is in (
       runs,
       (
         l,
         found,
-        behind ∙ ap (λ n. n + 1) at,
+        after ∙ ap (λ n. n + 1) at,
         ap (λ n. slice_get l (n + 1)) (sym at) ∙ there ∙ ap (λ (q : TemplateId). Some q) (sym same),
         is ∙ ap (λ q. block_of q x) (sym same),
       ),

@@ -33,14 +33,14 @@ streams_same s t e =
     ∙ ap (λ x. record { template = t.template; block = x }) (blocks_same s.block t.block parts.1)
 
 -- ---------------------------------------------------------------- numbers
-pub numbered_behind : (n : ℕ) (s : StreamId) (ts : List StreamId) → is_there s ts ≡ false → stream_from n s ts ≡ n + length ts
-numbered_behind n s [] e = omega arith
-numbered_behind n s (t ∷ ts) e = by (same_stream s t) e (numbered_behind (n + 1) s ts)
+pub numbered_after : (n : ℕ) (s : StreamId) (ts : List StreamId) → is_there s ts ≡ false → stream_from n s ts ≡ n + length ts
+numbered_after n s [] e = omega arith
+numbered_after n s (t ∷ ts) e = by (same_stream s t) e (numbered_after (n + 1) s ts)
   where
     by : (b : Bool) → (b || is_there s ts) ≡ false → (is_there s ts ≡ false → stream_from (n + 1) s ts ≡ n + 1 + length ts) →
         cond b n (stream_from (n + 1) s ts) ≡ n + length (t ∷ ts)
     by true e more = absurd (true≢false e)
-    by false e more = let behind = more e in omega (arith, behind)
+    by false e more = let after = more e in omega (arith, after)
 
 pub numbered_within : (n : ℕ) (s : StreamId) (ts : List StreamId) → is_there s ts ≡ true → stream_from n s ts < n + length ts
 numbered_within n s [] e = absurd (true≢false (sym e))
@@ -112,7 +112,7 @@ is_known s ts h = by (is_there s ts) refl
   where
     by : (b : Bool) → is_there s ts ≡ b → b ≡ true
     by true e = refl
-    by false e = let behind = numbered_behind 0 s ts e in absurd (omega (arith, behind, h))
+    by false e = let after = numbered_after 0 s ts e in absurd (omega (arith, after, h))
 
 pub added : (s : StreamId) (ts : List StreamId) → length ts ≤ stream_from 0 s ts → ts ++ s ∷ [] ≡ with_stream s ts
 added s ts h = ap (λ b. cond b ts (ts ++ s ∷ [])) (sym (is_new s ts h))

@@ -15,7 +15,7 @@ use Rattle.tm_meaning.specs.World.{World, HostValue, View, answered, emitted, fo
 use Rattle.tm_tables.specs.Stated.{IsFormatted}
 use Rattle.tm_state.specs.Answers.{IsEmitted}
 
--- OutOfMemory alone is want of memory
+-- OutOfMemory alone is out of memory
 not_alone : (chain : List ErrorKind) → is_want_of_memory chain ≡ false → is_memory_alone chain ≡ false
 not_alone [] m = refl
 not_alone (k ∷ []) m = m

@@ -154,7 +154,7 @@ text_alone r (macro m) x is = absurd (cc is)
 text_alone r (loop s n) x is = absurd (cc is)
 text_alone r (namespace s n) x is = absurd (cc is)
 
--- the first choice is there, or those behind it are tried
+-- the first choice is there, or those after it are tried
 module _ (host : HostValue) (v : Val) (vs : List Val) (w : World) (name : List ℕ) (is : text_in v ≡ Some name) where
   first_there : (e : TemplateEntry) → IsNamed (Some e) host name w → IsFirstEntry (Some e) host (v ∷ vs) w
   first_there e named =

@@ -55,7 +55,7 @@ HasMore (saved.Super s) old new = HasOneMore old new
 HasMore (saved.Macro s) old new = (length new.scopes.frames ≡ 2) × (depth old.scopes + 1 ≤ depth new.scopes)
 HasMore (saved.Include s) old new = StandsDeeper old new
 
--- A run is needed first, whose scopes lie within the limit. What is put back behind it is what stood before.
+-- A run is needed first, whose scopes lie within the limit. What is put back after it is what stood before.
 abbrev pub OneDeeper : ℕ → Saved → World → World → Type 0
 OneDeeper limit kept old new = IsSaved kept old × HasMore kept old new × (depth new.scopes ≤ limit)
 
@@ -94,7 +94,7 @@ abbrev pub IsEmitted : Result (String Global) (List ErrorKind) → Res (List ℕ
 IsEmitted (Ok text) emitted w = emitted ≡ Good (string_bytes text) w
 IsEmitted (Err chain) emitted w = is_want_of_memory chain ≡ false → emitted ≡ Bad chain w
 
--- A call comes to what was answered, with its values kept, unless that is want of memory; or it is refused.
+-- A call comes to what was answered, with its values kept, unless that is OutOfMemory; or it is refused.
 abbrev pub Answers : MakesFurther → Result Stated (List ErrorKind) → Asked → World → Type 0
 Answers make (Ok answer) asked w = is_for_memory answer.reply ≡ false →
     asked ≡ replied make answer.reply (record w { temps = put_each answer.temps w.temps })
@@ -105,12 +105,12 @@ abbrev pub FoundAnswers : Result Stated (List ErrorKind) → HostValue → Optio
 FoundAnswers result host found kind args w =
     (make : MakesFurther) → Answers make result (found_call make host found kind args w) w
 
--- What a call came to, but for want of memory: a value and the world behind it, or a fault.
+-- What a call came to, apart from running out of memory: a value and the world after it, or a fault.
 abbrev pub Comes : Result Val (List ErrorKind) → Asked → World → Type 0
 Comes (Ok v) asked w = asked ≡ has v w
 Comes (Err chain) asked w = is_want_of_memory chain ≡ false → asked ≡ refused chain w
 
--- Which loop a call begins, but for want of memory; or it is refused.
+-- Which loop a call begins, apart from running out of memory; or it is refused.
 abbrev pub Recurs : Result Recursion (List ErrorKind) → Asked → World → Type 0
 Recurs (Ok r) asked w = asked ≡ recurs r.number r.items.value.items w
 Recurs (Err chain) asked w = is_want_of_memory chain ≡ false → asked ≡ refused chain w
@@ -140,7 +140,7 @@ NeedsMacro text e asked b w =
     (e.heard ≡ true) × (e.value ≡ true) × (e.wrap ≡ None) × (e.text ≡ text) × IsSaved e.saved b ×
     (asked ≡ runs (record (call_of e b) { text = texts.Captured }) w)
 
--- What a call came to, but for want of memory: a value, a loop that is called, a run that is needed, or a fault, and the world behind it.
+-- What a call came to, apart from running out of memory: a value, a loop that is called, a run that is needed, or a fault, and the world after it.
 abbrev pub Becomes : Result CallResult (List ErrorKind) → Asked → World → Type 0
 Becomes (Ok (outcome.Value v)) asked w = asked ≡ has v w
 Becomes (Ok (outcome.Recursion r)) asked w = asked ≡ recurs r.number r.items.value.items w
@@ -154,7 +154,7 @@ NamedBecomes (Ok (outcome.Recursion r)) asked w = asked ≡ recurs r.number r.it
 NamedBecomes (Ok (outcome.Run e)) asked w = NeedsAny e.value asked w
 NamedBecomes (Err chain) asked w = is_want_of_memory chain ≡ false → asked ≡ refused chain w
 
--- How the scopes lie behind a call: as before, or with one more for the run that it needs.
+-- How the scopes lie after a call: as before, or with one more for the run that it needs.
 abbrev pub CallLies : ℕ → Result CallResult (List ErrorKind) → World → World → Type 0
 CallLies limit (Ok (outcome.Run e)) old new = CallDeeper limit e.value.saved old new
 CallLies limit _ old new = StaysInPlace old new
@@ -190,7 +190,7 @@ NeedsPlain test e asked w =
     (e.heard ≡ true) × (e.value ≡ true) × (e.wrap ≡ None) × (e.text ≡ text_for test) ×
     ((b : World) × IsSaved e.saved b × (asked ≡ runs (record (call_of e b) { text = texts.Plain }) w))
 
--- What a further call came to, whatever makes those behind it: what was answered to it, or a run; or it is refused.
+-- What a further call came to, whatever makes those after it: what was answered to it, or a run; or it is refused.
 abbrev pub FurtherComes : MakesFurther → Bool → Call → Result Further (List ErrorKind) → Asked → World → Type 0
 FurtherComes make test call (Ok (further.Answered answer)) asked w = is_for_memory answer.reply ≡ false →
     asked ≡ shown (is_macro call) (replied make answer.reply (record w { temps = put_each answer.temps w.temps }))
@@ -201,12 +201,12 @@ FurtherComes make test call (Err chain) asked w = is_want_of_memory chain ≡ fa
 abbrev pub PrintedComes : MakesFurther → Bool → Result Further (List ErrorKind) → Asked → World → Type 0
 PrintedComes make test result asked w = FurtherComes make test (calls.Macro [] []) result asked w
 
--- How the scopes lie behind it.
+-- How the scopes lie after it.
 abbrev pub FurtherLies : ℕ → Result Further (List ErrorKind) → World → World → Type 0
 FurtherLies limit (Ok (further.Run e)) old new = CallDeeper limit e.value.saved old new × KeepsFixedAndNames old new
 FurtherLies limit _ old new = new ≡ record old { namespaces = new.namespaces }
 
--- InvalidOperation for this cause, unless it is want of memory
+-- InvalidOperation for this cause, unless it is OutOfMemory
 abbrev pub IsBecause : List ErrorKind → List ErrorKind → Type 0
 IsBecause cause chain = is_want_of_memory chain ≡ false → chain ≡ InvalidOperation ∷ cause
 
@@ -220,7 +220,7 @@ abbrev pub NeedsInclude : Bool → Option (Box NestedRun) → Asked → World �
 NeedsInclude heard (Some e) asked b w = NeedsSuper heard false e.value asked b w
 NeedsInclude heard None asked b w = (asked ≡ has (undefined false) b) × (w ≡ b)
 
--- How the scopes lie behind it.
+-- How the scopes lie after it.
 abbrev pub IncludeLies : ℕ → Option (Box NestedRun) → World → World → Type 0
 IncludeLies limit (Some e) old new = OneDeeper limit e.value.saved old new
 IncludeLies limit None old new = StaysInPlace old new

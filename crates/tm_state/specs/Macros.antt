@@ -11,7 +11,7 @@ use Rattle.tm_values.specs.Val.{Val, entries_in}
 use Rattle.tm_values.specs.declared.error.ErrorKind.{ErrorKind}
 use Rattle.tm_values.specs.declared.error.ErrorKind.TheVariants.{TooManyArguments}
 use Rattle.tm_meaning.specs.Memory.{is_want_of_memory}
-use Rattle.tm_meaning.specs.Calls.{behind_first, is_argument}
+use Rattle.tm_meaning.specs.Calls.{after_first, is_argument}
 
 -- the pairs of a keyword map that is given, or none
 abbrev pub given_in : Option (Bor Val) → List (Val × Val)
@@ -27,12 +27,12 @@ argument_of (Some v) (Some w) = None
 -- a value before others, where there are both
 abbrev pub before_all : Option Val → Option (List Val) → Option (List Val)
 before_all None vs = None
-before_all (Some v) vs = behind_first v vs
+before_all (Some v) vs = after_first v vs
 
 -- values before others, where there are such
-abbrev pub behind_all : List Val → Option (List Val) → Option (List Val)
-behind_all before None = None
-behind_all before (Some vs) = Some (before ++ vs)
+abbrev pub after_all : List Val → Option (List Val) → Option (List Val)
+after_all before None = None
+after_all before (Some vs) = Some (before ++ vs)
 
 -- What was bound is so; or nothing is, unless memory was wanted.
 abbrev pub IsBound : {A : Type 0} → Result A (List ErrorKind) → Option A → Type 0
@@ -45,7 +45,7 @@ BindsTo (Ok vs) stated = stated ≡ Some vs.items
 BindsTo (Err chain) stated = is_want_of_memory chain ≡ false → (chain ≡ TooManyArguments ∷ []) × (stated ≡ None)
 
 -- ---------------------------------------------------------------- sets of names
--- the order of names behind references
+-- the order of names after references
 abbrev pub order : Bor (List ℕ) → Bor (List ℕ) → Ordering
 order x y = slice_cmp nat_cmp x.now y.now
 

@@ -1,4 +1,4 @@
--- What a state's fields stand for, and what is put back behind a run.
+-- What a state's fields stand for, and what is put back after a run.
 use Rattle.std.specs.Prelude.{◌≡◌, ℕ, ◌+◌, List, [], ◌∷◌, ◌++◌, length, Option, Some, None, Bool, true, false, nat_eq, slice_get}
 use Rattle.std.specs.Prelude.{option_and_then}
 use Rattle.tm_syntax.specs.Named.{find}
@@ -76,19 +76,19 @@ nothing_left = record {
   fuel = 0;
 }
 
--- what is put back behind a block, of the world before it
+-- what is put back after a block, of the world before it
 abbrev pub saved_of : World → SavedBlock
 saved_of w = record { stream = w.stream; block = w.block; escape = w.escape; scopes = length w.scopes.frames; outer = w.scopes.outer }
 
--- what is put back behind a macro
+-- what is put back after a macro
 abbrev pub saved_scopes : World → SavedMacro
 saved_scopes w = record { context = w.scopes; stream = w.stream; block = w.block; escape = w.escape; lists = lists_of w }
 
--- what is put back behind a `super()`: as behind a block, and the places in lists of blocks
+-- what is put back after a `super()`: as after a block, and the places in lists of blocks
 abbrev pub saved_super : World → SavedSuper
 saved_super w = record { replaced = saved_of w; places = w.places }
 
--- what is put back behind an include: as behind a block, and the innermost scope's own closure, the lists of blocks, their places and the
+-- what is put back after an include: as after a block, and the innermost scope's own closure, the lists of blocks, their places and the
 -- loaded names
 abbrev pub saved_include : World → SavedInclude
 saved_include w = record { replaced = saved_of w; closure = own_closure w.scopes.frames; lists = lists_of w }
@@ -107,15 +107,15 @@ undo_of (saved.Super s) w = of_super w
 undo_of (saved.Macro s) w = of_macro w
 undo_of (saved.Include s) w = of_include w
 
--- the world behind a block, however that ended; behind a `super()`; behind a macro; and behind an include
-abbrev pub behind_block : SavedBlock → World → World
-behind_block s w = record (cut_to s.scopes s.outer w) { stream = s.stream; block = s.block; escape = s.escape }
+-- the world after a block, however that ended; after a `super()`; after a macro; and after an include
+abbrev pub after_block : SavedBlock → World → World
+after_block s w = record (cut_to s.scopes s.outer w) { stream = s.stream; block = s.block; escape = s.escape }
 
-abbrev pub behind_super : SavedSuper → World → World
-behind_super s w = record (behind_block s.replaced w) { places = s.places }
+abbrev pub after_super : SavedSuper → World → World
+after_super s w = record (after_block s.replaced w) { places = s.places }
 
-abbrev pub behind_macro : SavedMacro → World → World
-behind_macro s w = record w {
+abbrev pub after_macro : SavedMacro → World → World
+after_macro s w = record w {
   scopes = s.context;
   stream = s.stream;
   block = s.block;
@@ -125,8 +125,8 @@ behind_macro s w = record w {
   loaded = s.lists.loaded;
 }
 
-abbrev pub behind_include : SavedInclude → World → World
-behind_include s w = record w {
+abbrev pub after_include : SavedInclude → World → World
+after_include s w = record w {
   scopes = record { frames = owning s.closure (outermost s.replaced.scopes w.scopes.frames); outer = s.replaced.outer };
   stream = s.replaced.stream;
   block = s.replaced.block;
@@ -136,12 +136,12 @@ behind_include s w = record w {
   loaded = s.lists.loaded;
 }
 
--- the world behind a run
+-- the world after a run
 abbrev pub put_back : Saved → World → World
-put_back (saved.Block s) w = behind_block s w
-put_back (saved.Super s) w = behind_super s w
-put_back (saved.Macro s) w = behind_macro s w
-put_back (saved.Include s) w = behind_include s w
+put_back (saved.Block s) w = after_block s w
+put_back (saved.Super s) w = after_super s w
+put_back (saved.Macro s) w = after_macro s w
+put_back (saved.Include s) w = after_include s w
 
 -- what runs
 abbrev pub callee_of : RunOf → Callee
@@ -177,15 +177,15 @@ IsBlockOf s alone x w =
 abbrev pub template_of_block : List ℕ → World → Option TemplateId
 template_of_block x w = option_and_then (λ (l : List TemplateId). slice_get l (place_in x w.places)) (find x w.blocks)
 
--- The stream is the block behind the one of this name, which runs, and n the place behind that of the name's list.
+-- The stream is the block after the one of this name, which runs, and n the place after that of the name's list.
 abbrev pub IsNextOf : StreamId → List ℕ → ℕ → World → Type 0
 IsNextOf s x n w =
     (w.block ≡ Some x) × ((l : List TemplateId) × (find x w.blocks ≡ Some l) × (n ≡ place_in x w.places + 1)
     × (slice_get l (place_in x w.places + 1) ≡ Some s.template) × (s ≡ block_of s.template x))
 
--- the template behind the one whose block runs
-abbrev pub template_behind : World → Option TemplateId
-template_behind w =
+-- the template after the one whose block runs
+abbrev pub template_after : World → Option TemplateId
+template_after w =
     option_and_then (λ x. option_and_then (λ (l : List TemplateId). slice_get l (place_in x w.places + 1)) (find x w.blocks)) w.block
 
 -- one scope more, over no context

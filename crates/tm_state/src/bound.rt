@@ -208,7 +208,7 @@ fn is_used(declared: &Macro, key: Option<&str>) -> bool
     }
 }
 
-/// These names in their order; AllocError for want of memory.
+/// These names in their order; AllocError when out of memory.
 fn name_set(alloc: Global, names: &[RcStr]) -> Result<BTreeSet<&str>, AllocError>
     ensures { IfOk result (λ set. HoldsNames set (each rc_str_bytes names.now)) }
 {

@@ -274,7 +274,7 @@ impl StateData {
     }
 
     /// Enters the block of a name, so many levels deeper than the scopes stand, and gives its stream and what is put
-    /// back behind it. As `enter_block`; then the state stays as it was.
+    /// back after it. As `enter_block`; then the state stays as it was.
     fn enter_deeper<H: Host>(
         &mut self,
         alloc: Global,

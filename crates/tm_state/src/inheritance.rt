@@ -1,11 +1,11 @@
-//! The block behind the one that runs, and the parents that templates load.
+//! The block after the one that runs, and the parents that templates load.
 ghost use Rattle.std.specs.Prelude.{◌≡◌, ◌+◌, ◌≤◌, ◌∷◌, [], IfErr, IfOk, None, OnErr, OnOk, Some, false};
 ghost use Rattle.tm_meaning.specs.Calls.{call_super, enter_super, refused};
 ghost use Rattle.tm_meaning.specs.Inheritance.{load, load_named, names_left};
 ghost use Rattle.tm_meaning.specs.Memory.{is_want_of_memory};
 ghost use Rattle.tm_meaning.specs.World.{Bad, Good};
 ghost use Rattle.tm_state.specs.Answers.{IsCall, KeepsFixedAndNames, LeavesState, NamedBecomes, NeedsSuper, OneDeeper};
-ghost use Rattle.tm_state.specs.State.{IsNextOf, saved_of, template_behind};
+ghost use Rattle.tm_state.specs.State.{IsNextOf, saved_of, template_after};
 
 use crate::calls::CallResult;
 use crate::nested::{NestedRun, RunOf};
@@ -36,8 +36,8 @@ impl StateData {
         Ok(CallResult::Run(run))
     }
 
-    /// The run of the block behind the one that runs, in a scope of its own; `heard` and `value` say what becomes of
-    /// its text. InvalidOperation where no block runs or none is behind it, or where its scope would lie deeper than the
+    /// The run of the block after the one that runs, in a scope of its own; `heard` and `value` say what becomes of
+    /// its text. InvalidOperation where no block runs or none is after it, or where its scope would lie deeper than the
     /// limit; OutOfMemory. Then the state stays as it was.
     pub fn super_run<H: Host>(
         &mut self,
@@ -73,18 +73,18 @@ impl StateData {
         self.boxed(alloc, run)
     }
 
-    /// The stream of the block behind the one that runs, the name of both, and the place behind that of its list.
-    /// InvalidOperation where no block runs or none is behind it; OutOfMemory where the owners of a name can't be counted.
+    /// The stream of the block after the one that runs, the name of both, and the place after that of its list.
+    /// InvalidOperation where no block runs or none is after it; OutOfMemory where the owners of a name can't be counted.
     fn next_block(&self) -> Result<(StreamId, Name, usize), Error>
         ensures ok { IfOk result (λ r. IsNextOf r.0 r.1 r.2 self.now) }
         ensures err { IfErr result (λ e. is_want_of_memory e ≡ false →
-            (e ≡ ErrorKind.InvalidOperation ∷ []) × (template_behind self.now ≡ None)) }
+            (e ≡ ErrorKind.InvalidOperation ∷ []) × (template_after self.now ≡ None)) }
     {
         let Some(name) = &self.block else {
             return Err(Error::from(ErrorKind::InvalidOperation));
         };
         let place = self.lists.place(name.as_str());
-        let Some((next, template)) = self.lists.behind(name, place) else {
+        let Some((next, template)) = self.lists.after(name, place) else {
             return Err(Error::from(ErrorKind::InvalidOperation));
         };
         let stream = StreamId::block(template.share()?, name.share()?);
@@ -102,7 +102,7 @@ impl StateData {
         }
     }
 
-    /// What is put back behind a block. Fails by OutOfMemory alone, where the owners of a name can't be counted.
+    /// What is put back after a block. Fails by OutOfMemory alone, where the owners of a name can't be counted.
     pub(crate) fn saved_block(&self) -> Result<SavedBlock, Error>
         ensures ok { IfOk result (λ saved. saved ≡ saved_of self.now) }
         ensures kind { IfErr result (λ e. e ≡ ErrorKind.OutOfMemory ∷ []) }
@@ -127,9 +127,9 @@ impl StateData {
         Ok(())
     }
 
-    /// Loads the template that a value names, whose blocks then stand behind those that are there. InvalidOperation where
+    /// Loads the template that a value names, whose blocks then stand after those that are there. InvalidOperation where
     /// the value is no text, where a parent waits, inside a capture of the run, and for a name that was loaded before;
-    /// TemplateNotFound where there is no such template; OutOfMemory, and then blocks may stand behind those that were there.
+    /// TemplateNotFound where there is no such template; OutOfMemory, and then blocks may stand after those that were there.
     pub fn load<H: Host>(
         &mut self,
         alloc: Global,

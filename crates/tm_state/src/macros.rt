@@ -148,7 +148,7 @@ impl StateData {
         }
     }
 
-    /// Enters a macro that is called with these values, and writes its run, with what is put back behind it, into an
+    /// Enters a macro that is called with these values, and writes its run, with what is put back after it, into an
     /// entry. As `macro_run`; then the state stays as it was.
     #[inline(always)]
     fn enter_macro<H: Host>(

@@ -31,7 +31,7 @@ pub struct NestedRun {
     pub text: RunText,
     /// The kind that is put before its fault, if one is.
     pub wrap: Option<Wrapping>,
-    /// What is put back behind it.
+    /// What is put back after it.
     pub saved: Saved,
 }
 

@@ -36,7 +36,7 @@ pub(crate) fn set_in(
     namespaces[index].insert(key, value)
 }
 
-/// Adds the record of a loop behind all others. Fails by OutOfMemory alone, and then they stay as they were.
+/// Adds the record of a loop after all others. Fails by OutOfMemory alone, and then they stay as they were.
 pub(crate) fn add_loop(
     loops: &mut Vec<LoopState>,
     stream: &StreamId,
@@ -86,7 +86,7 @@ pub(crate) fn changed_at(
     loops[number].changed(alloc, args)
 }
 
-/// Keeps values by name, one behind the other. Fails by OutOfMemory alone.
+/// Keeps values by name, one after the other. Fails by OutOfMemory alone.
 pub(crate) fn keep_each(temps: &mut NameMap<Value>, kept: Vec<(Name, Value)>) -> Result<(), Error>
     ensures ok { OnOk result (temps.new ≡ put_each kept.items temps.old) }
     ensures kind { IfErr result (λ e. e ≡ ErrorKind.OutOfMemory ∷ []) }

@@ -1,10 +1,10 @@
-//! What runs: blocks that are entered, and what is put back behind a run.
+//! What runs: blocks that are entered, and what is put back after a run.
 ghost use Rattle.std.specs.Prelude.{◌≡◌, ◌+◌, ◌≤◌, ◌∷◌, [], IfErr, IfOk, None, OnErr, OnOk, Some, false};
 ghost use Rattle.tm_meaning.specs.Calls.{deeper, enter_block, refused};
 ghost use Rattle.tm_meaning.specs.Memory.{is_want_of_memory};
 ghost use Rattle.tm_meaning.specs.World.{depth};
 ghost use Rattle.tm_state.specs.Answers.{Becomes, HasOneMore, KeepsFixedAndNames, LeavesState};
-ghost use Rattle.tm_state.specs.State.{IsBlockOf, behind_block, behind_include, behind_macro, behind_super, lists_of, put_back, runs_block};
+ghost use Rattle.tm_state.specs.State.{IsBlockOf, after_block, after_include, after_macro, after_super, lists_of, put_back, runs_block};
 ghost use Rattle.tm_state.specs.State.{saved_of, saved_scopes, template_of_block};
 ghost use Rattle.tm_values.specs.Answer.{IsLent};
 
@@ -40,7 +40,7 @@ impl StateData {
         self.context.set_outer(outer);
     }
 
-    /// Enters the block of a name, in a scope of its own, and gives its stream and what is put back behind
+    /// Enters the block of a name, in a scope of its own, and gives its stream and what is put back after
     /// it. UnknownBlock where there is none, InvalidOperation where it is required and nothing fills it, or
     /// where its scope would lie deeper than the limit; OutOfMemory where there is no memory. Then the state
     /// stays as it was.
@@ -136,7 +136,7 @@ impl StateData {
         }
     }
 
-    /// Lets the block behind the one that runs go on, at these places in lists of blocks, and gives what that replaces.
+    /// Lets the block after the one that runs go on, at these places in lists of blocks, and gives what that replaces.
     pub(crate) fn run_super(
         &mut self,
         stream: StreamId,
@@ -223,7 +223,7 @@ impl StateData {
     /// Leaves the scopes that a block opened, and puts back what it replaced.
     #[inline(always)]
     fn leave_block(&mut self, saved: &mut SavedBlock)
-        ensures { self.new ≡ behind_block saved.old self.old }
+        ensures { self.new ≡ after_block saved.old self.old }
     {
         self.context.cut_to(saved.scopes, saved.outer);
         mem::swap(&mut self.stream, &mut saved.stream);
@@ -233,7 +233,7 @@ impl StateData {
 
     /// Leaves the scopes that a `super()` opened, and puts back what it replaced.
     fn leave_super(&mut self, saved: &mut SavedSuper)
-        ensures { self.new ≡ behind_super saved.old self.old }
+        ensures { self.new ≡ after_super saved.old self.old }
     {
         self.leave_block(&mut saved.replaced);
         self.lists.swap_places(&mut saved.places);
@@ -241,7 +241,7 @@ impl StateData {
 
     /// Leaves a macro's scopes, and puts back what it replaced.
     fn leave_macro(&mut self, saved: &mut SavedMacro)
-        ensures { self.new ≡ behind_macro saved.old self.old }
+        ensures { self.new ≡ after_macro saved.old self.old }
     {
         let SavedMacro {
             context,
@@ -262,7 +262,7 @@ impl StateData {
 
     /// Leaves the scopes that an include opened, and puts back what it replaced. Names that it gave stay.
     fn leave_include(&mut self, saved: &mut SavedInclude)
-        ensures { self.new ≡ behind_include saved.old self.old }
+        ensures { self.new ≡ after_include saved.old self.old }
     {
         self.leave_block(&mut saved.replaced);
         self.context.set_own_closure(saved.closure);

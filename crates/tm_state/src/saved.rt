@@ -4,7 +4,7 @@ use tm_syntax::Name;
 use tm_tables::{Context, Lists, NameTable};
 use tm_values::AutoEscape;
 
-/// What a run replaces in the state, and what is put back behind it.
+/// What a run replaces in the state, and what is put back after it.
 #[derive(Drop)]
 pub enum Saved {
     /// What a block's run replaces.

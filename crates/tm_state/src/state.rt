@@ -214,7 +214,7 @@ impl StateData {
         self.id
     }
 
-    /// Keeps values by name, one behind the other. Fails by OutOfMemory alone, and then only what is kept has changed.
+    /// Keeps values by name, one after the other. Fails by OutOfMemory alone, and then only what is kept has changed.
     pub fn keep(&mut self, temps: Vec<(Name, Value)>) -> Result<(), Error>
         ensures ok { OnOk result (self.new.temps ≡ put_each temps.items self.old.temps) }
         ensures kind { IfErr result (λ e. e ≡ ErrorKind.OutOfMemory ∷ []) }
@@ -226,7 +226,7 @@ impl StateData {
         keep_each(&mut self.temps, temps)
     }
 
-    /// What a function of the language gives for these arguments; a namespace's record then stands behind all
+    /// What a function of the language gives for these arguments; a namespace's record then stands after all
     /// others. Fails as `range`, `dict` and `namespace` do; then the state stays as it was.
     pub fn call_language(
         &mut self,
@@ -253,7 +253,7 @@ impl StateData {
         }
     }
 
-    /// A namespace of these pairs, whose record stands behind all others. Fails by OutOfMemory alone; then the state stays as it was.
+    /// A namespace of these pairs, whose record stands after all others. Fails by OutOfMemory alone; then the state stays as it was.
     fn add_namespace(&mut self, pairs: ValueMap) -> Result<Value, Error>
         ensures ok { IfOk result (λ v. make_namespace pairs self.old ≡ Good v self.new) }
         ensures kind { IfErr result (λ e. e ≡ ErrorKind.OutOfMemory ∷ []) }
@@ -363,7 +363,7 @@ impl StateData {
             .push_frame(Frame::new(alloc, Value::undefined()), limit)
     }
 
-    /// A loop of a number over items in a scope of its own, with a record behind all others. InvalidOperation
+    /// A loop of a number over items in a scope of its own, with a record after all others. InvalidOperation
     /// where the scope would lie deeper than the limit, OutOfMemory where there is no memory; then the state
     /// stays as it was.
     pub fn open_loop(

@@ -145,6 +145,9 @@ unfolding hidden hidden-the_row-Expr-0
 of_or x = refl
 
 pub ruleset of_expr = (of_list, of_tuple, of_map, of_call, of_unary, of_chain, of_conditional)
+
 pub ruleset of_part = (of_plain, of_spread, of_named, of_spread_keywords)
+
 pub ruleset of_step = (of_item, of_apply, of_called, of_slice, of_binary, of_compare, of_and, of_or)
+
 pub ruleset weights = (joined, of_expr, of_part, of_step)

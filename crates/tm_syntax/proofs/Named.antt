@@ -57,8 +57,8 @@ other_text x y apart false h = refl
 kept_by : {A : Type 0} (x y : List ℕ) → x ≢ y → (p : List ℕ × A) (ps : Named A) → find x (without y ps) ≡ find x ps →
     (b : Bool) → is_at (name_cmp y) p.0 ≡ b → find x (cond b ps (p ∷ without y ps)) ≡ find x (p ∷ ps)
 kept_by x y apart p ps more true h =
-    let behind = other_text x p.0 (λ same. apart (same ∙ sym (same_text y p.0 h))) (is_at (name_cmp x) p.0) refl in
-    sym (ap (λ b. cond b (Some p.1) (find x ps)) behind)
+    let after = other_text x p.0 (λ same. apart (same ∙ sym (same_text y p.0 h))) (is_at (name_cmp x) p.0) refl in
+    sym (ap (λ b. cond b (Some p.1) (find x ps)) after)
 kept_by x y apart p ps more false h = ap (cond (is_at (name_cmp x) p.0) (Some p.1)) more
 
 is_itself : (x : List ℕ) → is_at (name_cmp x) x ≡ true

@@ -7,7 +7,7 @@ use Rattle.std.proofs.Math.Seq.{get_or-append_seam}
 use Rattle.tm_syntax.specs.declared.instruction.Instruction.{Instruction}
 use Rattle.tm_syntax.specs.declared.instruction.Instruction.TheVariants as i
 use Rattle.tm_syntax.specs.Fragments.{Fragment, straight, ◌⨾◌, jump_out, bounded, fork, looped, break_loop, next_round, beyond_all}
-use Rattle.tm_syntax.specs.Fragments.{beyond, Labels, outward, inward, jump, assemble, ending_at, declares, behind_body, whole_labels, assembled}
+use Rattle.tm_syntax.specs.Fragments.{beyond, Labels, outward, inward, jump, assemble, ending_at, declares, after_body, whole_labels, assembled}
 
 -- the instructions stand in the stream at this place
 abbrev pub HasAt : List Instruction → ℕ → List Instruction → Type 0
@@ -31,7 +31,7 @@ AtWhere marks all l pc break_loop = slice_get all pc ≡ Some (i.Jump l.after)
 AtWhere marks all l pc next_round = slice_get all pc ≡ Some (i.Jump l.again)
 AtWhere marks all l pc (declares m c) =
     (slice_get all pc ≡ Some (i.Jump (beyond (pc + 1) c + 1))) × AtWhere (λ _. true) all (ending_at (beyond (pc + 1) c)) (pc + 1) c
-    × HasAt all (beyond (pc + 1) c) (behind_body m (pc + 1)) × (marks pc ≡ true)
+    × HasAt all (beyond (pc + 1) c) (after_body m (pc + 1)) × (marks pc ≡ true)
 
 -- whatever its place is
 abbrev pub everywhere : ℕ → Bool
@@ -69,7 +69,7 @@ beyond_is l pc next_round = refl
 beyond_is l pc (declares m c) =
     let k = ending_at (beyond (pc + 1) c) in
     let a = assemble k (pc + 1) c in
-    let b = behind_body m (pc + 1) in
+    let b = after_body m (pc + 1) in
     omega (arith, length-append a b, beyond_is k (pc + 1) c, beyond_all_is (beyond (pc + 1) c) b)
 
 -- ---------------------------------------------------------------- code that is assembled stands
@@ -77,40 +77,40 @@ has_front : (all : List Instruction) (pc : ℕ) (a b : List Instruction) → Has
 has_front all pc [] b h = tt
 has_front all pc (i ∷ a) b h = (h.0, has_front all (pc + 1) a b h.1)
 
-has_behind : (all : List Instruction) (pc : ℕ) (a b : List Instruction) → HasAt all pc (a ++ b) → HasAt all (pc + length a) b
-has_behind all pc [] b h = let e : pc ≡ pc + 0 = omega arith in subst (λ n. HasAt all n b) e h
-has_behind all pc (i ∷ a) b h =
+has_after : (all : List Instruction) (pc : ℕ) (a b : List Instruction) → HasAt all pc (a ++ b) → HasAt all (pc + length a) b
+has_after all pc [] b h = let e : pc ≡ pc + 0 = omega arith in subst (λ n. HasAt all n b) e h
+has_after all pc (i ∷ a) b h =
     let e : pc + 1 + length a ≡ pc + length (i ∷ a) = omega arith in
-    subst (λ n. HasAt all n b) e (has_behind all (pc + 1) a b h.1)
+    subst (λ n. HasAt all n b) e (has_after all (pc + 1) a b h.1)
 
 stands_front : (all : List Instruction) (l : Labels) (pc : ℕ) (c : Fragment) (b : List Instruction) →
     HasAt all pc (assemble l pc c ++ b) → HasAt all pc (assemble l pc c)
 stands_front all l pc c b h = has_front all pc (assemble l pc c) b h
 
-stands_behind : (all : List Instruction) (l : Labels) (pc : ℕ) (c : Fragment) (b : List Instruction) →
+stands_after : (all : List Instruction) (l : Labels) (pc : ℕ) (c : Fragment) (b : List Instruction) →
     HasAt all pc (assemble l pc c ++ b) → HasAt all (beyond pc c) b
-stands_behind all l pc c b h = subst (λ n. HasAt all n b) (sym (beyond_is l pc c)) (has_behind all pc (assemble l pc c) b h)
+stands_after all l pc c b h = subst (λ n. HasAt all n b) (sym (beyond_is l pc c)) (has_after all pc (assemble l pc c) b h)
 
 pub stands : (all : List Instruction) (l : Labels) (pc : ℕ) (c : Fragment) → HasAt all pc (assemble l pc c) → At all l pc c
 stands all l pc (straight is) h = h
-stands all l pc (c ⨾ d) h = (stands all l pc c (stands_front all l pc c _ h), stands all l (beyond pc c) d (stands_behind all l pc c _ h))
+stands all l pc (c ⨾ d) h = (stands all l pc c (stands_front all l pc c _ h), stands all l (beyond pc c) d (stands_after all l pc c _ h))
 stands all l pc (jump_out j) h = h.0
 stands all l pc (bounded c) h = stands all (outward (beyond pc c) l) pc c h
 stands all l pc (fork c d) h =
     let k = outward (beyond pc c + 1) l in
-    let rest = stands_behind all k pc c (i.Jump (beyond (beyond pc c + 1) d) ∷ assemble l (beyond pc c + 1) d) h in
+    let rest = stands_after all k pc c (i.Jump (beyond (beyond pc c + 1) d) ∷ assemble l (beyond pc c + 1) d) h in
     (stands all k pc c (stands_front all k pc c _ h), rest.0, stands all l (beyond pc c + 1) d rest.1)
 stands all l pc (looped g c d) h =
     let end = beyond (pc + 1 + 1) c + 1 in
     let k = inward (pc + 1) end l in
-    let rest = stands_behind all k (pc + 1 + 1) c (i.Jump (pc + 1) ∷ assemble l end d) h.1.1 in
+    let rest = stands_after all k (pc + 1 + 1) c (i.Jump (pc + 1) ∷ assemble l end d) h.1.1 in
     (h.0, h.1.0, stands all k (pc + 1 + 1) c (stands_front all k (pc + 1 + 1) c _ h.1.1), rest.0, stands all l end d rest.1)
 stands all l pc break_loop h = h.0
 stands all l pc next_round h = h.0
 stands all l pc (declares m c) h =
     let k = ending_at (beyond (pc + 1) c) in
-    let b = behind_body m (pc + 1) in
-    (h.0, stands all k (pc + 1) c (stands_front all k (pc + 1) c b h.1), stands_behind all k (pc + 1) c b h.1, refl)
+    let b = after_body m (pc + 1) in
+    (h.0, stands all k (pc + 1) c (stands_front all k (pc + 1) c b h.1), stands_after all k (pc + 1) c b h.1, refl)
 
 has_all : (is before : List Instruction) → HasAt (before ++ is) (length before) is
 has_all [] before = tt

@@ -34,7 +34,7 @@ pub record FoundBlock : Type 0 where
 abbrev pub found_block : Bool → Body → FoundBlock
 found_block required body = record { required = required; body = body }
 
--- the blocks of statements at any depth, each behind those that stand in it
+-- the blocks of statements at any depth, each after those that stand in it
 abbrev mutual
   pub blocks_of : Stmt → Named FoundBlock
   blocks_of (If' c _ body other) = blocks_in body ++ blocks_else other

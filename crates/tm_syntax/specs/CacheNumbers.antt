@@ -24,7 +24,7 @@ number_by None names = if nat_lt (length names) cache_count then length names el
 abbrev pub number_in : List ℕ → List (List ℕ) → ℕ
 number_in x names = number_by (place_from 0 x names) names
 
--- those that have one behind it
+-- those that have one after it
 abbrev pub joined_by : Option ℕ → List ℕ → List (List ℕ) → List (List ℕ)
 joined_by (Some n) x names = names
 joined_by None x names = if nat_lt (length names) cache_count then names ++ x ∷ [] else names
@@ -32,7 +32,7 @@ joined_by None x names = if nat_lt (length names) cache_count then names ++ x �
 abbrev pub joined : List ℕ → List (List ℕ) → List (List ℕ)
 joined x names = joined_by (place_from 0 x names) x names
 
--- code with its numbers, behind code in which these filters and tests have theirs
+-- code with its numbers, after code in which these filters and tests have theirs
 abbrev pub numbered_from : List (List ℕ) → List (List ℕ) → List Instruction → List Instruction
 numbered_from fs ts [] = []
 numbered_from fs ts (i.ApplyFilter x n k ∷ is) = i.ApplyFilter x n (number_in x fs) ∷ numbered_from (joined x fs) ts is

@@ -100,11 +100,11 @@ abbrev pub has_spread : {n : _} → Row_of-Argument n → Bool
 has_spread no_argument = false
 has_spread (argument a more) = is_spread a || has_spread more
 
--- Where values are spread, each row of plain arguments is a list: how many wait to be one behind an argument, and how many lists that
+-- Where values are spread, each row of plain arguments is a list: how many wait to be one after an argument, and how many lists that
 -- argument brings.
-abbrev pub row_behind : ℕ → Argument → ℕ
-row_behind n (plain a) = n + 1
-row_behind n (spread a) = 0
+abbrev pub row_after : ℕ → Argument → ℕ
+row_after n (plain a) = n + 1
+row_after n (spread a) = 0
 
 abbrev pub lists_at : ℕ → Argument → ℕ
 lists_at n (plain a) = 0
@@ -113,7 +113,7 @@ lists_at n (spread a) = rows_of n + 1
 -- how many lists there are, with so many more values at the end
 abbrev pub count_lists : {n : _} → ℕ → Row_of-Argument n → ℕ → ℕ
 count_lists before no_argument more = rows_of (before + more)
-count_lists before (argument a rest) more = lists_at before a + count_lists (row_behind before a) rest more
+count_lists before (argument a rest) more = lists_at before a + count_lists (row_after before a) rest more
 
 abbrev pub is_spread_keyword : Keyword → Bool
 is_spread_keyword (keyword x a) = false
@@ -124,15 +124,15 @@ has_spread_keyword no_keyword = false
 has_spread_keyword (keyword_and k more) = is_spread_keyword k || has_spread_keyword more
 
 -- the same of arguments by their names, each row of which is a map
-abbrev pub keywords_behind : ℕ → Keyword → ℕ
-keywords_behind n (keyword x a) = n + 1
-keywords_behind n (spread_keywords a) = 0
+abbrev pub keywords_after : ℕ → Keyword → ℕ
+keywords_after n (keyword x a) = n + 1
+keywords_after n (spread_keywords a) = 0
 
 abbrev pub maps_at : ℕ → Keyword → ℕ
 maps_at n (keyword x a) = 0
 maps_at n (spread_keywords a) = rows_of n + 1
 
--- How arguments by their names end, behind a row of so many: how many maps there are, and the code of these.
+-- How arguments by their names end, after a row of so many: how many maps there are, and the code of these.
 pub record RowEnd : Type 0 where
   pub maps : ℕ → ℕ
   pub code : ℕ → Fragment
@@ -141,7 +141,7 @@ pub record RowEnd : Type 0 where
 abbrev pub row_end : RowEnd
 row_end = record { maps = rows_of; code = λ n. straight (map_of_row n) }
 
--- `caller` is behind it, whose value this code pushes
+-- `caller` is after it, whose value this code pushes
 abbrev pub caller_end : Fragment → RowEnd
 caller_end c = record {
   maps = λ n. rows_of (suc n);
@@ -150,7 +150,7 @@ caller_end c = record {
 
 abbrev pub count_maps : {n : _} → RowEnd → ℕ → Row_of-Keyword n → ℕ
 count_maps end before no_keyword = end.maps before
-count_maps end before (keyword_and k rest) = maps_at before k + count_maps end (keywords_behind before k) rest
+count_maps end before (keyword_and k rest) = maps_at before k + count_maps end (keywords_after before k) rest
 
 -- maps are merged where one is spread
 abbrev pub merged_code : Bool → ℕ → List Instruction
@@ -238,24 +238,24 @@ abbrev mutual
   arguments_code no_argument = straight []
   arguments_code (argument a more) = argument_code a ⨾ arguments_code more
 
-  -- an argument behind a row of so many, which a spread one ends
+  -- an argument after a row of so many, which a spread one ends
   pub listed_code : ℕ → Argument → Fragment
   listed_code before (plain a) = expr_code a
   listed_code before (spread a) = straight (list_of_row before) ⨾ expr_code a
 
-  -- behind a row of so many the lists of all, with so many arguments by their names in the last
+  -- after a row of so many the lists of all, with so many arguments by their names in the last
   pub lists_code : {n : _} → ℕ → Row_of-Argument n → ℕ → Fragment → Fragment
   lists_code before no_argument more by_name = by_name ⨾ straight (list_of_row (before + more))
-  lists_code before (argument a rest) more by_name = listed_code before a ⨾ lists_code (row_behind before a) rest more by_name
+  lists_code before (argument a rest) more by_name = listed_code before a ⨾ lists_code (row_after before a) rest more by_name
 
-  -- a name and its value, behind a row of so many, which a spread one ends
+  -- a name and its value, after a row of so many, which a spread one ends
   pub keyword_code : ℕ → Keyword → Fragment
   keyword_code before (keyword x a) = straight (i.LoadConst (text x false) ∷ []) ⨾ expr_code a
   keyword_code before (spread_keywords a) = straight (map_of_row before) ⨾ expr_code a
 
   pub keywords_code : {n : _} → RowEnd → ℕ → Row_of-Keyword n → Fragment
   keywords_code end before no_keyword = end.code before
-  keywords_code end before (keyword_and k more) = keyword_code before k ⨾ keywords_code end (keywords_behind before k) more
+  keywords_code end before (keyword_and k more) = keyword_code before k ⨾ keywords_code end (keywords_after before k) more
 
   pub step_code : Step → Fragment
   step_code (Attribute x) = straight (i.GetAttr x ∷ [])
@@ -293,11 +293,11 @@ passing_code end before given named =
     (λ by_name. lists_code before given (together end named) by_name)
 
 -- ---------------------------------------------------------------- calls that end so
--- a value is called with what is behind its arguments alone
+-- a value is called with what is after its arguments alone
 abbrev pub called_alone : RowEnd → Fragment
 called_alone end = end.code 0 ⨾ straight (i.CallObject (Some (end.maps 0 + 1)) ∷ [])
 
--- The last step of a value is its call, whose arguments end so; a step that is no call is called behind.
+-- The last step of a value is its call, whose arguments end so; a step that is no call is called after.
 abbrev pub step_call_code : RowEnd → Step → Fragment
 step_call_code end (Apply' k x _ given _ named) = passing_code end 1 given named ⨾ straight
     (application_code k x (passed_count end 1 given named))
@@ -310,7 +310,7 @@ steps_call_code end no_step = called_alone end
 steps_call_code end (step s no_step) = step_call_code end s
 steps_call_code end (step s (step t more)) = step_code s ⨾ steps_call_code end (step t more)
 
--- An expression that is a call, whose arguments end so; what is no call is called behind.
+-- An expression that is a call, whose arguments end so; what is no call is called after.
 abbrev pub call_code : RowEnd → Expr → Fragment
 call_code end (Call' f _ given _ named) = passing_code end 0 given named ⨾ straight
     (i.CallFunction f (passed_count end 0 given named) ∷ [])

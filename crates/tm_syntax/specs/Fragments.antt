@@ -51,9 +51,9 @@ abbrev pub building : List (List ℕ) → MacroHead → ℕ → List Instruction
 building [] m place = i.GetClosure ∷ i.LoadConst (name_list m.parameters) ∷ i.BuildMacro m.name place m.caller ∷ []
 building (x ∷ xs) m place = i.Enclose x ∷ building xs m place
 
--- what stands behind the body of a macro that is entered at a place
-abbrev pub behind_body : MacroHead → ℕ → List Instruction
-behind_body m place = i.Return ∷ building m.free m place
+-- what stands after the body of a macro that is entered at a place
+abbrev pub after_body : MacroHead → ℕ → List Instruction
+after_body m place = i.Return ∷ building m.free m place
 
 -- ---------------------------------------------------------------- places
 abbrev pub beyond_all : ℕ → List Instruction → ℕ
@@ -70,7 +70,7 @@ beyond pc (fork c d) = beyond (beyond pc c + 1) d
 beyond pc (looped g c d) = beyond (beyond (pc + 1 + 1) c + 1) d
 beyond pc break_loop = pc + 1
 beyond pc next_round = pc + 1
-beyond pc (declares m c) = beyond_all (beyond (pc + 1) c) (behind_body m (pc + 1))
+beyond pc (declares m c) = beyond_all (beyond (pc + 1) c) (after_body m (pc + 1))
 
 -- where jumps out go, where the innermost loop's next item is asked for, and what stands after its rounds
 pub record Labels : Type 0 where
@@ -110,7 +110,7 @@ assemble l pc break_loop = i.Jump l.after ∷ []
 assemble l pc next_round = i.Jump l.again ∷ []
 assemble l pc (declares m c) =
     let end = beyond (pc + 1) c in
-    i.Jump (end + 1) ∷ (assemble (ending_at end) (pc + 1) c ++ behind_body m (pc + 1))
+    i.Jump (end + 1) ∷ (assemble (ending_at end) (pc + 1) c ++ after_body m (pc + 1))
 
 -- code on its own
 abbrev pub whole_labels : Fragment → Labels

@@ -1,5 +1,5 @@
 -- The names that a tree reads where no open scope has assigned them before: one walk over the tree, in the order of its source. Where names
--- are asked for with what is nested in them, the attributes behind a name are given with it, as `a.b.c`.
+-- are asked for with what is nested in them, the attributes after a name are given with it, as `a.b.c`.
 use Rattle.std.specs.Prelude.{ℕ, List, [], ◌∷◌, ◌++◌, Option, Some, None, Bool, true, false, cond, ◌||◌, codes, is_some}
 use Rattle.std.specs.List.{list_any}
 use Rattle.std.specs.BTreeMap.{is_at}
@@ -120,12 +120,12 @@ abbrev pub dotted_on : Option (List ℕ) → Option (List ℕ) → List ℕ → 
 dotted_on (Some a) last x rest = rest (dot x a)
 dotted_on None last x rest = with_member last x
 
--- a name with the attributes that stand first behind it, and a method directly behind these
+-- a name with the attributes that stand first after it, and a method directly after these
 abbrev pub dotted : {n : _} → List ℕ → Row_of-Step n → List ℕ
 dotted x no_step = x
 dotted x (step s more) = dotted_on (attribute_of s) (method_of s) x (λ y. dotted y more)
 
--- a name and the steps behind it
+-- a name and the steps after it
 abbrev pub read_chain : {n : _} → Bool → List ℕ → Row_of-Step n → Walk → Walk
 read_chain nested x ss k = read_as x (cond nested (dotted x ss) x) k
 

@@ -48,7 +48,7 @@ pub struct BlockCode {
     pub code: Code,
 }
 
-/// Where the loops of instructions begin, each at its number. AllocError for want of memory.
+/// Where the loops of instructions begin, each at its number. AllocError when out of memory.
 fn places_of(alloc: Global, instructions: &[Instruction]) -> Result<Vec<LoopPlace>, AllocError>
     ensures { IfOk result (λ places. places.items ≡ loop_places 0 instructions.now) }
 {
@@ -75,7 +75,7 @@ fn name_count(names: &Value) -> usize
     }
 }
 
-/// Where the macros of instructions are entered, with how many arguments each takes. AllocError for want of memory.
+/// Where the macros of instructions are entered, with how many arguments each takes. AllocError when out of memory.
 fn entries_by_place(
     alloc: Global,
     instructions: &[Instruction],
@@ -99,7 +99,7 @@ fn entries_by_place(
     Ok(found)
 }
 
-/// The same in a row, in the order of the places. AllocError for want of memory.
+/// The same in a row, in the order of the places. AllocError when out of memory.
 fn entries_of(
     alloc: Global,
     instructions: &[Instruction],
@@ -128,7 +128,7 @@ impl Code {
         }
     }
 
-    /// These instructions. AllocError for want of memory.
+    /// These instructions. AllocError when out of memory.
     pub fn new(alloc: Global, instructions: Items<Instruction>) -> Result<Code, AllocError>
         ensures { IfOk result (λ code. code ≡ instructions) }
     {

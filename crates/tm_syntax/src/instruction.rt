@@ -86,7 +86,7 @@ pub enum Instruction {
     Add,
     /// Replaces two values by their difference.
     Sub,
-    /// Replaces two values by their printed texts, one behind the other.
+    /// Replaces two values by their printed texts, one after the other.
     StringConcat,
     /// Replaces two values by their product.
     Mul,
@@ -133,9 +133,9 @@ pub enum Instruction {
     PerformTest(Name, Option<usize>, u8),
     /// Runs the block of a name.
     CallBlock(Name),
-    /// Runs the next block behind the one that runs, in place.
+    /// Runs the next block after the one that runs, in place.
     FastSuper,
-    /// Pops the name of the parent, which runs behind the stream.
+    /// Pops the name of the parent, which runs after the stream.
     LoadBlocks,
     /// Pops a template's name, or several, and runs the first of which there is one in place; whether none
     /// may be there.

@@ -42,7 +42,7 @@ impl Model for Name {
 }
 
 impl Name {
-    /// A copy of this text; AllocError for want of memory.
+    /// A copy of this text; AllocError when out of memory.
     pub fn new(alloc: Global, text: &str) -> Result<Name, AllocError>
         ensures { IfOk result (λ name. name ≡ text.now) }
     {

@@ -44,7 +44,7 @@ impl<T> NameMap<T> {
         self.by_name.get(name)
     }
 
-    /// The names, in their order. AllocError for want of memory.
+    /// The names, in their order. AllocError when out of memory.
     pub fn names(&self, alloc: Global) -> Result<Vec<&str>, AllocError>
         ensures { IfOk result (λ names. texts_of names.items ≡ keys_of self.now) }
     {
@@ -55,7 +55,7 @@ impl<T> NameMap<T> {
         Ok(names)
     }
 
-    /// The names with what they stand for, in the order of the names. AllocError for want of memory.
+    /// The names with what they stand for, in the order of the names. AllocError when out of memory.
     pub fn pairs(&self, alloc: Global) -> Result<Vec<(&str, &T)>, AllocError>
         ensures { IfOk result (λ pairs. pairs_of pairs.items ≡ self.now) }
     {
@@ -68,7 +68,7 @@ impl<T> NameMap<T> {
 }
 
 impl<T: Drop> NameMap<T> {
-    /// Lets a name stand for this, in place of what it stood for. AllocError for want of memory, and all stays as it was.
+    /// Lets a name stand for this, in place of what it stood for. AllocError when out of memory, and all stays as it was.
     pub fn insert(&mut self, name: Name, item: T) -> Result<(), AllocError>
         ensures ok { OnOk result (self.new ≡ put name item self.old) }
         ensures err { OnErr result (self.new ≡ self.old) }
@@ -77,7 +77,7 @@ impl<T: Drop> NameMap<T> {
         Ok(())
     }
 
-    /// Lets a name stand for this, and gives what it stood for. AllocError for want of memory, and all stays as it was.
+    /// Lets a name stand for this, and gives what it stood for. AllocError when out of memory, and all stays as it was.
     pub fn replace(&mut self, name: Name, item: T) -> Result<Option<T>, AllocError>
         ensures before { IfOk result (λ before. before ≡ find name self.old) }
         ensures ok { OnOk result (self.new ≡ put name item self.old) }

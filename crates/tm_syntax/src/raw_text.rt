@@ -44,7 +44,7 @@ fn end_within(source: &str, start: usize, text: &str) -> Option<usize>
 
 impl RawText {
     /// This text, which shares the source where it stands at this place of it, and is else a copy.
-    /// AllocError for want of memory.
+    /// AllocError when out of memory.
     pub fn within(
         alloc: Global,
         source: &RcStr,

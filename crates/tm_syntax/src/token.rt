@@ -84,7 +84,7 @@ pub enum Sign {
     None,
 }
 
-/// A block tag's start with the word behind it.
+/// A block tag's start with the word after it.
 #[derive(Clone, Copy, PartialEq, Eq)]
 pub enum Tag {
     /// `{% if`

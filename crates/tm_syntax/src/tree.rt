@@ -92,7 +92,7 @@ pub enum Expr {
     SelfBlock(Name),
     /// A prefix operator and its operand.
     Unary(UnaryOperator, Boxed<Expr>),
-    /// A value and the steps behind it, from the left.
+    /// A value and the steps after it, from the left.
     Chain(Boxed<Expr>, Items<Step>),
     /// A value under conditions, the last of which is asked first.
     Conditional(Boxed<Expr>, Items<Condition>),
@@ -138,7 +138,7 @@ pub struct Condition {
     pub otherwise: Boxed<Expr>,
 }
 
-/// A comparison behind another one.
+/// A comparison after another one.
 #[cycle(expr)]
 #[derive(Drop)]
 pub struct Comparison {
@@ -164,7 +164,7 @@ pub enum Step {
     Slice(Boxed<Expr>, Boxed<Expr>, Boxed<Expr>),
     /// The operator with this right side.
     Binary(BinaryOperator, Boxed<Expr>),
-    /// The comparison with this right side, and each behind it with the right side before its own.
+    /// The comparison with this right side, and each after it with the right side before its own.
     Compare(BinaryOperator, Boxed<Expr>, Items<Comparison>),
     /// The value where it is false, else this.
     And(Boxed<Expr>),
@@ -241,9 +241,9 @@ pub enum Stmt {
     Block(Name, bool, Items<Stmt>),
     /// The block of a name writes in place, `{{ self.b() }}`.
     EmitBlock(Name),
-    /// The next block behind the one that runs writes in place, `{{ super() }}`.
+    /// The next block after the one that runs writes in place, `{{ super() }}`.
     EmitSuper,
-    /// The template of this name is the parent, which runs behind the stream.
+    /// The template of this name is the parent, which runs after the stream.
     Extends(Boxed<Expr>),
     /// A value for a target.
     Set(AssignmentTarget, Boxed<Expr>),
@@ -421,7 +421,7 @@ fn drop_all(mut left: Vec<Expr>) {
 }
 
 // Puts an expression aside where it may hold others. Else it is dropped at once, and so it is where
-// memory for the list lacks.
+// there is no memory for the list.
 #[inline(never)]
 #[cycle(dropping)]
 #[tactic(auto, using(crate::proofs::Dropping::weights))]

@@ -7,7 +7,7 @@ use Rattle.std.specs.List.Sorted.{IsStrictlySortedBy}
 use Rattle.std.specs.Ordering.{ordering_reverse}
 use Rattle.std.specs.declared.cmp.Ordering.TheVariants.{Greater}
 use Rattle.tm_syntax.specs.Named.{find, name_cmp, put}
-use Rattle.tm_meaning.specs.Inheritance.{behind_all}
+use Rattle.tm_meaning.specs.Inheritance.{after_all}
 use Rattle.tm_meaning.specs.declared.stream.TemplateId.{TemplateId}
 use Rattle.tm_tables.specs.Lists.{alone_in, with_block, with_each}
 
@@ -42,7 +42,7 @@ module _ (t : TemplateId) where
   put-above x (y ∷ ys) h = rw (above x y h.0) (ap (λ l. (y, t ∷ []) ∷ l) (put-above x ys h.1))
 
   block-above : (x : List ℕ) (ys : List (List ℕ)) → AreBelow ys x → with_block t x (alone_in t ys) ≡ alone_in t (ys ++ x ∷ [])
-  block-above x ys h = ap (λ o. put x (behind_all t o) (alone_in t ys)) (find-above x ys h) ∙ put-above x ys h
+  block-above x ys h = ap (λ o. put x (after_all t o) (alone_in t ys)) (find-above x ys h) ∙ put-above x ys h
 
   each-above : (xs ys : List (List ℕ)) → IsStrictlySortedBy name_cmp xs → AllByRecursion (AreBelow ys) xs →
       with_each t xs (alone_in t ys) ≡ alone_in t (ys ++ xs)

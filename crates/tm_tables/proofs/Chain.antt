@@ -14,7 +14,7 @@ use Rattle.std.specs.Prelude.{option_and_then}
 use Rattle.tm_syntax.specs.Named.{Named, name_cmp, find, put}
 use Rattle.tm_syntax.proofs.Named.{find_put, find_put_other, same_or_not}
 use Rattle.tm_meaning.specs.declared.stream.TemplateId.{TemplateId}
-use Rattle.tm_meaning.specs.Inheritance.{behind_all}
+use Rattle.tm_meaning.specs.Inheritance.{after_all}
 use Rattle.tm_tables.specs.Known.{is_among}
 use Rattle.tm_tables.specs.Layers.{AreAscending, IsLayerOf, LayerValue, has_block, having}
 use Rattle.tm_tables.specs.Lists.{IsListed, LoadedValue, listed_at, with_block, with_each, with_layers}
@@ -35,7 +35,7 @@ apart_at x y apart = by (is_at (name_cmp x) y) refl
 module _ (t : TemplateId) where
   -- what stands in the list of a name with the blocks of this template
   abbrev or_with : Bool → Option (List TemplateId) → Option (List TemplateId)
-  or_with b o = cond b (Some (behind_all t o)) o
+  or_with b o = cond b (Some (after_all t o)) o
 
   each_by : (x y : List ℕ) (ys : List (List ℕ)) (ls : Named (List TemplateId)) → (x ≡ y) ⊎ (x ≢ y) →
       AllByRecursion (λ z. name_cmp y z ≡ Less) ys →
@@ -44,12 +44,12 @@ module _ (t : TemplateId) where
   each_by x y ys ls (inl same) below rest =
       rest
       ∙ ap (λ b. or_with b (find x (with_block t y ls))) (ap (λ z. is_among z ys) same ∙ not_among y ys below)
-      ∙ ap (λ z. find z (with_block t y ls)) same ∙ find_put y (behind_all t (find y ls)) ls
-      ∙ ap (λ z. Some (behind_all t (find z ls))) (sym same)
+      ∙ ap (λ z. find z (with_block t y ls)) same ∙ find_put y (after_all t (find y ls)) ls
+      ∙ ap (λ z. Some (after_all t (find z ls))) (sym same)
       ∙ sym (ap (λ b. or_with (b || is_among x ys) (find x ls)) (at_itself x y same))
   each_by x y ys ls (inr apart) below rest =
       rest
-      ∙ ap (or_with (is_among x ys)) (find_put_other x y apart (behind_all t (find y ls)) ls)
+      ∙ ap (or_with (is_among x ys)) (find_put_other x y apart (after_all t (find y ls)) ls)
       ∙ sym (ap (λ b. or_with (b || is_among x ys) (find x ls)) (apart_at x y apart))
 
   find_each : (x : List ℕ) (xs : List (List ℕ)) (ls : Named (List TemplateId)) → IsStrictlySortedBy name_cmp xs →
@@ -59,10 +59,10 @@ module _ (t : TemplateId) where
   find_each x (y ∷ ys) ls o = each_by x y ys ls (same_or_not x y) o.0 (find_each x ys (with_block t y ls) o.1)
 
 -- ---------------------------------------------------------------- the blocks of a chain
--- these templates stand behind those of a list
+-- these templates stand after those of a list
 abbrev joined : Option (List TemplateId) → List TemplateId → Option (List TemplateId)
 joined o [] = o
-joined o (t ∷ ts) = joined (Some (behind_all t o)) ts
+joined o (t ∷ ts) = joined (Some (after_all t o)) ts
 
 one_joined : (t : TemplateId) (b : Bool) (o : Option (List TemplateId)) (ts : List TemplateId) →
     joined (or_with t b o) ts ≡ joined o (cond b (t ∷ ts) ts)
@@ -135,7 +135,7 @@ module _ (x : List ℕ) where
       by true c h k = omega arith
       by false c h k = k h
 
-  -- the template of a layer that has the block, behind those of the layers before it
+  -- the template of a layer that has the block, after those of the layers before it
   there_by : (b : Bool) (t : TemplateId) (us ts : List TemplateId) (v : TemplateId) → slice_get ts (length us) ≡ Some v →
       slice_get (cond b (t ∷ ts) ts) (length (cond b (t ∷ us) us)) ≡ Some v
   there_by true t us ts v h = h
@@ -251,10 +251,10 @@ module _ (x : List ℕ) where
     omega (arith, first, sum),
   )
 
-  -- or is left behind
-  pub left_behind : (layers : List LayerValue) (i : ℕ) (l : LayerValue) (b : Bool) → i < length layers → l ≡ get_or layers i l →
+  -- or is left after
+  pub left_after : (layers : List LayerValue) (i : ℕ) (l : LayerValue) (b : Bool) → i < length layers → l ≡ get_or layers i l →
       has_block x l ≡ b → length (having x (take (i + 1) layers)) ≡ one_more b (length (having x (take i layers)))
-  left_behind layers i l b lt is has =
+  left_after layers i l b lt is has =
       let next : i + 1 ≡ suc i = omega arith in
       ap (λ m. length (having x (take m layers))) next ∙ asked layers i l (at_there layers i l lt is)
       ∙ ap (λ c. one_more c (length (having x (take i layers)))) has
@@ -295,15 +295,15 @@ alone_listed x n i layers seen l t alone o seen_is of is same by =
       by,
     )
 
--- one at a place behind the first isn't alone
+-- one at a place after the first isn't alone
 pub not_alone : (x : List ℕ) (n i : ℕ) (layers : List LayerValue) (l : LayerValue) → IsLayerOf (Some i) x n layers → l ≡ get_or layers i l →
     1 ≤ n → false ≡ nat_eq (length (having x layers)) 1
-not_alone x n i layers l of is behind =
+not_alone x n i layers l of is following =
     let at = the_layer x n i layers l of is in
-    let more : 2 ≤ length (having x layers) = omega (arith, counted x layers i l at.0 at.1, of.2, behind) in
+    let more : 2 ≤ length (having x layers) = omega (arith, counted x layers i l at.0 at.1, of.2, following) in
     sym (ne_eqb (length (having x layers)) 1 (λ e. omega (arith, more, e)))
 
--- the first is alone where no layer behind its own has the block
+-- the first is alone where no layer after its own has the block
 pub first_alone : (x : List ℕ) (n i : ℕ) (layers : List LayerValue) (l : LayerValue) (any : Bool) → IsLayerOf (Some i) x n layers →
     l ≡ get_or layers i l → n ≡ 0 → any ≡ list_any (has_block x) (drop (i + 1) layers) → not any ≡ nat_eq (length (having x layers)) 1
 first_alone x n i layers l any of is first by =
@@ -340,14 +340,14 @@ having_few x (l ∷ more) = by (has_block x l) (having_few x more)
     by true h = omega (arith, h)
     by false h = omega (arith, h)
 
-pub none_behind : (x : List ℕ) (n : ℕ) (layers : List LayerValue) → length layers ≤ n → slice_get (having x layers) (n + 1) ≡ None
-none_behind x n layers h =
+pub none_after : (x : List ℕ) (n : ℕ) (layers : List LayerValue) → length layers ≤ n → slice_get (having x layers) (n + 1) ≡ None
+none_after x n layers h =
     past x layers (n + 1) (length layers) (n + 1 - length (having x layers)) (omega arith)
     (let same : length (having x (take (length layers) layers)) ≡ length (having x layers) =
     ap (λ ls. length (having x ls)) (take_all (length layers) layers (omega arith)) in
     omega (arith, same, having_few x layers, h))
 
--- what is loaded, with a template more behind all others
+-- what is loaded, with a template more after all others
 pub one_loaded : (layers after : List LayerValue) (names : List (List ℕ)) (seen : LoadedValue) (t : TemplateId) (xs : List (List ℕ))
     (l : LayerValue) → after ≡ layers ++ l ∷ [] → l.template ≡ t → l.names ≡ xs →
     record { blocks = with_layers layers []; names = names } ≡ seen →

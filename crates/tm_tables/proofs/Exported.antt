@@ -16,7 +16,7 @@ use Rattle.tm_meaning.specs.World.{Bindings, choose, exported, is_exported}
 use Rattle.tm_tables.specs.Locals.{in_order}
 use Rattle.tm_tables.proofs.Ordered.{at_same, sorted-in_order}
 
--- ---------------------------------------------------------------- pairs one behind the other
+-- ---------------------------------------------------------------- pairs one after the other
 put_each-append : (m xs ys : List (Val × Val)) → maps.put_each m (xs ++ ys) ≡ maps.put_each (maps.put_each m xs) ys
 put_each-append m [] ys = refl
 put_each-append m (x ∷ xs) ys = put_each-append (maps.put x.0 x.1 m) xs ys
@@ -84,11 +84,11 @@ put_shown x a (p ∷ ps) e h = by (name_cmp x p.0) refl (put_shown x a ps e (sec
         ((text p.0 false, p.1) ∷ maps.put (text x false) a (exported ps))) c
     shown false o c = refl
 
-    behind : (b : Bool) → exported (put x a ps) ≡ maps.put (text x false) a (exported ps) →
+    after : (b : Bool) → exported (put x a ps) ≡ maps.put (text x false) a (exported ps) →
         choose b (λ _. (text p.0 false, p.1) ∷ exported (put x a ps)) (λ _. exported (put x a ps))
         ≡ choose b (λ _. (text p.0 false, p.1) ∷ maps.put (text x false) a (exported ps)) (λ _. maps.put (text x false) a (exported ps))
-    behind true r = ap (λ l. (text p.0 false, p.1) ∷ l) r
-    behind false r = r
+    after true r = ap (λ l. (text p.0 false, p.1) ∷ l) r
+    after false r = r
 
     by : (o : Ordering) → name_cmp x p.0 ≡ o → exported (put x a ps) ≡ maps.put (text x false) a (exported ps) →
         exported (match_ordering o ((x, a) ∷ p ∷ ps) ((p.0, a) ∷ ps) (p ∷ put x a ps)) ≡ maps.put (text x false) a (exported (p ∷ ps))
@@ -101,7 +101,7 @@ put_shown x a (p ∷ ps) e h = by (name_cmp x p.0) refl (put_shown x a ps e (sec
         ap (λ b. choose b (λ _. (text p.0 false, a) ∷ exported ps) (λ _. exported ps)) same
         ∙ sym (ap (λ b. maps.put (text x false) a (choose b (λ _. (text p.0 false, p.1) ∷ exported ps) (λ _. exported ps))) same
         ∙ shown true Equal c)
-    by Greater c r = behind (is_exported p.0) r ∙ sym (shown (is_exported p.0) Greater c)
+    by Greater c r = after (is_exported p.0) r ∙ sym (shown (is_exported p.0) Greater c)
 
 -- and one that isn't
 put_hidden : (x : List ℕ) (a : Val) (ps : Bindings) → is_exported x ≡ false → exported (put x a ps) ≡ exported ps

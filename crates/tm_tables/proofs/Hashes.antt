@@ -73,8 +73,8 @@ found_by x names (Err i) sorted within parted =
     by : (j : ℕ) → j < length names → (j < i) ⊎ (i ≤ j) → is_at (name_cmp x) (get_or names j []) ≡ false
     by j l (inl before) = at_by x (get_or names j []) false
         (ap is_eq ((parted (searchable_from_sorted hashed_total (λ (y : List ℕ). y) names x sorted)).0 j [] (omega arith) before))
-    by j l (inr behind) = at_by x (get_or names j []) false
-        (ap is_eq ((parted (searchable_from_sorted hashed_total (λ (y : List ℕ). y) names x sorted)).1 j [] behind l))
+    by j l (inr after) = at_by x (get_or names j []) false
+        (ap is_eq ((parted (searchable_from_sorted hashed_total (λ (y : List ℕ). y) names x sorted)).1 j [] after l))
 
 pub found_in : (x : List ℕ) (names lent seen : List (List ℕ)) (r : Result ℕ ℕ) → lent ≡ names → by_text names ≡ seen →
     IsSorted hashed_cmp names → IsSearchInRange r (length lent) → IsBinarySearchResult (λ y. hashed_cmp y x) lent r →

@@ -215,7 +215,7 @@ one-more None (Ok (Some v)) rest before after outer h = ap (λ b. Ok b) (sym (or
 one-more None (Ok None) rest before after outer h = outer ∙ ap (λ b. Ok b) (sym (or-false before)) ∙ h
 one-more None (Err chain) rest before after outer h = absurd (true≢false (ap is_ok (sym h)))
 
--- an inner scope's names stand behind those of the outer ones
+-- an inner scope's names stand after those of the outer ones
 pub scopes-more : (r : RecordData) (cs : List Bindings) (s : Scope) (ss : List Scope) (before after : List (List ℕ)) →
     AreFoundIn r cs ss before → AddsFound r cs (s ∷ []) before after → AreFoundIn r cs (s ∷ ss) after
 scopes-more r cs s ss before after outer adds view e f x =
@@ -256,27 +256,27 @@ fails-among r ss frames i s chain lt is all (inr (kind, unknown)) = inr (
       ∙ lacks-among r ss i s lt is unknown,
 )
 
--- ---------------------------------------------------------------- the globals behind the scopes
+-- ---------------------------------------------------------------- the globals after the scopes
 abbrev found_or : Answer Bool → Bool → Answer Bool
 found_or (Ok found) other = Ok (found || other)
 found_or (Err chain) other = Err chain
 
-globals-behind : (o : Answer (Option Val)) (global : Option Val) →
+globals-after : (o : Answer (Option Val)) (global : Option Val) →
     is_found (or_on_answer o (λ _. Ok global)) ≡ found_or (is_found o) (is_some global)
-globals-behind (Ok (Some v)) global = refl
-globals-behind (Ok None) global = refl
-globals-behind (Err chain) global = refl
+globals-after (Ok (Some v)) global = refl
+globals-after (Ok None) global = refl
+globals-after (Err chain) global = refl
 
--- What a look-up finds in the scopes, or behind them, are the names of both in their order.
-pub known-behind : (o : Answer (Option Val)) (x : List ℕ) (globals : Bindings) (scoped global joined ordered : List (Bor (List ℕ))) →
+-- What a look-up finds in the scopes, or after them, are the names of both in their order.
+pub known-after : (o : Answer (Option Val)) (x : List ℕ) (globals : Bindings) (scoped global joined ordered : List (Bor (List ℕ))) →
     is_found o ≡ Ok (is_among x (texts_of scoped)) →
     texts_of global ≡ keys_of globals → joined ≡ scoped ++ global → is_among x (texts_of ordered) ≡ is_among x (texts_of joined) →
     is_found (or_on_answer o (λ _. Ok (find_named x globals))) ≡ Ok (is_among x (texts_of ordered))
-known-behind o x globals scoped global joined ordered h of_globals both same =
+known-after o x globals scoped global joined ordered h of_globals both same =
     let all : is_among x (texts_of ordered) ≡ (is_among x (texts_of scoped) || is_among x (keys_of globals)) =
     same ∙ ap (λ names. is_among x (texts_of names)) both ∙ among-both x scoped global
     ∙ ap (λ names. is_among x (texts_of scoped) || is_among x names) of_globals in
-    globals-behind o (find_named x globals) ∙ ap (λ (a : Answer Bool). found_or a (is_some (find_named x globals))) h
+    globals-after o (find_named x globals) ∙ ap (λ (a : Answer Bool). found_or a (is_some (find_named x globals))) h
     ∙ ap (λ b. Ok (is_among x (texts_of scoped) || b)) (is_some-lookup (is_at (name_cmp x)) globals) ∙ ap (λ b. Ok b) (sym all)
 
 -- what is known in each view is known in this one

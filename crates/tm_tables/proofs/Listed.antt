@@ -7,7 +7,7 @@ use Rattle.tm_syntax.proofs.Named.{find_put, find_put_other, same_or_not}
 use Rattle.std.specs.Prelude.{Result, Ok, Err, OnOk, is_err}
 use Rattle.tm_tables.specs.Lists.{HasNames}
 
--- a name behind others
+-- a name after others
 among_more : (x y : List ℕ) (names : List (List ℕ)) → is_among x (names ++ y ∷ []) ≡ (same_name x y || is_among x names)
 among_more x y [] = refl
 among_more x y (z ∷ zs) = ap (λ b. same_name x z || b) (among_more x y zs) ∙ swapped (same_name x z) (same_name x y) (is_among x zs)

@@ -1,11 +1,11 @@
--- The functions of the language by their numbers, and what stands behind them.
+-- The functions of the language by their numbers, and what stands after them.
 use Rattle.std.proofs.Common.{◌≡◌, ℕ, zero, suc, ◌≤◌, List, [], ◌∷◌, ◌++◌, length, Some, true, arith, refl, ap, ◌∙◌}
 use Rattle.std.specs.Prelude.{slice_get, ◌-◌, map as each}
 use Rattle.tm_meaning.specs.World.{Function, languages}
 use Rattle.tm_meaning.specs.declared.function.GlobalFunction.{GlobalFunction}
 use Rattle.tm_meaning.specs.declared.function.GlobalFunction.TheVariants as own
 use Rattle.tm_tables.specs.Language.{language}
-use Rattle.tm_tables.specs.Stated.{behind_language}
+use Rattle.tm_tables.specs.Stated.{after_language}
 
 -- every function of the language has a number
 pub numbered : (g : GlobalFunction) → (n : ℕ) × (slice_get (each (λ f. f.1) language) n ≡ Some g)
@@ -21,14 +21,14 @@ before-any (f ∷ own) fs zero g h = cc
 before-any (f ∷ own) fs (suc n) g h = before-any own fs n g h
 
 pub before : (fs : List Function) (n : ℕ) (g : GlobalFunction) → slice_get (each (λ f. f.1) language) n ≡ Some g →
-    slice_get (behind_language true fs) n ≡ Some (languages g)
+    slice_get (after_language true fs) n ≡ Some (languages g)
 before fs n g h = before-any language fs n g h
 
-behind-any : (own : List (List ℕ × GlobalFunction)) (fs : List Function) (n : ℕ) → length own ≤ n →
+after-any : (own : List (List ℕ × GlobalFunction)) (fs : List Function) (n : ℕ) → length own ≤ n →
     slice_get (each (λ f. languages f.1) own ++ fs) n ≡ slice_get fs (n - length own)
-behind-any [] fs n h = ap (slice_get fs) (omega arith)
-behind-any (f ∷ own) fs zero h = absurd (omega (arith, h))
-behind-any (f ∷ own) fs (suc n) h = behind-any own fs n (omega (arith, h)) ∙ ap (slice_get fs) (omega arith)
+after-any [] fs n h = ap (slice_get fs) (omega arith)
+after-any (f ∷ own) fs zero h = absurd (omega (arith, h))
+after-any (f ∷ own) fs (suc n) h = after-any own fs n (omega (arith, h)) ∙ ap (slice_get fs) (omega arith)
 
-pub behind : (fs : List Function) (n : ℕ) → length language ≤ n → slice_get (behind_language true fs) n ≡ slice_get fs (n - length language)
-behind fs n h = behind-any language fs n h
+pub after : (fs : List Function) (n : ℕ) → length language ≤ n → slice_get (after_language true fs) n ≡ slice_get fs (n - length language)
+after fs n h = after-any language fs n h

@@ -124,17 +124,17 @@ module _ {A : Type 0} where
   found_first true u rest h = absurd (true≢false (ap is_some h))
   found_first false u rest h = (refl, h)
 
-  -- behind pairs with other names
-  behind : (x : List ℕ) (a : A) (before ps qs : Named A) → find x before ≡ None → With x a ps qs → With x a (before ++ ps) (before ++ qs)
-  behind x a [] ps qs h more z = more z
-  behind x a (p ∷ before) ps qs h more z =
+  -- after pairs with other names
+  after : (x : List ℕ) (a : A) (before ps qs : Named A) → find x before ≡ None → With x a ps qs → With x a (before ++ ps) (before ++ qs)
+  after x a [] ps qs h more z = more z
+  after x a (p ∷ before) ps qs h more z =
       let first = found_first (is_at (name_cmp x) p.0) p.1 (find x before) h in
-      ap (cond (is_at (name_cmp z) p.0) (Some p.1)) (behind x a before ps qs first.1 more z) ∙ over_other z x a p (before ++ ps) first.0
+      ap (cond (is_at (name_cmp z) p.0) (Some p.1)) (after x a before ps qs first.1 more z) ∙ over_other z x a p (before ++ ps) first.0
 
-  pub put_behind : (x : List ℕ) (a : A) (ps qs : Named A) → find x ps ≡ None →
+  pub put_after : (x : List ℕ) (a : A) (ps qs : Named A) → find x ps ≡ None →
       in_order ((ps ++ (x, a) ∷ []) ++ qs) ≡ put x a (in_order (ps ++ qs))
-  put_behind x a ps qs h = ap in_order (append_assoc ps ((x, a) ∷ []) qs)
-      ∙ in_order-with x a (ps ++ qs) (ps ++ (x, a) ∷ qs) (behind x a ps qs ((x, a) ∷ qs) h (λ z. refl))
+  put_after x a ps qs h = ap in_order (append_assoc ps ((x, a) ∷ []) qs)
+      ∙ in_order-with x a (ps ++ qs) (ps ++ (x, a) ∷ qs) (after x a ps qs ((x, a) ∷ qs) h (λ z. refl))
 
   pub find-hashed : (z : List ℕ) (ps : Named A) → lookup (is_at (hashed_cmp z)) ps ≡ find z ps
   find-hashed z [] = refl
@@ -156,7 +156,7 @@ module _ {A : Type 0} where
   pub put_among : (x : List ℕ) (a : A) (ps qs : Named A) → find x ps ≡ None →
       in_order (ps ++ insert_entry hashed_cmp qs x a) ≡ put x a (in_order (ps ++ qs))
   put_among x a ps qs h = in_order-with x a (ps ++ qs) (ps ++ insert_entry hashed_cmp qs x a)
-      (behind x a ps qs (insert_entry hashed_cmp qs x a) h (hashed-put x a qs))
+      (after x a ps qs (insert_entry hashed_cmp qs x a) h (hashed-put x a qs))
 
   replaced : (x : List ℕ) (a : A) (k : List ℕ) (ps qs : Named A) (n : ℕ) → k ≡ x → IsPlace x ps (Some n) →
       With x a (ps ++ qs) (slice_set ps n (k, a) ++ qs)
@@ -228,8 +228,8 @@ module _ {A : Type 0} where
   pair_gone z x (p ∷ ps) (suc n) apart h = ap (cond (is_at (name_cmp z) p.0) (Some p.1)) (pair_gone z x ps n apart h)
 
   -- what is found
-  pub found_behind : (x : List ℕ) (ps qs : Named A) → find x ps ≡ None → find x (in_order (ps ++ qs)) ≡ find x qs
-  found_behind x ps qs h = find-in_order x (ps ++ qs) ∙ by ps h
+  pub found_after : (x : List ℕ) (ps qs : Named A) → find x ps ≡ None → find x (in_order (ps ++ qs)) ≡ find x qs
+  found_after x ps qs h = find-in_order x (ps ++ qs) ∙ by ps h
     where
       by : (ps : Named A) → find x ps ≡ None → find x (ps ++ qs) ≡ find x qs
       by [] h = refl
@@ -286,14 +286,14 @@ pub none_of : {A : Type 0} (o : Option A) → is_some o ≡ false → o ≡ None
 none_of None e = refl
 none_of (Some a) e = absurd (true≢false e)
 
-pub replaced_behind : {T E : Type 0} (r : Result T E) (done : Bool) (x : List ℕ) (v : Val) (ps qs more : Named Val) → done ≡ is_ok r →
+pub replaced_after : {T E : Type 0} (r : Result T E) (done : Bool) (x : List ℕ) (v : Val) (ps qs more : Named Val) → done ≡ is_ok r →
     OnErr r (lookup (is_at (hashed_cmp x)) qs ≡ None) → is_some (lookup (is_at (hashed_cmp x)) qs) ≡ true →
     OnOk r (more ≡ insert_entry hashed_cmp qs x v) → find x ps ≡ None →
     IsReplaced done x v (in_order (ps ++ qs)) (in_order (ps ++ more))
-replaced_behind (Ok t) done x v ps qs more is absent there put_in none =
+replaced_after (Ok t) done x v ps qs more is absent there put_in none =
     subst (λ b. IsReplaced b x v (in_order (ps ++ qs)) (in_order (ps ++ more))) (sym is)
     (ap (λ l. in_order (ps ++ l)) put_in ∙ put_among x v ps qs none)
-replaced_behind (Err e) done x v ps qs more is absent there put_in none = absurd (true≢false (sym there ∙ ap is_some absent))
+replaced_after (Err e) done x v ps qs more is absent there put_in none = absurd (true≢false (sym there ∙ ap is_some absent))
 
 -- ---------------------------------------------------------------- the names alone
 abbrev units : List (List ℕ) → Named ℕ

@@ -57,10 +57,10 @@ module _ {A : Type 0} where
   above-at x (p ∷ ps) zero d a h = a.0
   above-at x (p ∷ ps) (suc i) d a h = above-at x ps i d a.1 (omega arith)
 
-  -- a name behind the first is above it
-  behind_first : (x : List ℕ) (p : List ℕ × A) (ps : Named A) (i : ℕ) (d : List ℕ × A) → AreAbove p.0 ps → i < length ps →
+  -- a name after the first is above it
+  after_first : (x : List ℕ) (p : List ℕ × A) (ps : Named A) (i : ℕ) (d : List ℕ × A) → AreAbove p.0 ps → i < length ps →
       name_cmp (get_or ps i d).0 x ≡ Equal → name_cmp x p.0 ≡ Greater
-  behind_first x p ps i d a h same =
+  after_first x p ps i d a h same =
       turned p.0 x Less (sym (alike_right nat_list_cmp_total (get_or ps i d).0 x p.0 same) ∙ above-at p.0 ps i d a h)
 
   -- a name that is there is found
@@ -70,7 +70,7 @@ module _ {A : Type 0} where
   find-there x (p ∷ ps) zero d o t = rw (turned p.0 x Equal (t.same_name d))
   find-there x (p ∷ ps) (suc i) d o t =
       let within : i < length ps = omega (arith, t.in_range) in
-      rw (behind_first x p ps i d o.0 within (t.same_name d))
+      rw (after_first x p ps i d o.0 within (t.same_name d))
       (find-there x ps i d o.1 (record { in_range = within; same_name = λ e. t.same_name e }))
 
   pub find-read : (x : List ℕ) (ps : Named A) (i : ℕ) (p : List ℕ × A) → AreOrdered ps → IsNameAt x ps i → p ≡ get_or ps i p →
@@ -103,7 +103,7 @@ module _ {A : Type 0} where
   put-there x a (p ∷ ps) zero d o t = rw (turned p.0 x Equal (t.same_name d))
   put-there x a (p ∷ ps) (suc i) d o t =
       let within : i < length ps = omega (arith, t.in_range) in
-      rw (behind_first x p ps i d o.0 within (t.same_name d))
+      rw (after_first x p ps i d o.0 within (t.same_name d))
       (ap (λ l. p ∷ l) (put-there x a ps i d o.1 (record { in_range = within; same_name = λ e. t.same_name e })))
 
   put-read : (x : List ℕ) (a : A) (ps : Named A) (i : ℕ) (p : List ℕ × A) → AreOrdered ps → IsNameAt x ps i → p ≡ get_or ps i p →
@@ -234,7 +234,7 @@ module _ {A : Type 0} where
   without-there x (p ∷ ps) zero o t = rw (turned p.0 x Equal (t.same_name p)) refl
   without-there x (p ∷ ps) (suc i) o t =
       let within : i < length ps = omega (arith, t.in_range) in
-      rw (behind_first x p ps i p o.0 within (t.same_name p))
+      rw (after_first x p ps i p o.0 within (t.same_name p))
       (ap (λ l. p ∷ l) (without-there x ps i o.1 (record { in_range = within; same_name = λ e. t.same_name e })))
 
   above_case-without : (b : Bool) (x y : List ℕ) (p : List ℕ × A) (ps : Named A) → AreAbove x (p ∷ ps) → AreAbove x (without y ps) →

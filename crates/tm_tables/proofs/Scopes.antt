@@ -13,29 +13,29 @@ use Rattle.tm_meaning.specs.World.{Scope, Scopes, stored_in, owning, without_loc
 use Rattle.tm_meaning.specs.Calls.{outermost, root_context}
 use Rattle.tm_tables.specs.Scopes.{exported_by, exported_of}
 
-exported-behind : (s : Scope) (ss : List Scope) → exported_of (ss ++ s ∷ []) ≡ exported_by s
-exported-behind s [] = refl
-exported-behind s (t ∷ []) = refl
-exported-behind s (t ∷ u ∷ ss) = exported-behind s (u ∷ ss)
+exported-after : (s : Scope) (ss : List Scope) → exported_of (ss ++ s ∷ []) ≡ exported_by s
+exported-after s [] = refl
+exported-after s (t ∷ []) = refl
+exported-after s (t ∷ u ∷ ss) = exported-after s (u ∷ ss)
 
 pub exported-first : (s : Scope) (ss : List Scope) → Some s ≡ slice_get ss 0 → exported_of (reverse ss) ≡ exported_by s
 exported-first s [] h = absurd (true≢false (ap is_some h))
 exported-first s (t ∷ ss) h =
-    ap exported_of (reverse_onto ss t []) ∙ exported-behind t (reverse ss) ∙ ap (λ o. exported_by (unwrap_or o s)) (sym h)
+    ap exported_of (reverse_onto ss t []) ∙ exported-after t (reverse ss) ∙ ap (λ o. exported_by (unwrap_or o s)) (sym h)
 
 pub exported-none : (ss : List Scope) → None ≡ slice_get ss 0 → exported_of (reverse ss) ≡ []
 exported-none [] h = refl
 exported-none (t ∷ ss) h = absurd (true≢false (ap is_some (sym h)))
 
-root-behind : (s : Scope) (ss : List Scope) → root_context (ss ++ s ∷ []) ≡ s.context
-root-behind s [] = refl
-root-behind s (t ∷ []) = refl
-root-behind s (t ∷ u ∷ ss) = root-behind s (u ∷ ss)
+root-after : (s : Scope) (ss : List Scope) → root_context (ss ++ s ∷ []) ≡ s.context
+root-after s [] = refl
+root-after s (t ∷ []) = refl
+root-after s (t ∷ u ∷ ss) = root-after s (u ∷ ss)
 
 pub root-first : (s : Scope) (ss : List Scope) → Some s ≡ slice_get ss 0 → root_context (reverse ss) ≡ s.context
 root-first s [] h = absurd (true≢false (ap is_some h))
 root-first s (t ∷ ss) h =
-    ap root_context (reverse_onto ss t []) ∙ root-behind t (reverse ss) ∙ ap (λ o. (unwrap_or o s).context) (sym h)
+    ap root_context (reverse_onto ss t []) ∙ root-after t (reverse ss) ∙ ap (λ o. (unwrap_or o s).context) (sym h)
 
 -- ---------------------------------------------------------------- the innermost scope is the last to be entered
 stored-before : (x : List ℕ) (v : Val) (ss ts : List Scope) → 0 < length ss → stored_in x v ss ++ ts ≡ stored_in x v (ss ++ ts)

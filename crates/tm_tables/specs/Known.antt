@@ -31,7 +31,7 @@ abbrev pub AreFoundIn : RecordData → List Bindings → List Scope → List (Li
 AreFoundIn records closures scopes names =
     (view : View) → view.records ≡ records → view.closures ≡ closures → AreFound (λ x. in_frames view x scopes) names
 
--- The same of the scopes, and of the globals behind them.
+-- The same of the scopes, and of the globals after them.
 abbrev pub AreKnownIn : RecordData → List Bindings → List Scope → Bindings → List (List ℕ) → Type 0
 AreKnownIn records closures scopes globals names = (view : View) → view.records ≡ records → view.closures ≡ closures →
     AreFound (find_name (record view { frames = scopes; globals = globals })) names
@@ -41,7 +41,7 @@ abbrev pub or_else_found : Bool → Answer Bool → Answer Bool
 or_else_found before (Ok found) = Ok (before || found)
 or_else_found before (Err chain) = Err chain
 
--- Behind names stand those that a look-up in the scopes finds, in each view of these records and closures.
+-- After names stand those that a look-up in the scopes finds, in each view of these records and closures.
 abbrev pub AddsFound : RecordData → List Bindings → List Scope → List (List ℕ) → List (List ℕ) → Type 0
 AddsFound records closures scopes before after =
     (view : View) → view.records ≡ records → view.closures ≡ closures → (x : List ℕ) →
@@ -64,7 +64,7 @@ lacks_record records v = false
 abbrev pub one_lacks_record : RecordData → List Scope → Bool
 one_lacks_record records scopes = list_any (λ (s : Scope). lacks_record records s.context) scopes
 
--- Why the names weren't told: there was no memory, or a scope's context value can't be known.
+-- Why the names weren't given: there was no memory, or a scope's context value can't be known.
 abbrev pub NamingFails : RecordData → List Scope → List ErrorKind → Type 0
 NamingFails records scopes chain =
     (chain ≡ OutOfMemory ∷ []) ⊎ ((chain ≡ InvalidOperation ∷ []) × (one_lacks_record records scopes ≡ true))

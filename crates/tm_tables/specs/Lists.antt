@@ -9,7 +9,7 @@ use Rattle.tm_syntax.specs.Named.{Named, find, put}
 use Rattle.tm_syntax.specs.Names.{is_among}
 use Rattle.tm_meaning.specs.World.{Template}
 use Rattle.tm_meaning.specs.declared.stream.TemplateId.{TemplateId}
-use Rattle.tm_meaning.specs.Inheritance.{behind_all}
+use Rattle.tm_meaning.specs.Inheritance.{after_all}
 use Rattle.tm_tables.specs.Layers.{LayerValue}
 use Rattle.tm_tables.specs.declared.template_entry.TemplateEntry.{TemplateEntry}
 
@@ -48,9 +48,9 @@ pub record Layers : Type 0 where
   pub templates : List TemplateId
   pub place : ℕ
 
--- a template's block stands behind those of its name
+-- a template's block stands after those of its name
 abbrev pub with_block : TemplateId → List ℕ → Named (List TemplateId) → Named (List TemplateId)
-with_block t x ls = put x (behind_all t (find x ls)) ls
+with_block t x ls = put x (after_all t (find x ls)) ls
 
 -- and so do its blocks of these names
 abbrev pub with_each : TemplateId → List (List ℕ) → Named (List TemplateId) → Named (List TemplateId)
@@ -61,7 +61,7 @@ with_each t (x ∷ xs) ls = with_each t xs (with_block t x ls)
 abbrev pub alone_in : TemplateId → List (List ℕ) → Named (List TemplateId)
 alone_in t xs = each (λ (x : List ℕ). (x, t ∷ [])) xs
 
--- and so do those of the templates of a chain, one behind the other
+-- and so do those of the templates of a chain, one after the other
 abbrev pub with_layers : List LayerValue → Named (List TemplateId) → Named (List TemplateId)
 with_layers [] ls = ls
 with_layers (l ∷ more) ls = with_layers more (with_each l.template l.names ls)

@@ -15,17 +15,17 @@ use Rattle.tm_tables.specs.Language.{language}
 use Rattle.tm_tables.specs.declared.callable.Called.{Called}
 use Rattle.tm_tables.specs.declared.callable.Called.TheVariants as called
 
--- The reply is want of memory.
+-- The reply is OutOfMemory.
 abbrev pub is_for_memory : Reply → Bool
 is_for_memory (gives v) = false
 is_for_memory (faults chain) = is_want_of_memory chain
 is_for_memory (asks_for c) = false
 
--- The answer is the stated one, unless it is want of memory.
+-- The answer is the stated one, unless it is OutOfMemory.
 abbrev pub IsStated : Stated → Stated → Type 0
 IsStated answer stated = is_for_memory answer.reply ≡ false → answer ≡ stated
 
--- A formatter's answer is the stated one, unless it is want of memory.
+-- A formatter's answer is the stated one, unless it is OutOfMemory.
 abbrev pub IsFormatted : Result (String Global) (List ErrorKind) → Answer (List ℕ) → Type 0
 IsFormatted (Ok text) stated = stated ≡ Ok (string_bytes text)
 IsFormatted (Err chain) stated = is_want_of_memory chain ≡ false → stated ≡ Err chain
@@ -80,7 +80,7 @@ no_functions escaping = no_objects false escaping
 abbrev pub language_functions : {C M F R J : Type 0} → R → Table C M F R J
 language_functions escaping = no_objects true escaping
 
--- an object more, behind all others
+-- an object more, after all others
 abbrev pub with_object : {C M F R J : Type 0} → C → Table C M F R J → Table C M F R J
 with_object object t = record t { objects = t.objects ++ object ∷ [] }
 
@@ -124,12 +124,12 @@ next_number t = language_count t.language + length t.objects
 abbrev pub callables : {C : Type 0} → (C → Object) → List C → List Function
 callables answers cs = each (λ c. callers (answers c)) cs
 
-abbrev pub behind_language : Bool → List Function → List Function
-behind_language false fs = fs
-behind_language true fs = each (λ f. languages f.1) language ++ fs
+abbrev pub after_language : Bool → List Function → List Function
+after_language false fs = fs
+after_language true fs = each (λ f. languages f.1) language ++ fs
 
 abbrev pub functions_of : {C M F R J : Type 0} → (C → Object) → Table C M F R J → List Function
-functions_of answers t = behind_language t.language (callables answers t.objects)
+functions_of answers t = after_language t.language (callables answers t.objects)
 
 -- what callables by name are
 abbrev pub named_objects : {C : Type 0} → (C → Object) → Named C → Named Object
@@ -161,7 +161,7 @@ stated_of answers falls formats rules joins t = record {
 -- the functions of the language, these escapes, names as they are written, and no object of the caller
 abbrev pub language_alone : (List ℕ → AutoEscape) → StatedObjects
 language_alone escapes = record {
-  functions = behind_language true [];
+  functions = after_language true [];
   filters = [];
   tests = [];
   unknown_method = None;

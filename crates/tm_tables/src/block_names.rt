@@ -11,7 +11,7 @@ use std::marker::Model;
 use tm_syntax::{BlockCode, Name, NameMap};
 use tm_values::Error;
 
-/// The names of these blocks, in their order. AllocError for want of memory.
+/// The names of these blocks, in their order. AllocError when out of memory.
 fn names_of(alloc: Global, blocks: &NameMap<BlockCode>) -> Result<Vec<Name>, AllocError>
     ensures { IfOk result (λ names. names.items ≡ keys_of blocks.now) }
 {

@@ -45,7 +45,7 @@ impl BlockStack {
         self.templates.get(self.place)
     }
 
-    /// The place behind that one, toward the root, and the template there, where there is one.
+    /// The place after that one, toward the root, and the template there, where there is one.
     pub fn next(&self) -> Option<(usize, &TemplateId)>
         ensures { MatchOption result (slice_get self.now.templates (self.now.place + 1) ≡ None)
             (λ r. (r.0 ≡ self.now.place + 1)
@@ -61,7 +61,7 @@ impl BlockStack {
         }
     }
 
-    /// Means the block of the next template, toward the root. False where there is none behind the present one, and then
+    /// Means the block of the next template, toward the root. False where there is none after the present one, and then
     /// all stays as it was.
     pub fn push(&mut self) -> bool
         ensures moved { OrStays result self.old self.new
@@ -103,7 +103,7 @@ impl BlockStack {
         self.place = place;
     }
 
-    /// The same templates and place. AllocError for want of memory.
+    /// The same templates and place. AllocError when out of memory.
     pub fn copy(&self, alloc: Global) -> Result<BlockStack, AllocError>
         ensures { IfOk result (λ s. s ≡ self.now) }
     {

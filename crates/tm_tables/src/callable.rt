@@ -102,7 +102,7 @@ impl CallableAnswer {
         }
     }
 
-    /// One value more to keep, behind the others; a fault of OutOfMemory where there is no memory for it.
+    /// One value more to keep, after the others; a fault of OutOfMemory where there is no memory for it.
     pub fn keep(self, alloc: Global, name: &str, value: Value) -> CallableAnswer
         ensures { IsStated result (keeping name.now value self) }
     {
@@ -130,7 +130,7 @@ pub enum Called {
 pub trait Callable: Drop {
     ghost answers: { Self → List Val → Seen → Stated };
 
-    /// What it states of these arguments; OutOfMemory where there is no memory for it, alone or behind
+    /// What it states of these arguments; OutOfMemory where there is no memory for it, alone or after
     /// EvalBlock, BadInclude or InvalidOperation.
     fn call(&self, alloc: Global, args: &[Value], view: &View<'_>) -> CallableAnswer
         ensures { IsStated result (answers self.now args.now view.now) };

@@ -70,7 +70,7 @@ impl Closures {
         }
     }
 
-    /// One closure more, behind all others, which has a name alone. Fails by OutOfMemory alone, and then they stay as
+    /// One closure more, after all others, which has a name alone. Fails by OutOfMemory alone, and then they stay as
     /// they were.
     pub fn add(&mut self, alloc: Global, name: Name, value: Value) -> Result<(), Error>
         ensures ok { OnOk result (self.new ≡ self.old ++ ((name, value) ∷ []) ∷ []) }

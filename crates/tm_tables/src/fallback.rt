@@ -14,7 +14,7 @@ pub trait MethodFallback: Drop {
     ghost answers: { Self → Fallback };
 
     /// What it states of a value's method of this name and these arguments; OutOfMemory where there is no memory
-    /// for it, alone or behind EvalBlock, BadInclude or InvalidOperation.
+    /// for it, alone or after EvalBlock, BadInclude or InvalidOperation.
     fn call(
         &self,
         alloc: Global,

@@ -13,7 +13,7 @@ pub trait Formatter: Drop {
     ghost formats: { Self → Format };
 
     /// The text that it states for a value, or the fault that it states; OutOfMemory where there is no memory for
-    /// it, alone or behind EvalBlock, BadInclude or InvalidOperation.
+    /// it, alone or after EvalBlock, BadInclude or InvalidOperation.
     fn format(&self, alloc: Global, value: &Value, view: &View<'_>) -> Result<String, Error>
         ensures { IsFormatted result (formats self.now value.now view.now) };
 }

@@ -291,7 +291,7 @@ impl Frame {
     }
 }
 
-/// Adds the texts among the keys of a map. AllocError for want of memory.
+/// Adds the texts among the keys of a map. AllocError when out of memory.
 fn add_texts<'a>(pairs: &'a [(Value, Value)], names: &mut Vec<&'a str>) -> Result<(), AllocError>
     ensures { OnOk result ((x : _) → is_among x (texts_of names.new.items)
         ≡ (is_among x (texts_of names.old.items) || has_text x pairs.now)) }

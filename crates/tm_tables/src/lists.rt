@@ -20,7 +20,7 @@ use tm_syntax::Name;
 use tm_values::{Error, ErrorKind};
 
 impl NameTable<usize> {
-    /// The same places. AllocError for want of memory.
+    /// The same places. AllocError when out of memory.
     #[inline(always)]
     fn copy(&self, alloc: Global) -> Result<NameTable<usize>, AllocError>
         ensures { IfOk result (λ copy. copy ≡ self.now) }
@@ -86,14 +86,14 @@ impl Lists {
         }
     }
 
-    /// The place behind this one in the list of a name, toward the root, and the template there, where there is one.
-    pub fn behind(&self, name: &Name, place: usize) -> Option<(usize, &TemplateId)>
+    /// The place after this one in the list of a name, toward the root, and the template there, where there is one.
+    pub fn after(&self, name: &Name, place: usize) -> Option<(usize, &TemplateId)>
         ensures { MatchOption result (listed_at name.now (place + 1) self.now.blocks ≡ None)
             (λ r. (r.0 ≡ place + 1) × ((l : List Template) × (find name.now self.now.blocks ≡ Some l)
             × (slice_get l (place + 1) ≡ Some r.1.now))) }
     {
         match &self.loaded {
-            Some(loaded) => loaded.as_ref().behind(name, place),
+            Some(loaded) => loaded.as_ref().after(name, place),
             None => None,
         }
     }
@@ -148,7 +148,7 @@ impl Lists {
         mem::swap(&mut self.places, places);
     }
 
-    /// A template's blocks of these names stand behind those that are there. Fails by OutOfMemory alone, and then all
+    /// A template's blocks of these names stand after those that are there. Fails by OutOfMemory alone, and then all
     /// stays as it was.
     pub fn append(
         &mut self,

@@ -51,7 +51,7 @@ fn has_from(layers: &[Layer], from: usize, name: &Name) -> bool
     false
 }
 
-/// The same layers. AllocError for want of memory.
+/// The same layers. AllocError when out of memory.
 fn copy_layers(alloc: Global, layers: &[Layer]) -> Result<Vec<Layer>, AllocError>
     ensures { IfOk result (λ copy. copy.items ≡ layers.now) }
 {
@@ -118,8 +118,8 @@ impl Loaded {
         }
     }
 
-    /// The place behind this one in the list of a name, toward the root, and the template there, where there is one.
-    pub(crate) fn behind(&self, name: &Name, place: usize) -> Option<(usize, &TemplateId)>
+    /// The place after this one in the list of a name, toward the root, and the template there, where there is one.
+    pub(crate) fn after(&self, name: &Name, place: usize) -> Option<(usize, &TemplateId)>
         ensures { MatchOption result (listed_at name.now (place + 1) self.now.blocks ≡ None)
             (λ r. (r.0 ≡ place + 1) × ((l : List Template) × (find name.now self.now.blocks ≡ Some l)
             × (slice_get l (place + 1) ≡ Some r.1.now))) }
@@ -144,7 +144,7 @@ impl Loaded {
         }
     }
 
-    /// A template's blocks of these names stand behind those that are there. Fails by OutOfMemory alone, and then all
+    /// A template's blocks of these names stand after those that are there. Fails by OutOfMemory alone, and then all
     /// stays as it was.
     pub(crate) fn append(
         &mut self,

@@ -18,7 +18,7 @@ use std::marker::Model;
 use tm_syntax::Name;
 use tm_values::{Error, Node, Value, ValueMap};
 
-/// How many names are told apart by their hashes, one after the other. An index has those behind them, so
+/// How many names are told apart by their hashes, one after the other. An index has those after them, so
 /// that no scope with many names is slow.
 const SCANNED: usize = 8;
 
@@ -59,7 +59,7 @@ fn forget(pairs: &mut Vec<(Name, Value)>, name: &Name)
     }
 }
 
-/// Puts a second owner of a value behind those that are there, with its name as its key, where the name is exported.
+/// Puts a second owner of a value after those that are there, with its name as its key, where the name is exported.
 /// Fails by OutOfMemory alone.
 fn add_exported(
     alloc: Global,
@@ -123,7 +123,7 @@ impl Locals {
         }
     }
 
-    /// Lets a name stand for this, in place of what it stood for. AllocError for want of memory, and all stays as it was.
+    /// Lets a name stand for this, in place of what it stood for. AllocError when out of memory, and all stays as it was.
     pub(crate) fn insert(&mut self, name: Name, value: Value) -> Result<(), AllocError>
         ensures ok { OnOk result (self.new ≡ put name value self.old) }
         ensures err { OnErr result (self.new ≡ self.old) }
@@ -213,7 +213,7 @@ impl Locals {
         }
     }
 
-    /// The names, in their order. AllocError for want of memory.
+    /// The names, in their order. AllocError when out of memory.
     pub(crate) fn names(&self, alloc: Global) -> Result<Vec<&str>, AllocError>
         ensures { IfOk result (λ names. texts_of names.items ≡ keys_of self.now) }
     {

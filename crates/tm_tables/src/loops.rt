@@ -85,7 +85,7 @@ impl LoopState {
         self.items.get(self.turns)
     }
 
-    /// Asks for the next item, or for none behind the last one.
+    /// Asks for the next item, or for none after the last one.
     pub fn turn(&mut self)
         ensures { self.new ≡ turned self.old }
     {
@@ -147,7 +147,7 @@ impl LoopState {
         Ok(true)
     }
 
-    /// The argument whose turn it is at its item, from the first again behind the last; undefined before the
+    /// The argument whose turn it is at its item, from the first again after the last; undefined before the
     /// first item, and where there is no argument. Fails by OutOfMemory alone.
     pub fn cycle(&self, args: &[Value]) -> Result<Value, Error>
         ensures { OkOrOutOfMemory result (λ v. v ≡ cycled (place_of self.now.turns) args.now) }
@@ -179,7 +179,7 @@ impl LoopState {
         self.items.get(self.turns.checked_sub(2)?)
     }
 
-    /// The item behind its own, where there is one.
+    /// The item after its own, where there is one.
     pub fn following_item(&self) -> Option<&Value>
         ensures { IsLent result (loop_data self.now).following }
     {
@@ -211,7 +211,7 @@ pub fn previous_at(loops: &[LoopState], index: usize) -> Option<&Value>
     }
 }
 
-/// The item behind that of the loop of a number, where there is one.
+/// The item after that of the loop of a number, where there is one.
 pub fn following_at(loops: &[LoopState], index: usize) -> Option<&Value>
     ensures { IsLent result
         (option_and_then (λ l. l.following) (slice_get (map loop_data loops.now) index)) }

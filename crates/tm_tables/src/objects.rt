@@ -307,7 +307,7 @@ impl<C: Callable, M: MethodFallback, F: Formatter, R: EscapeRule, J: PathJoin> P
 
     ghost stated = { stated_of C.answers M.answers F.formats R.escapes J.joins };
 
-    #[tactic(auto, using(crate::proofs::Numbers::behind, crate::proofs::Numbers::before))]
+    #[tactic(auto, using(crate::proofs::Numbers::after, crate::proofs::Numbers::before))]
     fn call_function(
         &self,
         alloc: Global,

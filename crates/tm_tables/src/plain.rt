@@ -13,7 +13,7 @@ use tm_values::Value;
 pub trait Answering: Drop {
     ghost answers: { Self → List Val → Stated };
 
-    /// What it states of these arguments; OutOfMemory where there is no memory for it, alone or behind
+    /// What it states of these arguments; OutOfMemory where there is no memory for it, alone or after
     /// EvalBlock, BadInclude or InvalidOperation.
     fn answer(&self, alloc: Global, args: &[Value]) -> CallableAnswer
         ensures { IsStated result (answers self.now args.now) };

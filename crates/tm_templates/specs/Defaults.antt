@@ -4,14 +4,14 @@ use Rattle.std.specs.Prelude.{codes}
 use Rattle.std.specs.Option.{option_or}
 use Rattle.tm_values.specs.declared.escape.AutoEscape.{AutoEscape}
 use Rattle.tm_values.specs.declared.escape.AutoEscape.TheVariants as escapes
-use Rattle.tm_delimiters.specs.Front.{behind}
+use Rattle.tm_delimiters.specs.Front.{after}
 use Rattle.tm_meaning.specs.World.{or_is}
 use Rattle.tm_templates.specs.declared.defaults.EscapeSetting.{EscapeSetting}
 use Rattle.tm_templates.specs.declared.defaults.EscapeSetting.TheVariants as setting
 
 -- what stands before a word that the text ends with
 abbrev pub before : List ℕ → List ℕ → Option (List ℕ)
-before word text = option_map reverse (behind (reverse word) (reverse text))
+before word text = option_map reverse (after (reverse word) (reverse text))
 
 -- a name without the one ending that says only that it is a template's
 abbrev pub stem_of : List ℕ → List ℕ

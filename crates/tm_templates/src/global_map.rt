@@ -11,7 +11,7 @@ use std::marker::Model;
 use tm_compiler::{Name, NameMap};
 use tm_values::{Error, Value};
 
-/// The names of these values, in their order. AllocError for want of memory.
+/// The names of these values, in their order. AllocError when out of memory.
 fn names_of(alloc: Global, values: &NameMap<Value>) -> Result<Vec<Name>, AllocError>
     ensures { IfOk result (λ names. names.items ≡ keys_of values.now) }
 {

@@ -1,4 +1,4 @@
--- Answers behind a test for being undefined.
+-- Answers after a test for being undefined.
 use Rattle.std.proofs.Common.{◌≡◌, List, Option, None, Some, Ok, Err}
 use Rattle.tm_values.specs.Defined.{unless}
 use Rattle.tm_values.specs.Answer.{Answer, IsAnswer}

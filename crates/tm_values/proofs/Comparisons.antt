@@ -43,11 +43,11 @@ module _ (left below : List Uncompared) (f : Uncompared) (is : left ≡ below ++
   pub innermost_weight : left_weight left ≡ left_weight below + uncompared_weight f
   innermost_weight = ap left_weight is ∙ left_weight-push below f
 
--- two values, and then what is behind them
-pub values_next : (a b c : Ordering) (x y : Val) (f behind : Uncompared) → a ≡ ordering_then (uncompared_cmp f) b → uncompared_cmp f ≡
-    ordering_then (val_cmp x y) (uncompared_cmp behind) → c ≡ ordering_then (uncompared_cmp behind) b → a ≡ ordering_then (val_cmp x y) c
-values_next a b c x y f behind all next then =
-    all ∙ (ap (λ (o : Ordering). ordering_then o b) next ∙ (then_assoc (val_cmp x y) (uncompared_cmp behind) b ∙ ap (ordering_then
+-- two values, and then what is after them
+pub values_next : (a b c : Ordering) (x y : Val) (f after : Uncompared) → a ≡ ordering_then (uncompared_cmp f) b → uncompared_cmp f ≡
+    ordering_then (val_cmp x y) (uncompared_cmp after) → c ≡ ordering_then (uncompared_cmp after) b → a ≡ ordering_then (val_cmp x y) c
+values_next a b c x y f after all next then =
+    all ∙ (ap (λ (o : Ordering). ordering_then o b) next ∙ (then_assoc (val_cmp x y) (uncompared_cmp after) b ∙ ap (ordering_then
     (val_cmp x y)) (sym then)))
 
 -- a test for not being Equal

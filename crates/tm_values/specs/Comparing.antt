@@ -37,12 +37,12 @@ left_weight [] = 0
 left_weight (f ∷ fs) = uncompared_weight f + left_weight fs
 
 abbrev pub IsNextOrder : Uncompared → NextValues → Type 0
-IsNextOrder f (next.Values x y behind) =
-    uncompared_cmp f ≡ ordering_then (val_cmp x.now y.now) (uncompared_cmp behind)
+IsNextOrder f (next.Values x y after) =
+    uncompared_cmp f ≡ ordering_then (val_cmp x.now y.now) (uncompared_cmp after)
 IsNextOrder f (next.End order) = uncompared_cmp f ≡ order
 
 abbrev pub IsNextLighter : Uncompared → NextValues → Type 0
-IsNextLighter f (next.Values x y behind) = val_size x.now + uncompared_weight behind < uncompared_weight f
+IsNextLighter f (next.Values x y after) = val_size x.now + uncompared_weight after < uncompared_weight f
 IsNextLighter f (next.End order) = 0 < uncompared_weight f
 
 abbrev pub IsCompared : Val → Val → Compared → Type 0

@@ -100,7 +100,7 @@ abbrev mutual
   vals_cmp (val x xs) (val y ys) =
       ordering_then (ordering_then (nat_cmp (rank x) (rank y)) (within x y)) (vals_cmp xs ys)
 
-  -- by the first key, then by its value, then by the pairs behind; fewer pairs first
+  -- by the first key, then by its value, then by the pairs after; fewer pairs first
   pub pairs_cmp : Pairs → Pairs → Ordering
   pairs_cmp no_pairs no_pairs = Equal
   pairs_cmp no_pairs (pair l y qs) = Less

@@ -34,7 +34,7 @@ macro_key m rest =
     pos m.state ∷ pos m.stream ∷ pos m.entry ∷ option_key m.closure (text_key m.name (texts_key m.arguments (flag_key m.caller rest)))
 
 abbrev mutual
-  -- behind the rank
+  -- after the rank
   body : Val → List ℤ → List ℤ
   body (undefined s) rest = rest
   body none rest = rest
@@ -74,9 +74,9 @@ then-equal Less = refl
 then-equal Equal = refl
 then-equal Greater = refl
 
--- what stands behind two keys that begin alike
-behind : (a b c d : Ordering) → b ≡ ordering_then c d → ordering_then a b ≡ ordering_then (ordering_then a c) d
-behind a b c d h = ap (ordering_then a) h ∙ sym (then-assoc a c d)
+-- what stands after two keys that begin alike
+after : (a b c d : Ordering) → b ≡ ordering_then c d → ordering_then a b ≡ ordering_then (ordering_then a c) d
+after a b c d h = ap (ordering_then a) h ∙ sym (then-assoc a c d)
 
 same_order : (x y : ℕ) → int_cmp (pos x) (pos y) ≡ nat_cmp x y
 same_order x y = grind (arith, nat_tests)
@@ -84,7 +84,7 @@ same_order x y = grind (arith, nat_tests)
 -- two keys that begin with numbers
 step : (x y : ℕ) (r s : List ℤ) (c d : Ordering) → keys_cmp r s ≡ ordering_then c d →
     keys_cmp (pos x ∷ r) (pos y ∷ s) ≡ ordering_then (ordering_then (nat_cmp x y) c) d
-step x y r s c d h = ap (λ o. ordering_then o (keys_cmp r s)) (same_order x y) ∙ behind (nat_cmp x y) (keys_cmp r s) c d h
+step x y r s c d h = ap (λ o. ordering_then o (keys_cmp r s)) (same_order x y) ∙ after (nat_cmp x y) (keys_cmp r s) c d h
 
 last : (x y : ℕ) (r s : List ℤ) → keys_cmp (pos x ∷ r) (pos y ∷ s) ≡ ordering_then (nat_cmp x y) (keys_cmp r s)
 last x y r s = ap (λ o. ordering_then o (keys_cmp r s)) (same_order x y)
@@ -102,7 +102,7 @@ texts-hold [] (y ∷ ys) r s = refl
 texts-hold (x ∷ xs) [] r s = refl
 texts-hold (x ∷ xs) (y ∷ ys) r s =
     text-holds x y (texts_key xs r) (texts_key ys s)
-    ∙ behind (slice_cmp nat_cmp x y) (keys_cmp (texts_key xs r) (texts_key ys s)) (slice_cmp (slice_cmp nat_cmp) xs ys) (keys_cmp r s)
+    ∙ after (slice_cmp nat_cmp x y) (keys_cmp (texts_key xs r) (texts_key ys s)) (slice_cmp (slice_cmp nat_cmp) xs ys) (keys_cmp r s)
     (texts-hold xs ys r s)
 
 option-holds : (x y : Option ℕ) (r s : List ℤ) →
@@ -136,11 +136,11 @@ macro-holds x y r s =
     let entry : Ordering = ordering_then (nat_cmp x.entry y.entry) closure in
     let by_flag : keys_cmp flag_x flag_y ≡ ordering_then flags z = flag-holds x.caller y.caller r s in
     let by_names : keys_cmp names_x names_y ≡ ordering_then names z = texts-hold x.arguments y.arguments flag_x flag_y
-    ∙ behind (slice_cmp (slice_cmp nat_cmp) x.arguments y.arguments) (keys_cmp flag_x flag_y) flags z by_flag in
+    ∙ after (slice_cmp (slice_cmp nat_cmp) x.arguments y.arguments) (keys_cmp flag_x flag_y) flags z by_flag in
     let by_name : keys_cmp name_x name_y ≡ ordering_then name z = text-holds x.name y.name names_x names_y
-    ∙ behind (slice_cmp nat_cmp x.name y.name) (keys_cmp names_x names_y) names z by_names in
+    ∙ after (slice_cmp nat_cmp x.name y.name) (keys_cmp names_x names_y) names z by_names in
     let by_closure : keys_cmp closure_x closure_y ≡ ordering_then closure z = option-holds x.closure y.closure name_x name_y
-    ∙ behind (option_cmp nat_cmp x.closure y.closure) (keys_cmp name_x name_y) name z by_name in
+    ∙ after (option_cmp nat_cmp x.closure y.closure) (keys_cmp name_x name_y) name z by_name in
     step x.state y.state (pos x.stream ∷ pos x.entry ∷ closure_x) (pos y.stream ∷ pos y.entry ∷ closure_y)
     (ordering_then (nat_cmp x.stream y.stream) entry) z
     (step x.stream y.stream (pos x.entry ∷ closure_x) (pos y.entry ∷ closure_y) entry z
@@ -223,7 +223,7 @@ mutual
   same (exports ps t) b r s e =
       rw (body-exports b s e)
       (pairs-hold ps (pairs_in b) (text_key t r) (text_key (bytes_in b) s)
-      ∙ behind (pairs_cmp ps (pairs_in b)) (keys_cmp (text_key t r) (text_key (bytes_in b) s)) (slice_cmp nat_cmp t (bytes_in b))
+      ∙ after (pairs_cmp ps (pairs_in b)) (keys_cmp (text_key t r) (text_key (bytes_in b) s)) (slice_cmp nat_cmp t (bytes_in b))
       (keys_cmp r s) (text-holds t (bytes_in b) r s))
   same (function n) b r s e = rw (body-function b s e) (last n (function_in b) r s)
   same (macro m) b r s e = same-macro m b r s e
@@ -240,7 +240,7 @@ mutual
       let rx : List ℤ = vals_key xs r in
       let ry : List ℤ = vals_key ys s in
       by_rank (rank x) (rank y) (body x rx) (body y ry) (within x y) (keys_cmp rx ry) (same x y rx ry)
-      ∙ behind (val_cmp x y) (keys_cmp rx ry) (vals_cmp xs ys) (keys_cmp r s) (vals-hold xs ys r s)
+      ∙ after (val_cmp x y) (keys_cmp rx ry) (vals_cmp xs ys) (keys_cmp r s) (vals-hold xs ys r s)
 
   pairs-hold : (x y : Pairs) (r s : List ℤ) → keys_cmp (pairs_key x r) (pairs_key y s) ≡ ordering_then (pairs_cmp x y) (keys_cmp r s)
   pairs-hold no_pairs no_pairs r s = refl
@@ -253,8 +253,8 @@ mutual
       let vy : List ℤ = pos (rank y) ∷ body y ry in
       let keys = by_rank (rank k) (rank l) (body k vx) (body l vy) (within k l) (keys_cmp vx vy) (same k l vx vy) in
       let values = by_rank (rank x) (rank y) (body x rx) (body y ry) (within x y) (keys_cmp rx ry) (same x y rx ry) in
-      let rest = behind (val_cmp x y) (keys_cmp rx ry) (pairs_cmp ps qs) (keys_cmp r s) (pairs-hold ps qs r s) in
-      keys ∙ behind (val_cmp k l) (keys_cmp vx vy) (ordering_then (val_cmp x y) (pairs_cmp ps qs)) (keys_cmp r s) (values ∙ rest)
+      let rest = after (val_cmp x y) (keys_cmp rx ry) (pairs_cmp ps qs) (keys_cmp r s) (pairs-hold ps qs r s) in
+      keys ∙ after (val_cmp k l) (keys_cmp vx vy) (ordering_then (val_cmp x y) (pairs_cmp ps qs)) (keys_cmp r s) (values ∙ rest)
 
 holds : (a b : Val) (r s : List ℤ) → keys_cmp (key a r) (key b s) ≡ ordering_then (val_cmp a b) (keys_cmp r s)
 holds a b r s = by_rank (rank a) (rank b) (body a r) (body b s) (within a b) (keys_cmp r s) (same a b r s)

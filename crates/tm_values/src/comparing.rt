@@ -9,14 +9,14 @@ use crate::value::{Node, Value};
 use std::alloc::Global;
 use std::cmp::Ordering;
 
-/// What is left to compare of two values with parts, and two texts behind it.
+/// What is left to compare of two values with parts, and two texts after it.
 #[derive(Clone, Copy)]
 pub enum Uncompared<'a> {
     /// Items against items.
     Items(&'a [Value], &'a [Value]),
     /// Pairs against pairs, then a text against a text.
     Pairs(&'a [(Value, Value)], &'a [(Value, Value)], &'a str, &'a str),
-    /// The values of two pairs whose keys are equal, and what is behind.
+    /// The values of two pairs whose keys are equal, and what is after.
     Member(&'a Value, &'a Value, &'a [(Value, Value)], &'a [(Value, Value)], &'a str, &'a str),
 }
 
@@ -94,8 +94,8 @@ fn compare_top<'a>(left: &'a Value, right: &'a Value) -> Compared<'a>
     }
 }
 
-/// Where the left value stands to the right one. None of values without parts, and where memory
-/// lacks.
+/// Where the left value stands to the right one. None of values without parts, and where there
+/// is no memory for the list.
 pub(crate) fn compare_by_list(left: &Value, right: &Value) -> Option<Ordering>
     ensures { MatchOption result Unit (λ order. order ≡ val_cmp left.now right.now) }
 {
@@ -114,9 +114,9 @@ pub(crate) fn compare_by_list(left: &Value, right: &Value) -> Option<Ordering>
                     return Some(order);
                 }
             }
-            NextValues::Values(x, y, behind) => {
+            NextValues::Values(x, y, after) => {
                 // The pop left room for it.
-                rest.push_reserved(behind);
+                rest.push_reserved(after);
                 match compare_top(x, y) {
                     Compared::Known(order) => {
                         if order != Ordering::Equal {

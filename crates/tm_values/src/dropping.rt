@@ -86,7 +86,7 @@ fn put_pairs_aside(mut pairs: Vec<(Value, Value)>, left: &mut Vec<Value>)
 }
 
 // Puts the value aside where it may hold others. Else it is dropped at once, and so it is where
-// memory for the list lacks.
+// there is no memory for the list.
 #[cycle(dropping)]
 #[tactic(auto, using(crate::proofs::Sizes::joined_sizes))]
 fn put_aside(value: Value, left: &mut Vec<Value>)

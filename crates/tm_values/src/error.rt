@@ -243,7 +243,7 @@ impl Error {
 impl fmt::Display for Error {
     ghost output = { λ e. Some (kind_name (kind_of e)) };
 
-    /// The name of the error's own kind. Its detail and its causes are not told.
+    /// The name of the error's own kind. Its detail and its causes are not part of it.
     fn fmt<W: fmt::Write>(&self, f: &mut fmt::Formatter<W>) -> fmt::Result {
         fmt::Display::fmt(&self.kind, f)
     }

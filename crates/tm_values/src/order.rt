@@ -223,6 +223,6 @@ pub fn order_law()
     ensures total { IsTotalOrder val_cmp }
     ensures equality { (a b : Val) → eq_by_cmp val_cmp a b ≡ is_eq (val_cmp a b) }
     ensures truth { (b : Bool) (v : Val) → val_cmp (boolean b) v ≡ val_cmp (number (whole_of b)) v }
-    ensures truth_behind { (b : Bool) (v : Val)
+    ensures truth_after { (b : Bool) (v : Val)
         → val_cmp v (boolean b) ≡ val_cmp v (number (whole_of b)) }
 {}

@@ -45,7 +45,7 @@ pub trait Records {
     fn previous_item(&self, index: usize) -> Option<&Value>
         ensures { IsLent result (previous_at (records self.now) index) };
 
-    /// The item behind a loop's own, where there is one.
+    /// The item after a loop's own, where there is one.
     fn following_item(&self, index: usize) -> Option<&Value>
         ensures { IsLent result (following_at (records self.now) index) };
 }

@@ -69,27 +69,27 @@ impl SharedText {
         }
     }
 
-    /// Adds a text behind it: in place where it has no other owner, and else to a copy, since the
+    /// Adds a text after it: in place where it has no other owner, and else to a copy, since the
     /// others keep what they have. Where there is no memory it stays as it was.
-    pub fn append(&mut self, behind: &str) -> Result<(), AllocError>
-        ensures ok { OnOk result (self.new ≡ self.old ++ behind.now) }
+    pub fn append(&mut self, after: &str) -> Result<(), AllocError>
+        ensures ok { OnOk result (self.new ≡ self.old ++ after.now) }
         ensures err { OnErr result (self.new ≡ self.old) }
     {
         if let Some(own) = Rc::get_mut(&mut self.content) {
-            return own.push_str(behind);
+            return own.push_str(after);
         }
-        *self = joined(self.as_str(), behind, *self.content.allocator())?;
+        *self = joined(self.as_str(), after, *self.content.allocator())?;
         Ok(())
     }
 }
 
 // The two texts, one after the other.
-fn joined(front: &str, behind: &str, alloc: Global) -> Result<SharedText, AllocError>
-    ensures { IfOk result (λ made. made ≡ front.now ++ behind.now) }
+fn joined(front: &str, after: &str, alloc: Global) -> Result<SharedText, AllocError>
+    ensures { IfOk result (λ made. made ≡ front.now ++ after.now) }
 {
-    let room = front.len().saturating_add(behind.len());
+    let room = front.len().saturating_add(after.len());
     let mut content = String::with_capacity(alloc, room)?;
     content.push_str(front)?;
-    content.push_str(behind)?;
+    content.push_str(after)?;
     SharedText::from_string(content)
 }

@@ -4,7 +4,7 @@ ghost use Rattle.std.specs.Prelude.{◌≡◌, ◌++◌, ◌∷◌, [], OnOk, If
 use crate::error::{Error, ErrorKind};
 use crate::value::Value;
 
-/// Puts a second owner of each value behind those that are there. Fails by OutOfMemory alone.
+/// Puts a second owner of each value after those that are there. Fails by OutOfMemory alone.
 pub fn share_all(values: &[Value], out: &mut Vec<Value>) -> Result<(), Error>
     ensures items { OnOk result (out.new.items ≡ out.old.items ++ values.now) }
     ensures memory { IfErr result (λ e. e ≡ ErrorKind.OutOfMemory ∷ []) }

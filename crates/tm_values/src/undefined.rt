@@ -34,9 +34,9 @@ pub enum UndefinedUse {
     Containment,
     /// It is sliced.
     Slice,
-    /// It stands behind `**` in a call.
+    /// It stands after `**` in a call.
     KeywordSpread,
-    /// It stands behind `*` in a call.
+    /// It stands after `*` in a call.
     ItemSpread,
     /// It is added, subtracted, multiplied, divided, raised or negated.
     Arithmetic,

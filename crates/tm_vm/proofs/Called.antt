@@ -1,4 +1,4 @@
--- How a run goes on behind a call.
+-- How a run goes on after a call.
 use Rattle.std.specs.Global.{Box}
 use Rattle.std.proofs.Common.{◌≡◌, ℕ, List, [], ◌∷◌, length, drop, Option, Some, None, Result, Ok, Err, Bool, true, false}
 use Rattle.std.proofs.Common.{refl, sym, ap, ◌∙◌, subst, arith}
@@ -23,7 +23,7 @@ use Rattle.tm_state.specs.declared.saved.SavedInclude.{SavedInclude}
 use Rattle.tm_state.specs.declared.saved.SavedSuper.{SavedSuper}
 use Rattle.tm_state.specs.declared.nested.NestedRun.{NestedRun}
 use Rattle.tm_state.specs.Answers.{Becomes, CallDeeper, HasOneMore, KeepsFixedAndNames, LeavesState, NamedBecomes, NeedsAny, OneDeeper, StaysInPlace, call_of}
-use Rattle.tm_state.specs.State.{IsSaved, behind_block, callee_of, put_back, saved_of}
+use Rattle.tm_state.specs.State.{IsSaved, after_block, callee_of, put_back, saved_of}
 use Rattle.tm_vm.specs.declared.flow.Flow.{Flow}
 use Rattle.tm_vm.specs.declared.flow.Flow.TheVariants as flow
 use Rattle.tm_vm.specs.Answers.{EntersAsValue, Enters, GoesOnWith, Needs, NoFewer, Opens, SameStanding, Silently, entered}
@@ -39,27 +39,27 @@ recursion_in p c x value vs ks n None items w = refl
 recursion_in p c x value vs ks n (Some l) items w = refl
 
 -- ---------------------------------------------------------------- values and loops
--- behind a call that left the scopes as they were
-opens_behind : (p : Program) (n : Next) (old new : Config) (before : World) (result : Result Flow Halt) → KeepsFixedAndNames before old.world →
+-- after a call that left the scopes as they were
+opens_after : (p : Program) (n : Next) (old new : Config) (before : World) (result : Result Flow Halt) → KeepsFixedAndNames before old.world →
     StaysInPlace before old.world → Opens n old new result → Needs p n (record old { world = before }) new result
-opens_behind p n old new before (Ok flow.GoOn) kept stays h = record {
+opens_after p n old new before (Ok flow.GoOn) kept stays h = record {
   did = h.did;
   kept = kept_then kept h.kept;
   deepens = no_fewer_then before old.world new.world (no_fewer_in_place before old.world stays) h.no_fewer;
   same_stream = h.same_stream;
 }
-opens_behind p n old new before (Ok flow.Done) kept stays h = absurd h.did
-opens_behind p n old new before (Ok flow.Called) kept stays h = absurd h.did
-opens_behind p n old new before (Ok flow.Restart) kept stays h = absurd h.did
-opens_behind p n old new before (Ok (flow.Enter e)) kept stays h = absurd h.did
-opens_behind p n old new before (Err halt.Writer) kept stays h = absurd h.did
-opens_behind p n old new before (Err halt.Stuck) kept stays h = record {
+opens_after p n old new before (Ok flow.Done) kept stays h = absurd h.did
+opens_after p n old new before (Ok flow.Called) kept stays h = absurd h.did
+opens_after p n old new before (Ok flow.Restart) kept stays h = absurd h.did
+opens_after p n old new before (Ok (flow.Enter e)) kept stays h = absurd h.did
+opens_after p n old new before (Err halt.Writer) kept stays h = absurd h.did
+opens_after p n old new before (Err halt.Stuck) kept stays h = record {
   did = h.did;
   kept = kept_then kept h.kept;
   deepens = no_fewer_then before old.world new.world (no_fewer_in_place before old.world stays) h.no_fewer;
   same_stream = h.same_stream;
 }
-opens_behind p n old new before (Err (halt.Fault chain)) kept stays h = record {
+opens_after p n old new before (Err (halt.Fault chain)) kept stays h = record {
   did = h.did;
   kept = kept_then kept h.kept;
   deepens = no_fewer_then before old.world new.world (no_fewer_in_place before old.world stays) h.no_fewer;
@@ -71,7 +71,7 @@ pub value_goes_on : (p : Program) (v : Val) (count : ℕ) (old new : Config) (re
 value_goes_on p v count old new result h q before is leaves =
     subst (λ r. Needs p (asked p (record old { world = before }) (drop count old.run.operands) r) (record old { world = before }) new result)
     (sym is)
-    (opens_behind p (goes (v ∷ drop count old.run.operands) old.world old) old new before result leaves.kept leaves.lies (still result h))
+    (opens_after p (goes (v ∷ drop count old.run.operands) old.world old) old new before result leaves.kept leaves.lies (still result h))
 
 pub loop_goes_on : (p : Program) (r : Recursion) (count : ℕ) (old new : Config) (result : Result Flow Halt) →
     Opens (asked p old (drop count old.run.operands) (recurs r.number r.items.value.items old.world)) old new result →
@@ -82,15 +82,15 @@ loop_goes_on p r count old new result h q before is leaves =
     let same = recursion_in p old before true vs (new_capture true ∷ old.captures) r.number (place_of_loop p old r.number) items old.world in
     subst (λ a. Needs p (asked p (record old { world = before }) vs a) (record old { world = before }) new result) (sym is)
     (subst (λ n. Needs p n (record old { world = before }) new result) (sym same)
-    (opens_behind p (asked p old vs (recurs r.number items old.world)) old new before result leaves.kept leaves.lies h))
+    (opens_after p (asked p old vs (recurs r.number items old.world)) old new before result leaves.kept leaves.lies h))
 
 -- ---------------------------------------------------------------- runs
 -- where no more than a block's scope is there, that is left
 block_left : (s : SavedBlock) (before w : World) (places : Named ℕ) → s ≡ saved_of before → HasOneMore before w → places ≡ before.places →
-    SameStanding before (record (behind_block s w) { places = places })
+    SameStanding before (record (after_block s w) { places = places })
 block_left s before w places is more same =
     let many : s.scopes ≡ length before.scopes.frames = ap (λ (s : SavedBlock). s.scopes) is in
-    standing before (record (behind_block s w) { places = places })
+    standing before (record (after_block s w) { places = places })
     (ap (λ n. record { frames = outermost n w.scopes.frames; outer = s.outer }) many
     ∙ ap (λ fs. record { frames = outermost (length before.scopes.frames) fs; outer = s.outer }) more.0
     ∙ ap (λ fs. record { frames = fs; outer = s.outer }) (under_one (plain_scope (undefined false)) before.scopes.frames)

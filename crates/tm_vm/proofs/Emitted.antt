@@ -89,14 +89,14 @@ nothing_out : (ks : List Capture) (t : List ℕ) → ks ≢ [] → put_out ks t 
 nothing_out [] t some = absurd (some refl)
 nothing_out (k ∷ ks) t some = refl
 
--- a run went on behind a value, and its captures are these
-abbrev behind : List Capture → Config → Config
-behind ks c = record c { run = record c.run { operands = drop 1 c.run.operands; place = c.run.place + 1 }; captures = ks }
+-- a run went on after a value, and its captures are these
+abbrev following : List Capture → Config → Config
+following ks c = record c { run = record c.run { operands = drop 1 c.run.operands; place = c.run.place + 1 }; captures = ks }
 
 -- a value on top is put into the innermost capture
 goes_in : (host : HostValue) (f : Base) (old : Config) (v : Val) (rest : List Val) (text : List ℕ) → old.captures ≢ [] →
     audible f old ≡ true → old.run.operands ≡ v ∷ rest → emitted host v old.world ≡ Good text old.world →
-    emit_of host f old ≡ More [] (behind (put_in old.captures text) old)
+    emit_of host f old ≡ More [] (following (put_in old.captures text) old)
 goes_in host f old v rest text some heard top known =
     ap (λ (vs : List Val). on_top vs old.world
     (λ u us. after (emitted host u old.world) (λ t w. writes f t (on us (with_world w old))))) top
@@ -105,14 +105,14 @@ goes_in host f old v rest text some heard top known =
     ∙ (ap (λ t. More t (record (on rest old) { captures = put_in old.captures text })) (nothing_out old.captures text some)
     ∙ ap (λ (vs : List Val). More [] (record (on (drop 1 vs) old) { captures = put_in old.captures text })) (sym top))))
 
-kept_behind : (ks : List Capture) (old new : Config) → new ≡ behind ks old → KeepsFixedAndNames old.world new.world
-kept_behind ks old new moved = subst (λ (w : World). KeepsFixedAndNames old.world w) (sym (ap (λ (c : Config). c.world) moved))
+kept_after : (ks : List Capture) (old new : Config) → new ≡ following ks old → KeepsFixedAndNames old.world new.world
+kept_after ks old new moved = subst (λ (w : World). KeepsFixedAndNames old.world w) (sym (ap (λ (c : Config). c.world) moved))
     (record { same_id = refl; same_fuel_set = refl; no_more_fuel = omega arith; same_loaded = refl })
 
 pub captured_at_once : (host : HostValue) (f : Base) (old new : Config) (v : Val) (rest : List Val)
     (answer : Result (Unit {0}) TargetFailed) → old.captures ≢ [] → audible f old ≡ true →
     old.run.operands ≡ v ∷ rest → host.formatter ≡ None → refusal_of host.undefined Emission v ≡ None →
-    emission_verdict old.world.escape (records_of old.world) v ≡ Ok tt → (ks : List Capture) → new ≡ behind ks (paid old) →
+    emission_verdict old.world.escape (records_of old.world) v ≡ Ok tt → (ks : List Capture) → new ≡ following ks (paid old) →
     MatchResult answer (λ _. IsPut old.captures (emitted_text old.world.escape (records_of old.world) v) ks)
     (λ _. IsPutInPart old.captures (emitted_text old.world.escape (records_of old.world) v) ks) →
     AttemptedUntold (captured_of answer) (emit_of host f) old new
@@ -121,11 +121,11 @@ captured_at_once host f old new v rest (Ok u) some heard top unformatted defined
     let text = emitted_text old.world.escape (records_of old.world) v in
     let at : emit_of host f c ≡ More [] new =
     goes_in host f c v rest text some heard top (emitted_known host v c.world unformatted defined fine)
-    ∙ ap (λ (ls : List Capture). More [] (behind ls c)) (sym put) ∙ ap (λ (d : Config). More [] d) (sym moved) in
+    ∙ ap (λ (ls : List Capture). More [] (following ls c)) (sym put) ∙ ap (λ (d : Config). More [] d) (sym moved) in
     record {
       did = nothing_written told at;
       counted = refl;
-      kept = kept_behind ks c new moved;
+      kept = kept_after ks c new moved;
       same_standing = subst (λ (w : World). SameStanding c.world w) (sym (ap (λ (d : Config). d.world) moved)) (standing_same c.world);
       same_stream = ap (λ (d : Config). d.run.stream) moved;
     }
@@ -134,7 +134,7 @@ captured_at_once host f old new v rest (Err e) some heard top unformatted define
     record {
       did = (λ other. absurd (cc other), beginning_nothing told (output (emit_of host f c)));
       counted = refl;
-      kept = kept_behind ks c new moved;
+      kept = kept_after ks c new moved;
       same_standing = subst (λ (w : World). SameStanding c.world w) (sym (ap (λ (d : Config). d.world) moved)) (standing_same c.world);
       same_stream = ap (λ (d : Config). d.run.stream) moved;
     }

@@ -37,7 +37,7 @@ use Rattle.tm_vm.proofs.Ground.{no_fewer_same}
 use Rattle.tm_vm.proofs.Performed.{chosen, pays_nothing, pays_one}
 
 -- ---------------------------------------------------------------- what is paid for
--- what an instruction leads to behind its charge
+-- what an instruction leads to after its charge
 abbrev done : Program → LeafGround → Instruction → LeafRun → Next
 done p g x l = after (pay x (stands_at g l).world) (λ _ w. effect p (base_on g) x (with_world w (stands_at g l)))
 
@@ -87,18 +87,18 @@ module _ (escape : AutoEscape) (old new : LeafRun) (enough : 1 < old.fuel) where
   loads v is p g none same = charged p g (i.LoadConst v) old _ refl enough (there g new _ is)
 
   pub takes_member : (x : List ℕ) → Changes (TakesMember x) old new → Does escape (i.GetAttr x) old new
-  takes_member x ((m, v, rest, before, behind, has), is) p g none same =
+  takes_member x ((m, v, rest, before, following, has), is) p g none same =
       let w : World = (stands_at g (spent old)).world in
       charged p g (i.GetAttr x) old _ refl enough (rw (before, has p.host.undefined (records_of w))
-      (ap (λ (vs : List Val). More [] (stands_at g (record (advanced old) { operands = vs }))) (sym behind) ∙ there g new _ is))
+      (ap (λ (vs : List Val). More [] (stands_at g (record (advanced old) { operands = vs }))) (sym following) ∙ there g new _ is))
 
   pub stores : (x : List ℕ) → Stores x old new → Does escape (i.StoreLocal x) old new
   stores x (v, top, is) p g none same = charged p g (i.StoreLocal x) old _ refl enough (rw top (there g new _ is))
 
   pub tests : Changes TestsUndefined old new → Does escape i.IsUndefined old new
-  tests ((v, rest, before, behind), is) p g none same =
+  tests ((v, rest, before, following), is) p g none same =
       charged p g i.IsUndefined old _ refl enough (rw before
-      (ap (λ (vs : List Val). More [] (stands_at g (record (advanced old) { operands = vs }))) (sym behind) ∙ there g new _ is))
+      (ap (λ (vs : List Val). More [] (stands_at g (record (advanced old) { operands = vs }))) (sym following) ∙ there g new _ is))
 
   pub jumps : (n : ℕ) → new ≡ record (advanced old) { place = n } → Does escape (i.Jump n) old new
   jumps n is p g none same = charged p g (i.Jump n) old _ refl enough (there g new _ is)
@@ -110,19 +110,19 @@ module _ (escape : AutoEscape) (old new : LeafRun) (enough : 1 < old.fuel) where
   -- an instruction of an operator of two operands
   pub operates : (x : Instruction) (op : BinaryOperator) → charge_of x ≡ 1 →
       ((p : Program) (f : Base) (c : Config) → effect p f x c ≡ binary_of p.host op c) → Changes (Operates op) old new → Does escape x old new
-  operates x op one is_of ((a, b, v, rest, before, behind, gives), is) p g none same =
+  operates x op one is_of ((a, b, v, rest, before, following, gives), is) p g none same =
       let w : World = (stands_at g (spent old)).world in
       charged p g x old _ one enough (is_of p (base_on g) (stands_at g (spent old)) ∙ rw (before, gives p.host.undefined (records_of w))
-      (ap (λ (vs : List Val). More [] (stands_at g (record (advanced old) { operands = vs }))) (sym behind) ∙ there g new _ is))
+      (ap (λ (vs : List Val). More [] (stands_at g (record (advanced old) { operands = vs }))) (sym following) ∙ there g new _ is))
 
   pub operates_as : (x y : Instruction) (op : BinaryOperator) → y ≡ x → charge_of x ≡ 1 →
       ((p : Program) (f : Base) (c : Config) → effect p f x c ≡ binary_of p.host op c) → Changes (Operates op) old new → Does escape y old new
   operates_as x y op same one is_of changes = subst (λ z. Does escape z old new) (sym same) (operates x op one is_of changes)
 
   pub doubles : ChangesFree Doubles old new → Does escape i.DupTop old new
-  doubles ((v, rest, before, behind), is) p g none same =
+  doubles ((v, rest, before, following), is) p g none same =
       free p g i.DupTop old _ refl (rw before
-      (ap (λ (vs : List Val). More [] (stands_at g (record old { place = old.place + 1; operands = vs }))) (sym behind) ∙ there g new _ is))
+      (ap (λ (vs : List Val). More [] (stands_at g (record old { place = old.place + 1; operands = vs }))) (sym following) ∙ there g new _ is))
 
   pub drops : ChangesFree Drops old new → Does escape i.DiscardTop old new
   drops ((v, before), is) p g none same = free p g i.DiscardTop old _ refl (rw before (there g new _ is))

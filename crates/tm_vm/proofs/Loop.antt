@@ -36,12 +36,12 @@ use Rattle.tm_state.specs.declared.saved.Saved.TheVariants as saved
 use Rattle.tm_state.specs.declared.saved.SavedBlock.{SavedBlock}
 use Rattle.tm_state.specs.declared.saved.SavedMacro.{SavedMacro}
 use Rattle.tm_state.specs.declared.saved.SavedInclude.{SavedInclude}
-use Rattle.tm_vm.specs.Nested.{IsCaptured, RanNested, Went, EndsNested, WroteBeginning, IsBack, IsWrapped, StandsOn, behind, begins_in, base_in}
+use Rattle.tm_vm.specs.Nested.{IsCaptured, RanNested, Went, EndsNested, WroteBeginning, IsBack, IsWrapped, StandsOn, after, begins_in, base_in}
 use Rattle.tm_state.specs.State.{IsSaved, callee_of, put_back, undo_of}
 use Rattle.tm_meaning.specs.Inheritance.{names_left}
 use Rattle.tm_meaning.specs.World.{HostValue}
 use Rattle.tm_state.specs.declared.saved.SavedSuper.{SavedSuper}
-use Rattle.tm_vm.proofs.Shift.{alone, behind_text}
+use Rattle.tm_vm.proofs.Shift.{alone, after_text}
 
 pub kept_same : (w : World) → KeepsFixedAndNames w w
 kept_same w = record { same_id = refl; same_fuel_set = refl; no_more_fuel = omega arith; same_loaded = refl }
@@ -111,7 +111,7 @@ module _ (p : Program) (heard : Bool) (ks : List Capture) (w : World) (back : Ba
   abbrev Within : Option Activation → List ℕ → Final → Type 0
   Within a t e = Leads p (base_of heard ks w) t (begun p (base_of heard ks w) a ks w) e
 
-  -- A run that is needed leads on behind its end,
+  -- A run that is needed leads on after its end,
   nested_leads : {f : Base} {t : List ℕ} {e o : Final} (a : Option Activation) → Within a t e → Leads p f e.text (back_to back e.end) o →
       Leads p f t (nested a heard ks w back) o
   nested_leads {f = f} {t = t} {o = o} None (over {e = x} at same) rest =
@@ -122,7 +122,7 @@ module _ (p : Program) (heard : Bool) (ks : List Capture) (w : World) (back : Ba
   nested_leads None (nest at then last) rest = absurd cc
   nested_leads (Some a) run rest = nest refl run rest
 
-  -- and what it leads to, it leads to behind its end.
+  -- and what it leads to, it leads to after its end.
   nested_parts : {f : Base} {t : List ℕ} {o : Final} (a : Option Activation) → Leads p f t (nested a heard ks w back) o →
       (e : Final) × Within a t e × Leads p f e.text (back_to back e.end) o
   nested_parts {t = t} None l = (final t (Failed (InvalidOperation ∷ []) w), over refl refl, l)
@@ -143,41 +143,41 @@ module _ (p : Program) (heard : Bool) (ks : List Capture) (w : World) (back : Ba
       Leads p f (t ++ e.text) (back_to back e.end) o
   nest_only {f = f} {t = t} {o = o} a run l =
       let parts = nested_parts a l in
-      subst (λ (e : Final). Leads p f e.text (back_to back e.end) o) (one_end parts.1 (behind_text t run)) parts.2
+      subst (λ (e : Final). Leads p f e.text (back_to back e.end) o) (one_end parts.1 (after_text t run)) parts.2
 
--- What is undone behind a run is what is put back.
+-- What is undone after a run is what is put back.
 pub undone_is : (s : Saved) (b w : World) → IsSaved s b → undone (undo_of s b) w ≡ put_back s w
 undone_is (saved.Block s) b w is = sym (ap (λ x. put_back (saved.Block x) w) is)
 undone_is (saved.Super s) b w is = sym (ap (λ x. put_back (saved.Super x) w) is)
 undone_is (saved.Macro s) b w is = sym (ap (λ x. put_back (saved.Macro x) w) is)
 undone_is (saved.Include s) b w is = sym (ap (λ x. put_back (saved.Include x) w) is)
 
--- what a nested run's end leads to, by what is put back behind it
-behind_is : (e : NestedRun) (b : World) (r : Activation) (end : End) → IsSaved e.saved b →
+-- what a nested run's end leads to, by what is put back after it
+after_is : (e : NestedRun) (b : World) (r : Activation) (end : End) → IsSaved e.saved b →
     back_to (record { run = r; call = call_of e b; value = e.value }) end
-    ≡ behind e r end
-behind_is e b r (Finished vs ks w) is = ap (λ x. back_with e.value e.text r ks x) (undone_is e.saved b w is)
-behind_is e b r (Failed chain w) is = ap (λ x. Over (Failed (wrapped e.wrap chain) x)) (undone_is e.saved b w is)
-behind_is e b r (Stuck w) is = ap (λ x. Over (Stuck x)) (undone_is e.saved b w is)
+    ≡ after e r end
+after_is e b r (Finished vs ks w) is = ap (λ x. back_with e.value e.text r ks x) (undone_is e.saved b w is)
+after_is e b r (Failed chain w) is = ap (λ x. Over (Failed (wrapped e.wrap chain) x)) (undone_is e.saved b w is)
+after_is e b r (Stuck w) is = ap (λ x. Over (Stuck x)) (undone_is e.saved b w is)
 
 -- the run itself
 abbrev pub first_of : Program → NestedRun → Config → Option Activation
 first_of p e c = first_run p (callee_of e.run) (length c.captures)
 
 -- a nested run that is done, and what follows it
-pub stands_behind : {p : Program} {f : Base} {a c : Config} {told now : Option (List ℕ)} (entry : NestedRun) (mid d : Config)
+pub stands_after : {p : Program} {f : Base} {a c : Config} {told now : Option (List ℕ)} (entry : NestedRun) (mid d : Config)
     (at new : Option (List ℕ)) → RunsUpTo p f a told now c
     → (Enters p entry mid (step p f c) × (at ≡ now)) → Went p entry mid d at new → RunsUpTo p f a told new d
-stands_behind {p = p} {f = f} {c = c} {told = told} {now = now} entry mid d at new s did ran =
+stands_after {p = p} {f = f} {c = c} {told = told} {now = now} entry mid d at new s did ran =
     let enters = did.0 in
     let b = enters.0 in
-    let goes = behind_is entry b mid.run (Finished ran.operands ran.captures ran.world) enters.1 ∙ ran.goes in
+    let goes = after_is entry b mid.run (Finished ran.operands ran.captures ran.world) enters.1 ∙ ran.goes in
     let back : Back = record { run = mid.run; call = call_of entry b; value = entry.value } in
     record {
       text = s.text ++ ran.text;
       appended = appends_then told now new s.text ran.text s.appended (subst (λ o. Appends o new ran.text) did.1 ran.appended);
       onward = λ o l. s.onward o (subst (λ n. Leads p f s.text n o) (sym enters.2)
-          (nested_leads p entry.heard mid.captures mid.world back (first_of p entry mid) (behind_text s.text ran.leads)
+          (nested_leads p entry.heard mid.captures mid.world back (first_of p entry mid) (after_text s.text ran.leads)
           (more goes (subst (λ u. Leads p f u (step p f d) o) (sym (append-nil (s.text ++ ran.text))) l))));
       back = λ o l. subst (λ u. Leads p f u (step p f d) o) (append-nil (s.text ++ ran.text))
           (more_only goes (nest_only p entry.heard mid.captures mid.world back (first_of p entry mid) ran.leads (subst (λ n. Leads p f s.text n o) enters.2 (s.back o l))));
@@ -204,7 +204,7 @@ pub stands_called : {p : Program} {f : Base} {a c : Config} {told now : Option (
     Did p (Ok flow.Called) now new d (step p f c) → RunsUpTo p f a told new d
 stands_called {p = p} {f = f} {c = c} {told = told} d new s did =
     let ran = did.0 in
-    let inner = behind_text s.text ran.leads in
+    let inner = after_text s.text ran.leads in
     let same = append-nil s.text in
     record {
       text = s.text;
@@ -300,8 +300,8 @@ ended_in {p = p} {f = f} {a = a} {c = c} {told = told} {now = now} entry mid at 
           s.text ++ run.0,
           appends_then told now new s.text run.0 s.appended (subst (λ o. Appends o new run.0) did.1 run.1),
           s.onward _ (subst (λ n. Leads p f s.text n (final (s.text ++ run.0) x)) (sym enters.2)
-              (nested_leads p entry.heard mid.captures mid.world back (first_of p entry mid) (behind_text s.text run.2)
-              (over (behind_is entry enters.0 mid.run ended.0 enters.1 ∙ ended.2) refl))),
+              (nested_leads p entry.heard mid.captures mid.world back (first_of p entry mid) (after_text s.text run.2)
+              (over (after_is entry enters.0 mid.run ended.0 enters.1 ∙ ended.2) refl))),
         )
 
     by_halt : (why : Halt) → HaltsAs why w (EndsNested p entry mid at new) → HaltsAs why w (ReachesEnd p f a told new)
@@ -329,7 +329,7 @@ pub at_base : (p : Program) (old new : Config) (told now : Option (List ℕ)) (r
     Did p r told now new (step p f old) → Did p r told now new (step p g old)
 at_base p old new told now r f g e did = subst (λ x. Did p r told now new (step p x old)) e did
 
--- behind a nested run the scopes are the very ones from before it
+-- after a nested run the scopes are the very ones from before it
 scopes_back : (limit : ℕ) (s : Saved) (old mid new : World) → OneDeeper limit s old mid → IsBack s mid new → SameStanding old new
 scopes_back limit (saved.Block s) old mid new deep back =
     standing old new
@@ -355,9 +355,9 @@ scopes_back limit (saved.Include s) old mid new deep back =
       ),
     )
 
-pub scopes_behind : (limit : ℕ) (e : NestedRun) (old mid new : World) → OneDeeper limit e.saved old mid → IsBack e.saved mid new →
+pub scopes_after : (limit : ℕ) (e : NestedRun) (old mid new : World) → OneDeeper limit e.saved old mid → IsBack e.saved mid new →
     SameStanding old new
-scopes_behind limit e old mid new deep back = scopes_back limit e.saved old mid new deep back
+scopes_after limit e old mid new deep back = scopes_back limit e.saved old mid new deep back
 
 -- it stands deeper than the run that waits, on the scopes that were saved
 lies_deeper : (limit : ℕ) (s : Saved) (old mid : World) → OneDeeper limit s old mid → mid.loaded ≡ old.loaded →
@@ -389,7 +389,7 @@ pub stands_deeper : (limit : ℕ) (e : NestedRun) (old mid : World) → OneDeepe
     StandsOn e.saved mid × (depth old.scopes < depth mid.scopes)
 stands_deeper limit e old mid deep names = lies_deeper limit e.saved old mid deep names
 
--- of the scopes behind a run only those below its own are left
+-- of the scopes after a run only those below its own are left
 pub left_below : (n : ℕ) (begun ran : World) → length begun.scopes.frames ≡ n + 1 → NoFewer begun ran →
     outermost n ran.scopes.frames ≡ without_first begun.scopes.frames
 left_below n begun ran stands no_fewer =
@@ -418,7 +418,7 @@ pub was_back : (s : Saved) (old begun ran new : World) → begun ≡ old → Sta
 was_back s old begun ran new same stands no_fewer moved =
     subst (λ w. IsBack s old w) (sym moved) (is_back s old ran stands (subst (λ w. NoFewer w ran) same no_fewer))
 
--- behind a run no more names are left than when it began
+-- after a run no more names are left than when it began
 pub names_back : (host : HostValue) (s : Saved) (begun ran : World) → StandsOn s begun → names_left host ran ≤ names_left host begun →
     names_left host (put_back s ran) ≤ names_left host begun
 names_back host (saved.Block s) begun ran stands less = less
@@ -442,7 +442,7 @@ fixed_back (saved.Macro s) old ran kept =
 fixed_back (saved.Include s) old ran kept =
     record { same_id = kept.same_id; same_fuel_set = kept.same_fuel_set; no_more_fuel = kept.no_more_fuel }
 
--- behind a step of a run whose base stood over so many scopes
+-- after a step of a run whose base stood over so many scopes
 pub above_base : (heard : Bool) (ks : List Capture) (first : World) (f : Base) (old new : World) → f ≡ base_of heard ks first →
     NoFewer first old → KeepsBaseScopes f old new → NoFewer first new
 above_base heard ks first f old new e above stays =
@@ -460,7 +460,7 @@ want_wrapped (Some wrapping.EvalBlock) (k ∷ ks) = refl
 want_wrapped (Some wrapping.BadInclude) [] = refl
 want_wrapped (Some wrapping.BadInclude) (k ∷ ks) = refl
 
--- the halt of a nested run, as it is told
+-- the halt of a nested run, as it is reported
 wrapped_as : (p : Program) (e : NestedRun) (old : Config) (told now : Option (List ℕ)) (why tells : Halt) (w : World) →
     IsWrapped e.wrap why tells
     → HaltsAs why w (ComesTo p (base_in e old) (begins_in p e old) told now) → HaltsAs tells (put_back e.saved w) (EndsNested p e old told now)
@@ -509,7 +509,7 @@ module _ (p : Program) (e : NestedRun) (waits : Activation) (old begun_at ran : 
 
   -- and where it was done, that goes on.
   pub went : (new : Config) → ReachesEnd p Stands begun_at told now (finished_at ran) →
-      behind e old.run (finished_at ran) ≡ More [] new → Went p e old new told now
+      after e old.run (finished_at ran) ≡ More [] new → Went p e old new told now
   went new r goes =
       let came = comes (finished_at ran) r in
       record {

@@ -411,7 +411,7 @@ finished {p = p} {f = f} {n = n} {old = old} {new = new} {told = told} {failures
 
 pub ruleset kinds = (silent, opened, shifted, wrote, needed, loads, finished)
 
--- ---------------------------------------------------------------- behind a charge
+-- ---------------------------------------------------------------- after a charge
 deep_paid : (limit : ℕ) (s : Saved) (left : ℕ) (old new : World) → OneDeeper limit s (record old { fuel = left }) new →
     OneDeeper limit s old new
 deep_paid limit (saved.Block s) left old new h = h
@@ -458,7 +458,7 @@ step_paid {told = told} {now = now} p f x old new result left found paid kept h 
       same_stream = h.same_stream;
     }
 
--- an instruction did its part, behind its charge
+-- an instruction did its part, after its charge
 pub step_done : {told now : Option (List ℕ)} {failures count : ℕ} (p : Program) (f : Base) (x : Instruction)
     (old mid new : Config) (result : Result Flow Halt)
     → slice_get (p.code old.run.stream) old.run.place ≡ Some x → pay x old.world ≡ Good tt mid.world → KeepsFixedAndNames old.world mid.world →
@@ -504,7 +504,7 @@ pub done_free : {told now : Option (List ℕ)} {failures count : ℕ} (p : Progr
 done_free p f x old new result found free h =
     step_done p f x old old new result found (pays_nothing x old.world free) (kept_same old.world) refl h
 
--- a step that is done behind an attempt that left all as it was
+-- a step that is done after an attempt that left all as it was
 pub left : {p : Program} {f : Base} {now : Option (List ℕ)} {count : ℕ} {result : Result Flow Halt} (n : Config → Next) (old mid new : Config)
     (told between : Option (List ℕ)) (failures many : ℕ) → (mid ≡ old) × (between ≡ told) × (many ≡ failures) →
     Performs p f (n mid) mid new between now many count result → Performs p f (n old) old new told now failures count result

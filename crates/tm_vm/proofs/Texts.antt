@@ -6,16 +6,16 @@ use Rattle.tm_values.specs.Val.{Val}
 use Rattle.tm_meaning.specs.Instructions.{and_text}
 
 -- texts before others, where there are such
-abbrev pub behind_texts : List (List ℕ) → Option (List (List ℕ)) → Option (List (List ℕ))
-behind_texts ts None = None
-behind_texts ts (Some us) = Some (ts ++ us)
+abbrev pub after_texts : List (List ℕ) → Option (List (List ℕ)) → Option (List (List ℕ))
+after_texts ts None = None
+after_texts ts (Some us) = Some (ts ++ us)
 
-pub none_before : (found : Option (List (List ℕ))) → found ≡ behind_texts [] found
+pub none_before : (found : Option (List (List ℕ))) → found ≡ after_texts [] found
 none_before None = refl
 none_before (Some us) = refl
 
 pub one_more : (ts : List (List ℕ)) (t : List ℕ) (found : Option (List (List ℕ))) →
-    behind_texts ts (and_text (Some t) found) ≡ behind_texts (ts ++ t ∷ []) found
+    after_texts ts (and_text (Some t) found) ≡ after_texts (ts ++ t ∷ []) found
 one_more ts t None = refl
 one_more ts t (Some us) = ap (λ xs. Some xs) (sym (append_assoc ts (t ∷ []) us))
 

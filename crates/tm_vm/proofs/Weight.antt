@@ -1,4 +1,4 @@
--- Less is left of a run behind each step.
+-- Less is left of a run after each step.
 use Rattle.std.proofs.Common.{◌≡◌, ℕ, zero, suc, ◌+◌, ◌*◌, ◌<◌, ◌≤◌, ◌⊎◌, inl, inr, List, [], ◌∷◌, length, Option, None, Some, Result, Ok}
 use Rattle.std.proofs.Common.{Err, Bool, true, false, ◌∙◌, ◌&&◌, nat_lt, slice_get, refl, sym, ap, subst, arith}
 use Rattle.std.proofs.Math.Nat.{mul-le-mul_right, suc-mul}
@@ -61,16 +61,16 @@ next_place size old new left place within =
     omega (arith, more, place, within)
 
 -- a nested run leaves no more fuel, and the loops of the run that waited
-pub less_behind : (size : ℕ) (old mid new : Config) → returns_left mid < returns_left old → new.world.fuel ≤ mid.world.fuel →
+pub less_after : (size : ℕ) (old mid new : Config) → returns_left mid < returns_left old → new.world.fuel ≤ mid.world.fuel →
     new.run.loops ≡ mid.run.loops → weight size new < weight size old
-less_behind size old mid new less fuel same =
+less_after size old mid new less fuel same =
     let loops : pending new.run.loops ≡ pending mid.run.loops = ap pending same in
     less_returns size old new (omega (arith, less, fuel, loops))
 
 -- nor more parents
-pub parents_behind : (host : HostValue) (old mid new : Config) → waits mid.run ≤ waits old.run → mid.world.loaded ≡ old.world.loaded →
+pub parents_after : (host : HostValue) (old mid new : Config) → waits mid.run ≤ waits old.run → mid.world.loaded ≡ old.world.loaded →
     names_left host new.world ≤ names_left host mid.world → StaysRun mid.run new.run → parents_left host new ≤ parents_left host old
-parents_behind host old mid new wait names less stays =
+parents_after host old mid new wait names less stays =
     let left : names_left host mid.world ≡ names_left host old.world = ap (count_left host.templates) names in
     let same : waits new.run ≡ waits mid.run = ap (λ rs. waits_in new.run.parent rs) stays.1 ∙ ap (λ q. waits_in q mid.run.loops) stays.2 in
     omega (arith, wait, less, left, same)
@@ -148,7 +148,7 @@ at_most_one None [] = omega arith
 at_most_one None (None ∷ rs) = at_most_one None rs
 at_most_one None (Some r ∷ rs) = at_most_one r.parent rs
 
--- behind a called loop the parent waits that waits now, or that waited at the call
+-- after a called loop the parent waits that waits now, or that waited at the call
 same_waits : (q : Option TemplateId) (r : Return) (rs : List (Option Return)) → waits_in q rs ≤ waits_in q (Some r ∷ rs)
 same_waits (Some t) r rs = omega arith
 same_waits None r rs = by_parent r.parent
@@ -523,7 +523,7 @@ entered (suc n) p f g x old mid new d back charge paid same less e waits_on =
     let no_more : waits back.run ≤ waits mid.run = added.1 in
     (omega (arith, paid, less, held, wait, loops), omega (arith, from, to, no_more))
 
--- no more parents are left behind an effect
+-- no more parents are left after an effect
 no_more_parents : (host : HostValue) (old mid new : Config) → mid.run ≡ old.run → mid.world.loaded ≡ old.world.loaded →
     names_left host new.world ≤ names_left host mid.world → Follows host mid new → parents_left host new ≤ parents_left host old
 no_more_parents host old mid new same names less (inl no_more) =
@@ -540,7 +540,7 @@ abbrev Goes : Activation → Next → Type 0
 Goes r (More t c) = StaysRun r c.run
 Goes r _ = Unit {0}
 
--- a run that goes on behind another one has the loops open that it had
+-- a run that goes on after another one has the loops open that it had
 back_as : (value : Bool) (t : RunText) (r : Activation) (ks : List Capture) (w : World) (new : Config) → back_with value t r ks w ≡ More [] new →
     StaysRun r new.run
 back_as false t r ks w new e = subst (λ (n : Next). Goes r n) e (refl, refl, refl)
@@ -570,8 +570,8 @@ paid_for {f = f} size p x old mid new (Ok flow.Called) paid same names within di
     let waiting : Config = record mid { run = ran.back.run } in
     let stays = back_runs ran.back ran.end new ran.goes in
     let less = entered (charge_of x) p f ran.base x old mid waiting ran.first ran.back refl paid same (omega arith) ran.needs refl in (
-      less_behind size old waiting new less.0 did.kept.no_more_fuel stays.1,
-      parents_behind p.host old waiting new less.1 names did.names stays,
+      less_after size old waiting new less.0 did.kept.no_more_fuel stays.1,
+      parents_after p.host old waiting new less.1 names did.names stays,
     )
 paid_for {f = f} size p x old mid new (Ok flow.Restart) paid same names within did =
     absurd (subst (λ n. Adds p.host (charge_of x) mid n) did.did.0 (adds p f x mid))
@@ -584,8 +584,8 @@ pub restart_paid : (f : Base) (n : Next) (p : Program) (size : ℕ) (old new : C
 restart_paid f n p size old new (Ok flow.Restart) s =
     let t = s.1.0 in
     let before : waits old.run ≡ 1 = ap (λ q. waits_in q old.run.loops) s.1.1 in
-    let behind : parents_left p.host new ≡ 0 + names_left p.host old.world = ap (parents_left p.host) s.1.3 in
-    omega (arith, before, behind)
+    let following : parents_left p.host new ≡ 0 + names_left p.host old.world = ap (parents_left p.host) s.1.3 in
+    omega (arith, before, following)
 restart_paid f n p size old new (Ok flow.GoOn) s = absurd s
 restart_paid f n p size old new (Ok flow.Called) s = absurd s
 restart_paid f n p size old new (Ok (flow.Enter e)) s = absurd s

@@ -37,7 +37,7 @@ abbrev pub program : HostValue → (StreamId → List Instruction) → Program
 program host code = record { host = host; code = code }
 
 -- ---------------------------------------------------------------- ends
--- The end that a halt is has a property. A halt by the writer, or by want of memory, is no end of the definitions.
+-- The end that a halt is has a property. A halt by the writer, or by running out of memory, is no end of the definitions.
 abbrev pub HaltsAs : Halt → World → (End → Type 0) → Type 0
 HaltsAs halt.Writer w Holds = Unit {0}
 HaltsAs halt.Stuck w Holds = Holds (Stuck w)
@@ -118,7 +118,7 @@ abbrev pub KeepsBaseScopes : Base → World → World → Type 0
 KeepsBaseScopes f old new =
     f.scopes ≤ length old.scopes.frames → (f.scopes ≤ length new.scopes.frames) × KeepsGround f.scopes old new
 
--- How the scopes lie behind a step: none of before is left; there is one more, within the limit, where a run of its own is needed; and a
+-- How the scopes lie after a step: none of before is left; there is one more, within the limit, where a run of its own is needed; and a
 -- run that is over has closed what it opened.
 abbrev pub Depths : ℕ → Base → Result Flow Halt → World → World → Type 0
 Depths limit f (Ok flow.GoOn) old new = KeepsBaseScopes f old new
@@ -167,7 +167,7 @@ returns_left c = c.world.fuel + c.world.fuel + pending c.run.loops
 abbrev pub weight : ℕ → Config → ℕ
 weight size c = returns_left c * (size + 1) + (size - c.run.place)
 
--- 1 where a parent waits now, or is put back behind a called loop, and else 0
+-- 1 where a parent waits now, or is put back after a called loop, and else 0
 abbrev pub waits_in : Option TemplateId → List (Option Return) → ℕ
 waits_in (Some t) rs = 1
 waits_in None [] = 0
@@ -181,7 +181,7 @@ waits r = waits_in r.parent r.loops
 abbrev pub parents_left : HostValue → Config → ℕ
 parents_left host c = waits c.run + names_left host c.world
 
--- Less is left behind a step: it is paid for, or returns from a loop, or is free and at the next place; and no more parents are left. A
+-- Less is left after a step: it is paid for, or returns from a loop, or is free and at the next place; and no more parents are left. A
 -- restart leaves a parent fewer. Before a run of its own it is paid for, where that run can begin.
 abbrev pub Paid : Program → ℕ → Result Flow Halt → Config → Config → Type 0
 Paid p size (Ok flow.GoOn) old new = (weight size new < weight size old) × (parents_left p.host new ≤ parents_left p.host old)
@@ -258,7 +258,7 @@ Needed p (Err halt.Writer) c n = ⊥
 Needed p (Err halt.Stuck) c n = n ≡ Over (Stuck c.world)
 Needed p (Err (halt.Fault chain)) c n = is_want_of_memory chain ≡ false → n ≡ Over (Failed chain c.world)
 
--- how the scopes lie behind an instruction: with one more for the run that it needs, and else none of them is left
+-- how the scopes lie after an instruction: with one more for the run that it needs, and else none of them is left
 abbrev pub Deepens : ℕ → Result Flow Halt → World → World → Type 0
 Deepens limit (Ok (flow.Enter e)) old new = OneDeeper limit e.value.saved old new
 Deepens limit _ old new = NoFewer old new
@@ -277,13 +277,13 @@ EntersAsValue run count (Err (halt.Fault chain)) old new = (is_want_of_memory ch
     (new.world ≡ put_back run.saved old.world) × (new.run.stream ≡ old.run.stream)
 EntersAsValue run count _ old new = ⊥
 
--- A run goes on behind a call of so many operands, which came to this and left this world, whatever was asked for in the world before.
+-- A run goes on after a call of so many operands, which came to this and left this world, whatever was asked for in the world before.
 abbrev pub GoesOnWith : Program → CallResult → ℕ → Config → Config → Result Flow Halt → Type 0
 GoesOnWith p came count old new result = (q : Asked) (before : World) → NamedBecomes (Ok came) q old.world →
     LeavesState p.host.limit (Ok came) before old.world →
     Needs p (asked p (record old { world = before }) (drop count old.run.operands) q) (record old { world = before }) new result
 
--- A run is over behind its last instruction, where it has closed what it opened, or restarts in the parent that waits; and else it is stuck.
+-- A run is over after its last instruction, where it has closed what it opened, or restarts in the parent that waits; and else it is stuck.
 -- No memory may be found for a restart.
 abbrev pub Finishes : Result Flow Halt → Base → Config → Config → Next → Type 0
 Finishes (Ok flow.Done) f old new n =
@@ -331,7 +331,7 @@ resumed back r = record r { place = back.place; operands = back.operands; escape
 abbrev pub recurses : Program → Recursion → Bool → Config → Next
 recurses p r value c = recursion p c value c.run.operands c.captures r.number (place_of_loop p c r.number) r.items.value.items c.world
 
--- These are the caches behind a use of a name by its number, but for want of memory; or it can't be used by that.
+-- These are the caches after a use of a name by its number, apart from running out of memory; or it can't be used by that.
 abbrev pub IsUsed : Option Caches → Caches → Result ℕ Halt → Type 0
 IsUsed used new (Ok _) = used ≡ Some new
 IsUsed used new (Err halt.Writer) = ⊥

@@ -29,7 +29,7 @@ abbrev pub captured_of : Result (Unit {0}) TargetFailed → Attempt
 captured_of (Ok _) = Done
 captured_of (Err _) = NoMemory
 
--- want of memory ends a run
+-- out of memory ends a run
 abbrev pub no_memory : Halt
 no_memory = halt.Fault (OutOfMemory ∷ [])
 
@@ -47,7 +47,7 @@ abbrev pub IsFree : Bool → (Config → Next) → Config → Config → Type 0
 IsFree true n old new = Silently (n old) old new (Ok flow.GoOn)
 IsFree false n old new = new ≡ old
 
--- The same of one that may write: by the writer, or for want of memory, it may have ended.
+-- The same of one that may write: by the writer, or when out of memory, it may have ended.
 abbrev pub Attempted : Attempt → (Config → Next) → Config → Config → Option (List ℕ) → Option (List ℕ) → ℕ → ℕ → Type 0
 Attempted Done n old new told now failures count = WritesNext (n (paid old)) (paid old) new told now failures count (Ok flow.GoOn)
 Attempted WriterFailed n old new told now failures count = WritesNext (n (paid old)) (paid old) new told now failures count (Err halt.Writer)
@@ -55,7 +55,7 @@ Attempted DoneFree n old new told now failures count = WritesNext (n old) old ne
 Attempted NoMemory n old new told now failures count = WritesNext (n (paid old)) (paid old) new told now failures count (Err no_memory)
 Attempted Left n old new told now failures count = (new ≡ old) × (now ≡ told) × (count ≡ failures)
 
--- The same of one that told the writer nothing.
+-- The same of one that wrote nothing.
 abbrev pub AttemptedUntold : Attempt → (Config → Next) → Config → Config → Type 0
 AttemptedUntold attempt n old new = (told : Option (List ℕ)) (failures : ℕ) → Attempted attempt n old new told told failures failures
 
@@ -72,7 +72,7 @@ IsPaid Done x fuel = (charge_of x ≡ 1) × (1 < fuel)
 IsPaid NoMemory x fuel = (charge_of x ≡ 1) × (1 < fuel)
 IsPaid WriterFailed x fuel = (charge_of x ≡ 1) × (1 < fuel)
 
--- The step was done at once, or ended by the writer or for want of memory; or all stayed as it was.
+-- The step was done at once, or ended by the writer or when out of memory; or all stayed as it was.
 abbrev pub StepAttempted : Attempt → Base → Program → ℕ → Config → Config → Option (List ℕ) → Option (List ℕ) → ℕ → ℕ → Type 0
 StepAttempted Done f p size old new told now failures count =
     Performs p f (step p f old) old new told now failures count (Ok flow.GoOn) × Paid p size (Ok flow.GoOn) old new

@@ -105,7 +105,7 @@ abbrev pub JumpsIfFalse : ℕ → LeafRun → LeafRun → Type 0
 JumpsIfFalse place old new = (truth : Bool) × (old.operands ≡ boolean truth ∷ new.operands) ×
     (new ≡ record (advanced old) { place = if truth then old.place + 1 else place; operands = new.operands })
 
--- It tests whether the topmost is undefined, and goes on behind that.
+-- It tests whether the topmost is undefined, and goes on after that.
 abbrev pub SkipsTest : List Instruction → LeafRun → LeafRun → Type 0
 SkipsTest code old new = (v : Val) × (rest : List Val) × (n : ℕ) × (old.operands ≡ v ∷ rest)
     × (slice_get code (old.place + 1) ≡ Some instruction.IsUndefined) × (slice_get code (old.place + 2) ≡ Some (instruction.JumpIfFalse n))

@@ -1,4 +1,4 @@
--- A run that an instruction needed, and the machine behind it.
+-- A run that an instruction needed, and the machine after it.
 use Rattle.std.specs.Prelude.{◌≡◌, ◌⊎◌, ◌+◌, ◌-◌, ℕ, List, [], ◌∷◌, length, Option, Result, Ok, Err, true}
 use Rattle.std.specs.Io.KnownBytes.{Appends}
 use Rattle.tm_values.specs.Val.{Val}
@@ -28,11 +28,11 @@ base_in e c = base_of e.heard c.captures c.world
 abbrev pub begins_in : Program → NestedRun → Config → Next
 begins_in p e c = begins p (base_in e c) (callee_of e.run) c.captures c.world
 
--- What its end leads to, behind what is put back, for the run that waits: as it was, or with the captured text on top; or that ends so too.
-abbrev pub behind : NestedRun → Activation → End → Next
-behind e r (Finished vs ks w) = back_with e.value e.text r ks (put_back e.saved w)
-behind e r (Failed chain w) = Over (Failed (wrapped e.wrap chain) (put_back e.saved w))
-behind e r (Stuck w) = stuck (put_back e.saved w)
+-- What its end leads to, after what is put back, for the run that waits: as it was, or with the captured text on top; or that ends so too.
+abbrev pub after : NestedRun → Activation → End → Next
+after e r (Finished vs ks w) = back_with e.value e.text r ks (put_back e.saved w)
+after e r (Failed chain w) = Over (Failed (wrapped e.wrap chain) (put_back e.saved w))
+after e r (Stuck w) = stuck (put_back e.saved w)
 
 -- The run was done, the writer got its text, and the run that waited goes on.
 pub record Went (p : Program) (e : NestedRun) (old new : Config) (told now : Option (List ℕ)) : Type 0 where
@@ -42,7 +42,7 @@ pub record Went (p : Program) (e : NestedRun) (old new : Config) (told now : Opt
   pub world : World
   pub appended : Appends told now text
   pub leads : Leads p (base_in e old) [] (begins_in p e old) (final text (Finished operands captures world))
-  pub goes : behind e old.run (Finished operands captures world) ≡ More [] new
+  pub goes : after e old.run (Finished operands captures world) ≡ More [] new
 
 -- A block's run stands on the scopes that were saved, and one of its own; a macro's has the names loaded that were; and an include's both,
 -- without a scope of its own.
@@ -52,7 +52,7 @@ StandsOn (saved.Super s) w = length w.scopes.frames ≡ s.replaced.scopes + 1
 StandsOn (saved.Macro s) w = s.lists.loaded ≡ w.loaded
 StandsOn (saved.Include s) w = (length w.scopes.frames ≡ s.replaced.scopes) × (s.lists.loaded ≡ w.loaded)
 
--- The scopes are those below the run's own, where those that were saved stood, or those that were saved; behind an include they are as
+-- The scopes are those below the run's own, where those that were saved stood, or those that were saved; after an include they are as
 -- many, and the very ones below the innermost. The places in lists of blocks are those that were saved, or from before a block's run.
 abbrev pub IsBack : Saved → World → World → Type 0
 IsBack (saved.Block s) begun w =
@@ -68,7 +68,7 @@ IsBack (saved.Include s) begun w =
 -- The run came to an end that leads to the end of the run that waits.
 abbrev pub EndsNested : Program → NestedRun → Config → Option (List ℕ) → Option (List ℕ) → End → Type 0
 EndsNested p e old told now x = (inner : End) × ComesTo p (base_in e old) (begins_in p e old) told now inner ×
-    (behind e old.run inner ≡ Over x)
+    (after e old.run inner ≡ Over x)
 
 -- The run was done, or the halt is the end that it leads to.
 abbrev pub RanNested : Program → NestedRun → Config → Config → Option (List ℕ) → Option (List ℕ) → Result (Unit {0}) Halt → Type 0

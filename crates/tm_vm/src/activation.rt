@@ -258,7 +258,7 @@ impl Activation {
         self.loops.pop()
     }
 
-    /// Has the loop at a place open, which is called, and goes on behind that, over no operands and so many
+    /// Has the loop at a place open, which is called, and goes on after that, over no operands and so many
     /// captures. Fails by OutOfMemory alone.
     pub(crate) fn call_loop(
         &mut self,

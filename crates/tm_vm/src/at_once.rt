@@ -71,7 +71,7 @@ impl Attempt {
         }
     }
 
-    /// Done, or ended for want of memory.
+    /// Done, or ended when out of memory.
     #[inline(always)]
     fn captured(answer: Result<(), TargetFailed>) -> Attempt
         ensures { result ≡ captured_of answer }

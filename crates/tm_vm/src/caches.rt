@@ -52,7 +52,7 @@ impl Held {
     }
 }
 
-/// The names that caches hold, each at its number. Those behind the last are empty, so that a run without filters
+/// The names that caches hold, each at its number. Those after the last are empty, so that a run without filters
 /// takes no memory for them.
 #[derive(Drop)]
 pub(crate) struct Caches {

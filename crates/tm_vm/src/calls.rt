@@ -90,7 +90,7 @@ impl Machine {
         self.go_on_with(alloc, host, code, count, called)
     }
 
-    /// Goes on behind a call of so many values: its value replaces them, or the text of the loop or of the run that
+    /// Goes on after a call of so many values: its value replaces them, or the text of the loop or of the run that
     /// it needs will.
     #[inline(always)]
     fn go_on_with<H: Host>(
@@ -136,7 +136,7 @@ impl Machine {
         self.recurse(alloc, host, code, called, true)
     }
 
-    /// Goes on behind a run, whose text is a value in place of so many operands. OutOfMemory where there is no memory
+    /// Goes on after a run, whose text is a value in place of so many operands. OutOfMemory where there is no memory
     /// for its capture; then what the run replaced is put back.
     #[inline(always)]
     fn enter_as_value(

@@ -1,4 +1,4 @@
-//! The instructions of parents and of the blocks behind those that run.
+//! The instructions of parents and of the blocks after those that run.
 ghost use Rattle.tm_meaning.specs.Instructions.{fast_super_of, load_blocks_of};
 ghost use Rattle.tm_vm.specs.Answers.{program, CanGoOn, Loads, Needs};
 
@@ -10,7 +10,7 @@ use tm_parts::Halt;
 use tm_tables::Host;
 
 impl Machine {
-    /// Runs the block behind the one that runs, in place.
+    /// Runs the block after the one that runs, in place.
     #[inline(never)]
     pub(crate) fn do_fast_super<H: Host>(
         &mut self,

@@ -24,7 +24,7 @@ use tm_values::{AutoEscape, Error, ErrorKind, SharedText, Value};
 /// The most instructions of a leaf, so that a run that is given up costs little and the fuel is looked at soon.
 const MOST: usize = 64;
 
-/// Where a leaf's run goes on behind a step.
+/// Where a leaf's run goes on after a step.
 #[derive(Clone, Copy, PartialEq, Eq)]
 pub(crate) enum LeafFlow {
     /// At its place.
@@ -122,7 +122,7 @@ impl Leaf {
         self.others |= 1 << (entry % 64);
     }
 
-    /// Begins at a place, with these arguments as operands and so much fuel. AllocError for want of memory.
+    /// Begins at a place, with these arguments as operands and so much fuel. AllocError when out of memory.
     fn begin(
         &mut self,
         alloc: Global,
@@ -389,7 +389,7 @@ impl Leaf {
         }
     }
 
-    /// Does the three instructions that test whether an argument is undefined, of which this is the first, and goes on behind
+    /// Does the three instructions that test whether an argument is undefined, of which this is the first, and goes on after
     /// them. Else all stays as it was, and the answer is false.
     #[inline(always)]
     fn skip_test(&mut self, code: &Code) -> bool
@@ -469,7 +469,7 @@ impl Leaf {
 
 impl Machine {
     /// The text of the macro of a name that is called with so many values, where that is a leaf, and the fuel that is left
-    /// behind it. OutOfMemory.
+    /// after it. OutOfMemory.
     fn leaf_text<H: Host>(
         &mut self,
         alloc: Global,

@@ -23,7 +23,7 @@ use tm_syntax::Code;
 use tm_tables::Host;
 use tm_values::{Error, ErrorKind, Value};
 
-/// A halt of a nested run, as it is told: a fault is wrapped in the kind, where there is one.
+/// A halt of a nested run, as it is reported: a fault is wrapped in the kind, where there is one.
 #[cold]
 #[inline(never)]
 fn wrapped(alloc: Global, wrap: Option<Wrapping>, halt: Halt) -> Halt
@@ -150,7 +150,7 @@ impl Machine {
 
     // ------------------------------------------------------------ runs
     /// Runs a run that is needed first, over the same captures and state; the run that waits goes on. InvalidOperation
-    /// where there is no such run. However it ended, what it replaced is put back behind it.
+    /// where there is no such run. However it ended, what it replaced is put back after it.
     #[cycle(machine)]
     fn run_nested<H: Host, W: Sink>(
         &mut self,

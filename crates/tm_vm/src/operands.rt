@@ -237,7 +237,7 @@ impl Machine {
         self.push_next(Value::list(alloc, values)?)
     }
 
-    /// Replaces so many keys, each with its value behind it, by the map of them.
+    /// Replaces so many keys, each with its value after it, by the map of them.
     pub(crate) fn do_build_map(&mut self, alloc: Global, count: usize) -> Result<Flow, Halt>
         requires { CanGoOn self.old.run }
         ensures { Silently (build_map_of count self.old) self.old self.new result }
@@ -249,7 +249,7 @@ impl Machine {
         self.push_next(Value::from_map(alloc, pairs)?)
     }
 
-    /// Replaces so many names, each with its value behind it, by the keyword map of them.
+    /// Replaces so many names, each with its value after it, by the keyword map of them.
     pub(crate) fn do_build_kwargs(&mut self, alloc: Global, count: usize) -> Result<Flow, Halt>
         requires { CanGoOn self.old.run }
         ensures { Silently (build_kwargs_of count self.old) self.old self.new result }

@@ -165,7 +165,7 @@ impl Machine {
             && !self.run.has_loop()
     }
 
-    /// Ends the run behind its last instruction, at once where it has closed all and no parent waits, or as `finish`.
+    /// Ends the run after its last instruction, at once where it has closed all and no parent waits, or as `finish`.
     #[inline(always)]
     fn end_run(&mut self, alloc: Global, base: &Base, size: usize) -> Result<Flow, Halt>
         ensures { Finishes result base.now self.old self.new (finish size base.now self.old) }
@@ -176,7 +176,7 @@ impl Machine {
         self.finish(alloc, base, size)
     }
 
-    /// Ends the run behind its last instruction, or restarts it in the root of the parent that waits; stuck where it has
+    /// Ends the run after its last instruction, or restarts it in the root of the parent that waits; stuck where it has
     /// left something open.
     #[inline(never)]
     pub(crate) fn finish(&mut self, alloc: Global, base: &Base, size: usize) -> Result<Flow, Halt>

@@ -176,7 +176,7 @@ fn count(instruction: &Instruction) -> &'static str {
     }
 }
 
-// Writes the cache number of an instruction behind `@`.
+// Writes the cache number of an instruction after `@`.
 fn write_cache(alloc: Global, out: &mut String, instruction: &Instruction) -> Result<(), Error> {
     match instruction {
         Instruction::ApplyFilter(_, _, cache) | Instruction::PerformTest(_, _, cache) => {

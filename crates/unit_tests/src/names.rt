@@ -70,7 +70,7 @@ static NESTED: [&str; 15] = [
     "{% call a.b.m() %}{{ c.d }}{% endcall %} => a.b.m c.d",
 ];
 
-/// The names that a source reads, each behind a blank.
+/// The names that a source reads, each after a blank.
 fn names_of(
     alloc: Global,
     syntax: &SyntaxConfig,

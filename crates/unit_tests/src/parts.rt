@@ -49,7 +49,7 @@ fn means(stack: &BlockStack, len: usize, place: usize, wanted: &TemplateId) -> b
     is_meant && stack.len() == len && stack.place() == place
 }
 
-/// Whether the block of the last template is meant, behind which there is none.
+/// Whether the block of the last template is meant, after which there is none.
 fn is_last(stack: &mut BlockStack, len: usize, place: usize, wanted: &TemplateId) -> bool {
     let is_meant = means(stack, len, place, wanted);
     let is_moved = stack.push();
@@ -71,11 +71,11 @@ fn moves(alloc: Global, stack: &mut BlockStack) -> Result<bool, Error> {
     stack.append(root.share()?)?;
     let is_before = is_first(stack, 3);
     let is_next = stack.push() && means(stack, 3, 1, &parent);
-    let is_behind = stack.push() && is_last(stack, 3, 2, &root);
+    let is_after = stack.push() && is_last(stack, 3, 2, &root);
     stack.pop();
     let is_back = means(stack, 3, 1, &parent);
     stack.pop();
-    Ok(is_alone && is_before && is_next && is_behind && is_back && is_first(stack, 3))
+    Ok(is_alone && is_before && is_next && is_after && is_back && is_first(stack, 3))
 }
 
 #[test]

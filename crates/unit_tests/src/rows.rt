@@ -2,7 +2,7 @@
 use std::alloc::Global;
 use tm_values::Error;
 
-/// A row's parts before and behind its ` =>`.
+/// A row's parts before and after its ` =>`.
 pub(crate) fn halves(row: &str) -> (&str, &str) {
     row.split_once(" =>").unwrap_or((row, ""))
 }
@@ -31,7 +31,7 @@ fn with_bars(alloc: Global, words: &str) -> Result<String, Error> {
     Ok(text)
 }
 
-/// The pieces between `|` behind one another, with a blank between them.
+/// The pieces between `|` after one another, with a blank between them.
 pub(crate) fn joined(alloc: Global, pieces: &str, count: usize) -> Result<String, Error> {
     let mut text = String::new(alloc);
     for piece in pieces.split('|') {

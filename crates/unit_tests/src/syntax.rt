@@ -1,4 +1,4 @@
-//! Flags and delimiters that the tests take, each behind a pointer, so that the tests' proofs are
+//! Flags and delimiters that the tests take, each after a pointer, so that the tests' proofs are
 //! spared what a drop of six delimiters does.
 use std::alloc::{AllocError, Global};
 use std::rc::Rc;

@@ -1,6 +1,6 @@
 use Rattle.std.proofs.Common.{◌∙◌, ◌<◌, ◌≤◌, arith, get_or, length, None, Some, ap, subst, sym}
 use Rattle.tm_generator.specs.Caches.{IsNumberedOne}
-use Rattle.tm_generator.proofs.NumberedBehind.{all_numbered, goes_on}
+use Rattle.tm_generator.proofs.NumberedAfter.{all_numbered, goes_on}
 use Rattle.tm_generator.proofs.caches.number_caches.Goals as goal
 use Rattle.tm_generator.proofs.caches.number_caches.Goals.{in-Some, in_default}
 

@@ -1,7 +1,7 @@
 use Rattle.std.proofs.Common.{◌≡◌, ◌+◌, ◌*◌, ◌++◌, ◌≤◌, length, drop, reverse}
 use Rattle.tm_generator.specs.Building.{put, asked, kept, answered}
 use Rattle.tm_generator.specs.Opened.{listing_code, lists_of, maps_of, no_end}
-use Rattle.tm_generator.proofs.Spreading.{behind}
+use Rattle.tm_generator.proofs.Spreading.{after}
 use Rattle.tm_syntax.specs.Code.{exprs_code, pairs_code, keywords_code, steps_code, links_code}
 use Rattle.tm_syntax.specs.declared.tree.Argument.TheBlock.{hidden-the_row-Expr-1 as exprs}
 use Rattle.tm_syntax.specs.declared.tree.Argument.TheBlock.{hidden-the_row-Pair-2 as pairs}
@@ -26,13 +26,13 @@ abbrev pub invariant-push_arguments-loop-argument : goal.invariant-push_argument
 invariant-push_arguments-loop-argument l =
     let left = arguments (drop l.argument-index l.given) in
     (put (listing_code l.pending left) l.code ≡ put (listing_code l.fn.before (arguments l.given)) l.fn.code)
-    × (behind l.ended (lists_of l.pending left) ≡ lists_of l.fn.before (arguments l.given))
+    × (after l.ended (lists_of l.pending left) ≡ lists_of l.fn.before (arguments l.given))
 
 abbrev pub invariant-push_keywords-loop-keyword : goal.invariant-push_keywords-loop-keyword
 invariant-push_keywords-loop-keyword l =
     let left = keywords (drop l.keyword-index l.named) in
     (put (keywords_code no_end l.pending left) l.code ≡ put (keywords_code no_end 0 (keywords l.named)) l.fn.code)
-    × (behind l.ended (maps_of l.pending left) ≡ maps_of 0 (keywords l.named))
+    × (after l.ended (maps_of l.pending left) ≡ maps_of 0 (keywords l.named))
 
 abbrev pub invariant-push_steps-loop-step : goal.invariant-push_steps-loop-step
 invariant-push_steps-loop-step l = put (steps_code (steps (drop l.step-index l.after))) l.code ≡ put (steps_code (steps l.after)) l.fn.code

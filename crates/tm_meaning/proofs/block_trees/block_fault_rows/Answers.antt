@@ -7,8 +7,8 @@ returns-clause-fault c = (refl, refl)
 pub returns-clause-places : goal.returns-clause-places
 returns-clause-places c = (refl, refl)
 
-pub returns-clause-places_behind : goal.returns-clause-places_behind
-returns-clause-places_behind c = (refl, refl)
+pub returns-clause-places_after : goal.returns-clause-places_after
+returns-clause-places_after c = (refl, refl)
 
 pub returns-clause-unknown : goal.returns-clause-unknown
 returns-clause-unknown c = (refl, refl)

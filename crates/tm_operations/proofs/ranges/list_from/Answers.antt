@@ -12,7 +12,7 @@ use Rattle.tm_values.specs.Plain.{vals_plain}
 use Rattle.tm_values.specs.Val.{number, vals_of}
 use Rattle.tm_operations.proofs.ranges.list_from.Goals as goal
 
--- the next number stands behind those that are there
+-- the next number stands after those that are there
 pub loop-place-preserved : goal.loop-place-preserved
 loop-place-preserved c =
     let x = c.args.start in

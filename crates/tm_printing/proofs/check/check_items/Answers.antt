@@ -24,7 +24,7 @@ returns-clause-verdict g c =
     let all : Part = λ inside. items_verdict form r inside (vals_of c.args.items.now) in
     let first : Part = λ inside. verdict form r inside c.in-Some.item.now in
     goes_from form r c.enter.result all first left between c.enter.new.left.items marks marks c.enter.new.marks.items
-    (λ v h. pushed form r v all first left between marks (unchecked.Items c.in-Some.behind) c.in_ok-put.ensures.items refl
+    (λ v h. pushed form r v all first left between marks (unchecked.Items c.in-Some.after) c.in_ok-put.ensures.items refl
     (λ inside. ap (λ (l : List Val). items_verdict form r inside (vals_of l)) c.in-Some.ensures.cases.0) h)
     c.enter.ensures.verdict
 
@@ -34,8 +34,8 @@ returns-clause-weight g c =
     let left = c.args.left.now.items in
     let marks = c.args.marks.now.items in
     let between = c.put.new.left.items in
-    let more = weight-joined left between (unchecked.Items c.in-Some.behind) c.in_ok-put.ensures.items in
-    let parts : vals_size (vals_of c.args.items.now) ≡ val_size c.in-Some.item.now + vals_size (vals_of c.in-Some.behind.now) + 1 =
+    let more = weight-joined left between (unchecked.Items c.in-Some.after) c.in_ok-put.ensures.items in
+    let parts : vals_size (vals_of c.args.items.now) ≡ val_size c.in-Some.item.now + vals_size (vals_of c.in-Some.after.now) + 1 =
     ap (λ (l : List Val). vals_size (vals_of l)) c.in-Some.ensures.cases.0 in
     less_after c.enter.result _ (to_check r between marks + val_size c.in-Some.item.now) _ c.enter.ensures.weight
     (omega (arith, more, parts))

@@ -1,5 +1,5 @@
 use Rattle.std.proofs.Common.{ℕ, Option, Some, Ok, subst, length}
-use Rattle.tm_printing.proofs.Begun.{behind_it}
+use Rattle.tm_printing.proofs.Begun.{after_it}
 use Rattle.tm_printing.specs.Left.{Begins}
 use Rattle.tm_printing.specs.declared.rest.Rest.{Rest}
 use Rattle.tm_printing.proofs.walk.write_parts.Goals as goal
@@ -17,5 +17,5 @@ returns-in-Some g c =
     c.namespace_count.ensures c.in_ok-begun.ensures.text in
     let before : Begins took stopped (Ok (Some c.in-Some.rest)) c.args.target.now whole text c.begin.new.target =
     subst (λ (o : Option Rest). Begins took stopped (Ok o) c.args.target.now whole text c.begin.new.target) c.in-Some.is begun in
-    behind_it took stopped g.met.T.Target.laws c.args.target.now c.begin.new.target c.write_rest.new.target whole before.0
+    after_it took stopped g.met.T.Target.laws c.args.target.now c.begin.new.target c.write_rest.new.target whole before.0
     (text c.in-Some.rest) c.write_rest.result before.1.0 before.1.1 c.write_rest.ensures

@@ -14,8 +14,8 @@ loop-left-smaller-in-Ok g c =
     let next = step_lighter k c.loop-left.rest c.in_ok-next.next step c.in-Some.is c.in_ok-next.ensures.weight (positive r.namespaces) in
     let begun = opened_lighter r step.levels step.value.now c.in_ok-begun-in-Some.begun c.in-Some-begun.inside c.in-Some-begun.is
     c.in_ok-begun-in-Some.ensures.weight in
-    let more : left_weight k c.push.new.self.items ≡ left_weight k c.loop-left.left.items + rest_weight k step.behind =
-    ap (left_weight k) c.in-Ok.ensures.items ∙ left_weight-push k c.loop-left.left.items step.behind in
+    let more : left_weight k c.push.new.self.items ≡ left_weight k c.loop-left.left.items + rest_weight k step.after =
+    ap (left_weight k) c.in-Ok.ensures.items ∙ left_weight-push k c.loop-left.left.items step.after in
     omega (arith, next, begun, more)
 
 pub loop-left-preserved-in-Ok : goal.loop-left-preserved-in-Ok
@@ -33,8 +33,8 @@ loop-left-preserved-in-Ok g c =
     c.advance.new.target c.in_ok-next.next step c.in-Some.is (c.in_ok-next.ensures.text r) in
     let inside = opened took stopped laws text c.args.target.now whole c.advance.new.target _ _ here c.begin.new.target
     c.in_ok-begun-in-Some.begun c.in-Some-begun.inside c.in-Some-begun.is c.in_ok-begun-in-Some.ensures.text in
-    let more : left_text text c.push.new.self.items ≡ text step.behind ++ left_text text left =
-    ap (left_text text) c.in-Ok.ensures.items ∙ left_text-push text left step.behind in
+    let more : left_text text c.push.new.self.items ≡ text step.after ++ left_text text left =
+    ap (left_text text) c.in-Ok.ensures.items ∙ left_text-push text left step.after in
     subst (λ (l : List ℕ). Begun took c.args.target.now whole c.begin.new.target (text c.in-Some-begun.inside ++ l)) (sym more) inside
 
 pub returns-in-Err : goal.returns-in-Err

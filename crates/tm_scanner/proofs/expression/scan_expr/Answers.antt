@@ -6,7 +6,7 @@ use Rattle.tm_scanner.proofs.expression.scan_expr.Goals as goal
 pub loop-rest-preserved : goal.loop-rest-preserved
 loop-rest-preserved c = (
   search rules,
-  goes_on c.args.source.now _ _ c.loop-rest.rest.now c.in_ok-token.behind.now _ c.in_ok-token.token c.loop-rest.invariant.1
+  goes_on c.args.source.now _ _ c.loop-rest.rest.now c.in_ok-token.after.now _ c.in_ok-token.token c.loop-rest.invariant.1
       (not_empty c.loop-rest.rest.now c.is_empty.result c.is_empty.ensures c.loop-rest-test.true) c.in_ok-token.ensures.found c.past_blanks-rest-in-loop-rest.ensures.value c.in_ok-push.ensures.items,
 )
 

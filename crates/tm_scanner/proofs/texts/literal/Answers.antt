@@ -5,7 +5,7 @@ use Rattle.tm_scanner.proofs.texts.literal.Goals as goal
 pub loop-character-preserved : goal.loop-character-preserved
 loop-character-preserved c = (
   search rules,
-  goes_on c.args.quote c.args.text.now _ c.loop-character.rest.now c.in-Some-escape.behind.now c.run-in-Some-escape.result.0.now
+  goes_on c.args.quote c.args.text.now _ c.loop-character.rest.now c.in-Some-escape.after.now c.run-in-Some-escape.result.0.now
       c.run-in-Some-escape.result.1.now _ c.in-Some-escape.character
       c.loop-character.invariant.1 (sym c.in-Some-escape.ensures.value) c.run-in-Some-escape.ensures.value
       (c.in_ok-push_str.ensures.bytes ∙ ap (λ w. w ++ c.run-in-Some-escape.result.0.now) c.in_ok-push.ensures.bytes),

@@ -1,6 +1,6 @@
 use Rattle.std.proofs.Common.{◌≡◌, ◌∙◌, ◌+◌, arith, length, sym, take, true, false}
 use Rattle.tm_tables.specs.Layers.{having}
-use Rattle.tm_tables.proofs.Chain.{layer_found, left_behind, past}
+use Rattle.tm_tables.proofs.Chain.{layer_found, left_after, past}
 use Rattle.tm_tables.proofs.loaded.layer_of.Goals as goal
 use Rattle.tm_tables.proofs.loaded.layer_of.Goals.{then-has+else-left-eq0, else-has}
 
@@ -21,7 +21,7 @@ loop-at-preserved c =
     let left : c.if-has.left + length (having x (take (at + 1) layers)) ≡ c.args.place = elim c.if-has.branch [
       | then-has+else-left-eq0 w ↦ omega (
         arith,
-        left_behind x layers at c.index-layers-at.result true c.loop-at-test.true c.index-layers-at.is
+        left_after x layers at c.index-layers-at.result true c.loop-at-test.true c.index-layers-at.is
             (sym c.has.ensures ∙ w.if-has.true),
         w.left-is,
         w.if-left-eq0.false,
@@ -29,7 +29,7 @@ loop-at-preserved c =
       )
       | else-has w ↦ omega (
         arith,
-        left_behind x layers at c.index-layers-at.result false c.loop-at-test.true c.index-layers-at.is
+        left_after x layers at c.index-layers-at.result false c.loop-at-test.true c.index-layers-at.is
             (sym c.has.ensures ∙ w.if-has.false),
         w.left-is,
         c.loop-at.invariant.1,

@@ -21,4 +21,4 @@ as_whole b (loop i n) = refl
 as_whole b (namespace i n) = refl
 
 pub returns : goal.returns
-returns c = record { total = val_cmp_total; equality = λ a b. refl; truth = λ b v. refl; truth_behind = as_whole }
+returns c = record { total = val_cmp_total; equality = λ a b. refl; truth = λ b v. refl; truth_after = as_whole }

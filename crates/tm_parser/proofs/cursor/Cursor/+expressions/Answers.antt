@@ -106,8 +106,8 @@ pub operators-turns-init : goal.operators-turns-init
 operators-turns-init t c =
     (none_waits (inside c.args.depth) c.new-waiting.result _ _ c.new-waiting.ensures, subst AllAbove (sym c.new-waiting.ensures) tt)
 
-pub behind_postfix-returns-clause-no_more : goal.behind_postfix-returns-clause-no_more
-behind_postfix-returns-clause-no_more t c = postfix_no_more (inside c.args.depth) _ _ _ _ c.in_ok-value.ensures
+pub after_postfix-returns-clause-no_more : goal.after_postfix-returns-clause-no_more
+after_postfix-returns-clause-no_more t c = postfix_no_more (inside c.args.depth) _ _ _ _ c.in_ok-value.ensures
 
 pub right_side-returns-clause-no_more : goal.right_side-returns-clause-no_more
 right_side-returns-clause-no_more t c = right_no_more (inside c.args.depth) _ _ _ _ c.in_ok-start.ensures

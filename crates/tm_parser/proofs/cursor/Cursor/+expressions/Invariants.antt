@@ -130,8 +130,8 @@ decreases-steps l = nesting_room * l.depth + 11
 abbrev pub decreases-with_steps : goal.decreases-with_steps
 decreases-with_steps l = nesting_room * l.depth + 12
 
-abbrev pub decreases-behind_postfix : goal.decreases-behind_postfix
-decreases-behind_postfix l = nesting_room * l.depth + 13
+abbrev pub decreases-after_postfix : goal.decreases-after_postfix
+decreases-after_postfix l = nesting_room * l.depth + 13
 
 abbrev pub decreases-operators : goal.decreases-operators
 decreases-operators l = nesting_room * l.depth + 14

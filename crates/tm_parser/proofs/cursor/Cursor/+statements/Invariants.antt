@@ -37,8 +37,8 @@ decreases-for_tag l = nesting_room * l.depth + 2
 abbrev pub decreases-ended_body : goal.decreases-ended_body
 decreases-ended_body l = nesting_room * l.depth + 1
 
-abbrev pub decreases-body_behind : goal.decreases-body_behind
-decreases-body_behind l = nesting_room * l.depth + 2
+abbrev pub decreases-body_after : goal.decreases-body_after
+decreases-body_after l = nesting_room * l.depth + 2
 
 abbrev pub decreases-named_body : goal.decreases-named_body
 decreases-named_body l = nesting_room * l.depth + 1

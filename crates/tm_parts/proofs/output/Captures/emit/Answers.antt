@@ -21,7 +21,7 @@ outside : (captures : List Capture) (told now : Option (List ℕ)) (text : List 
     AppendsBeginning told now (put_out captures text)
 outside captures told now text is h = subst (λ (c : List Capture). AppendsBeginning told now (put_out c text)) (sym is) h
 
--- a writer that wasn't given the text to its end was told a beginning, whatever the reason
+-- a writer that wasn't given the text to its end was given a beginning, whatever the reason
 told_part : {S : Type 0} (told : S → Option (List ℕ)) (failures : S → ℕ) (e : Unwritten) (before after : S) (text : List ℕ)
     → Writes {U = Unit {0}} (WriterTakes told failures) (WriterTakesInPart told failures) (Err e) before text after
     → AppendsBeginning (told before) (told after) text

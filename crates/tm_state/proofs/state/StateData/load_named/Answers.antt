@@ -17,11 +17,11 @@ returns-clause-ok g c =
     ∙ sym c.is_loaded.ensures ∙ c.if-is_loaded.false in
     let there = subst (λ y. AreBlocksOf c.in-Some.entry.blocks (find y host.templates)) c.as_str-2.ensures c.in-Some.ensures.2 in
     let added = c.in_ok-add_loaded.ensures.ok in
-    let behind = c.in_ok-append.ensures.ok in
+    let after = c.in_ok-append.ensures.ok in
     loads_into host x w c.in-Some.entry.blocks fresh there c.in_ok-share.field-0 c.add_loaded.new.self.blocks c.add_loaded.new.self.places
-    c.add_loaded.new.self.loaded c.self.view_is c.in_ok-share.ensures (ap (λ (l : ListsValue). l.blocks) added ∙ ap (λ (l : ListsValue). l.blocks) behind)
-    (ap (λ (l : ListsValue). l.places) added ∙ ap (λ (l : ListsValue). l.places) behind)
-    (ap (λ (l : ListsValue). l.loaded) added ∙ ap (λ (l : ListsValue). l.loaded ++ x ∷ []) behind)
+    c.add_loaded.new.self.loaded c.self.view_is c.in_ok-share.ensures (ap (λ (l : ListsValue). l.blocks) added ∙ ap (λ (l : ListsValue). l.blocks) after)
+    (ap (λ (l : ListsValue). l.places) added ∙ ap (λ (l : ListsValue). l.places) after)
+    (ap (λ (l : ListsValue). l.loaded) added ∙ ap (λ (l : ListsValue). l.loaded ++ x ∷ []) after)
 
 pub returns-clause-fewer : goal.returns-clause-fewer
 returns-clause-fewer g c =

@@ -7,8 +7,8 @@ use Rattle.tm_state.proofs.state.StateData.next_block.Goals as goal
 pub returns-clause-ok : goal.returns-clause-ok
 returns-clause-ok c =
     let w = c.args.self.now in
-    let behind = c.in-Some-behind.ensures in
-    next_there w c.in_ok-share-3.field-0 behind.1.0 c.place-place.result c.in-Some-behind.next c.in-Some-behind.template.now
+    let after = c.in-Some-after.ensures in
+    next_there w c.in_ok-share-3.field-0 after.1.0 c.place-place.result c.in-Some-after.next c.in-Some-after.template.now
     c.block-stream.result (search rules)
-    (ap (λ y. find y w.blocks) c.in_ok-share-3.ensures ∙ ap (λ (v : World). find c.in-Some.name v.blocks) (sym c.self.view_is) ∙ behind.1.1)
-    (search rules) behind.0 behind.1.2 (search rules)
+    (ap (λ y. find y w.blocks) c.in_ok-share-3.ensures ∙ ap (λ (v : World). find c.in-Some.name v.blocks) (sym c.self.view_is) ∙ after.1.1)
+    (search rules) after.0 after.1.2 (search rules)

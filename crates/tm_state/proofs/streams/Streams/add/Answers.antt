@@ -13,14 +13,14 @@ invariant_of-self-2 c =
     let s = c.args.stream.now in
     let all = c.self.inside.all.items in
     let number = ap (stream_from 0 s) c.self.view_is in
-    let behind : length all ≤ stream_from 0 s all = omega (arith, c.requires, c.if-number-len.false, c.len.ensures, number) in
+    let after : length all ≤ stream_from 0 s all = omega (arith, c.requires, c.if-number-len.false, c.len.ensures, number) in
     subst AreDistinct (sym (c.in_ok-push.ensures.items ∙ ap (λ t. all ++ t ∷ []) c.in_ok-share.ensures))
-    (distinct_more s all c.self.invariant (is_new s all behind))
+    (distinct_more s all c.self.invariant (is_new s all after))
 
 pub returns-clause-ok : goal.returns-clause-ok
 returns-clause-ok c =
     let s = c.args.stream.now in
     let all = c.self.inside.all.items in
     let number = ap (stream_from 0 s) c.self.view_is in
-    let behind : length all ≤ stream_from 0 s all = omega (arith, c.requires, c.if-number-len.false, c.len.ensures, number) in
-    c.in_ok-push.ensures.items ∙ ap (λ t. all ++ t ∷ []) c.in_ok-share.ensures ∙ added s all behind ∙ ap (with_stream s) c.self.view_is
+    let after : length all ≤ stream_from 0 s all = omega (arith, c.requires, c.if-number-len.false, c.len.ensures, number) in
+    c.in_ok-push.ensures.items ∙ ap (λ t. all ++ t ∷ []) c.in_ok-share.ensures ∙ added s all after ∙ ap (with_stream s) c.self.view_is

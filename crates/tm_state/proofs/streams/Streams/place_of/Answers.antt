@@ -25,5 +25,5 @@ pub returns : goal.returns
 returns c =
     let all = c.self.inside.all.items in
     let s = c.args.stream.now in
-    let behind : length all ≤ c.loop-place.place = omega (arith, c.loop-place-test.false, c.len.ensures) in
-    sym (at_end c.loop-place.place c.loop-place.place s all behind) ∙ sym c.loop-place.invariant.1 ∙ ap (stream_from 0 s) c.self.view_is
+    let after : length all ≤ c.loop-place.place = omega (arith, c.loop-place-test.false, c.len.ensures) in
+    sym (at_end c.loop-place.place c.loop-place.place s all after) ∙ sym c.loop-place.invariant.1 ∙ ap (stream_from 0 s) c.self.view_is

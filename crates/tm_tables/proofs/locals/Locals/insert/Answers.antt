@@ -1,7 +1,7 @@
 use Rattle.std.proofs.Common.{◌≡◌, ◌∙◌, ◌++◌, ap, subst, None, Some}
 use Rattle.tm_syntax.specs.Named.{find, put}
 use Rattle.tm_tables.specs.Locals.{IsPlace, in_order}
-use Rattle.tm_tables.proofs.Ordered.{put_at, put_behind, put_among, the_name}
+use Rattle.tm_tables.proofs.Ordered.{put_at, put_after, put_among, the_name}
 use Rattle.tm_tables.proofs.locals.Locals.insert.Goals as goal
 use Rattle.tm_tables.proofs.locals.Locals.insert.Goals.{in-Some-1, in-None-branch-3}
 
@@ -15,7 +15,7 @@ returns-in-Some-clause-ok c =
 pub returns-in_ok-push-in-None-clause-ok : goal.returns-in_ok-push-in-None-clause-ok
 returns-in_ok-push-in-None-clause-ok c =
     ap (λ l. in_order (l ++ c.self.inside.others.entries)) c.in_ok-push-in-None.ensures.items
-    ∙ put_behind c.args.name c.args.value c.self.inside.first.items c.self.inside.others.entries
+    ∙ put_after c.args.name c.args.value c.self.inside.first.items c.self.inside.others.entries
     (subst (λ ps. find c.args.name ps ≡ None) c.deref.ensures.value c.in-None.ensures)
     ∙ ap (put c.args.name c.args.value) c.self.view_is
 

@@ -1,7 +1,7 @@
 use Rattle.std.proofs.Common.{◌≡◌, ◌∙◌, ◌++◌, [], ◌∷◌, ap, subst, sym, None, Some}
 use Rattle.tm_syntax.specs.Named.{find, put}
 use Rattle.tm_tables.specs.Locals.{IsPlace, in_order}
-use Rattle.tm_tables.proofs.Ordered.{put_at, put_behind, the_name}
+use Rattle.tm_tables.proofs.Ordered.{put_at, put_after, the_name}
 use Rattle.tm_tables.proofs.locals.Locals.put.Goals as goal
 
 pub returns-in-Some : goal.returns-in-Some
@@ -20,6 +20,6 @@ returns-in-Ok c =
     let others = c.self.inside.others.entries in
     ap (λ l. in_order (l ++ others)) c.push_reserved.ensures.items
     ∙ (subst (λ y. in_order ((first ++ (y, c.args.value) ∷ []) ++ others) ≡ put x c.args.value (in_order (first ++ others)))
-    (sym c.in-Ok.ensures) (put_behind x c.args.value first others
+    (sym c.in-Ok.ensures) (put_after x c.args.value first others
     (subst (λ ps. find x ps ≡ None) c.deref.ensures.value c.in-None.ensures))
     ∙ ap (put x c.args.value) c.self.view_is)

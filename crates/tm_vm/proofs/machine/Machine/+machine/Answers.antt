@@ -6,15 +6,15 @@ use Rattle.tm_state.specs.State.{put_back}
 use Rattle.tm_parts.specs.Halts.{failures_after}
 use Rattle.tm_vm.specs.Answers.{HaltsAs, program}
 use Rattle.tm_vm.specs.declared.flow.Flow.TheVariants as flow
-use Rattle.tm_vm.proofs.Loop.{at_base, fixed_same, fixed_then, stands_first, stands_next, stands_again, stands_behind, stands_called, beginning_at, beginning_in}
+use Rattle.tm_vm.proofs.Loop.{at_base, fixed_same, fixed_then, stands_first, stands_next, stands_again, stands_after, stands_called, beginning_at, beginning_in}
 use Rattle.tm_parts.specs.declared.halt.Halt.TheVariants as halt
 use Rattle.tm_state.specs.declared.nested.NestedRun.{NestedRun}
 use Rattle.tm_vm.specs.Nested.{EndsNested, IsWrapped, RanNested, Went, WroteBeginning, base_in, begins_in}
 use Rattle.tm_state.specs.declared.nested.RunOf.{RunOf}
 use Rattle.tm_vm.proofs.Ground.{no_fewer_same, over_same}
 use Rattle.tm_vm.proofs.Loop.{as_value, began, ended_at, in_place, refused_ends, stands_deeper, was_back, wrapped_ends}
-use Rattle.tm_vm.proofs.Loop.{ended_in, done_at, whole_at, scopes_behind, was_there, above_base}
-use Rattle.tm_vm.proofs.Weight.{less_behind, parents_behind}
+use Rattle.tm_vm.proofs.Loop.{ended_in, done_at, whole_at, scopes_after, was_there, above_base}
+use Rattle.tm_vm.proofs.Weight.{less_after, parents_after}
 use Rattle.tm_vm.proofs.machine.Machine.+machine.Goals as goal
 
 pub run-streams-init : goal.run-streams-init
@@ -155,7 +155,7 @@ run-returns-in-Err-run_nested-clause-no_fewer g t c =
     let e = c.in-Ok-Enter.entry.value in
     let step = rw c.in-Ok-Enter.field-0-is at c.in-Ok-Enter.ensures.performs in
     let deep = step.depths in
-    let same = scopes_behind limit e c.steps.self.world c.step.new.self.world c.run_nested.new.self.world deep c.in-Err-run_nested.ensures.back in
+    let same = scopes_after limit e c.steps.self.world c.step.new.self.world c.run_nested.new.self.world deep c.in-Err-run_nested.ensures.back in
     over_same c.args.self.now.world c.steps.self.world c.run_nested.new.self.world c.steps.invariant.no_fewer same
 
 pub run-steps-smaller : goal.run-steps-smaller
@@ -165,7 +165,7 @@ run-steps-smaller g t c =
     let paid = rw c.in-Ok-Enter.field-0-is at c.in-Ok-Enter.ensures.paid in
     let there = was_there c.in_default.ensures.ran in
     let first = there.1 in
-    less_behind (length c.code-code.result.now) c.steps.self mid c.run_nested.new.self (paid there.0 first).0
+    less_after (length c.code-code.result.now) c.steps.self mid c.run_nested.new.self (paid there.0 first).0
     c.in_default.ensures.kept.no_more_fuel c.in_default.ensures.same_run.1
 
 pub run-steps-preserved : goal.run-steps-preserved
@@ -188,12 +188,12 @@ run-steps-preserved g t c =
     let there = was_there went in
     let first = there.1 in
     let deep = step.depths in
-    let behind = c.run_nested.new.self.world in
-    let same = scopes_behind limit e c.steps.self.world c.step.new.self.world behind deep c.in_default.ensures.back in
+    let after = c.run_nested.new.self.world in
+    let same = scopes_after limit e c.steps.self.world c.step.new.self.world after deep c.in_default.ensures.back in
     let left : names_left host mid.world ≡ names_left host c.steps.self.world =
     ap (λ ns. names_left host (record c.steps.self.world { loaded = ns })) step.names in
     let fewer = c.in_default.ensures.names in
-    let parents = parents_behind host c.steps.self mid c.run_nested.new.self (paid there.0 first).1 step.names fewer
+    let parents = parents_after host c.steps.self mid c.run_nested.new.self (paid there.0 first).1 step.names fewer
     c.in_default.ensures.same_run in
     record {
       failures = c.in_default.ensures.failures ∙ step.counted ∙ c.steps.invariant.failures;
@@ -202,7 +202,7 @@ run-steps-preserved g t c =
       no_fewer = over_same c.args.self.now.world c.steps.self.world c.run_nested.new.self.world c.steps.invariant.no_fewer same;
       same_stream = c.in_default.ensures.same_run.0 ∙ step.same_stream ∙ c.steps.invariant.same_stream;
       parents = omega (arith, parents, c.steps.invariant.parents);
-      stands = stands_behind e c.step.new.self c.run_nested.new.self at new c.steps.invariant.stands enters went;
+      stands = stands_after e c.step.new.self c.run_nested.new.self at new c.steps.invariant.stands enters went;
     }
 
 pub run-streams-smaller : goal.run-streams-smaller

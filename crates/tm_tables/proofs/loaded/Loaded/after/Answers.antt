@@ -1,7 +1,7 @@
 use Rattle.std.proofs.Common.{◌+◌, ◌≤◌, Some, None, arith, length, refl, subst, ap}
 use Rattle.tm_tables.specs.Layers.{IsLayerOf}
-use Rattle.tm_tables.proofs.Chain.{none_behind, none_listed, one_listed}
-use Rattle.tm_tables.proofs.loaded.Loaded.behind.Goals as goal
+use Rattle.tm_tables.proofs.Chain.{none_after, none_listed, one_listed}
+use Rattle.tm_tables.proofs.loaded.Loaded.after.Goals as goal
 
 pub returns-in-None : goal.returns-in-None
 returns-in-None c =
@@ -14,7 +14,7 @@ returns-then-place-len c =
     let layers = c.self.inside.layers.items in
     let few : length layers ≤ c.args.place = grind (arith, c.len.ensures, c.if-place-len.true) in
     none_listed c.args.name.now (c.args.place + 1) layers c.args.self.now.blocks c.self.invariant
-    (ap (λ v. v.blocks) c.self.view_is) (none_behind c.args.name.now c.args.place layers few)
+    (ap (λ v. v.blocks) c.self.view_is) (none_after c.args.name.now c.args.place layers few)
 
 pub returns-in-Some : goal.returns-in-Some
 returns-in-Some c =

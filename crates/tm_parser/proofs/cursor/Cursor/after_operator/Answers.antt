@@ -1,7 +1,7 @@
 use Rattle.std.proofs.Common.{refl, sym, ◌∙◌}
 use Rattle.tm_parser.specs.Grammar.{inside}
 use Rattle.tm_parser.proofs.Waiting.{first_one, none_there, first_above, first_less}
-use Rattle.tm_parser.proofs.cursor.Cursor.behind_operator.Goals as goal
+use Rattle.tm_parser.proofs.cursor.Cursor.after_operator.Goals as goal
 
 pub returns-in_default-clause-left : goal.returns-in_default-clause-left
 returns-in_default-clause-left c =

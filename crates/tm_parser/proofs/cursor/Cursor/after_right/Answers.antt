@@ -2,7 +2,7 @@ use Rattle.std.proofs.lemmas.Result.{err_from_is_err_and}
 use Rattle.tm_parser.specs.Grammar.{inside}
 use Rattle.tm_parser.proofs.Loops.{because}
 use Rattle.tm_parser.proofs.Waiting.{right_ends, right_again, right_fails, right_above, right_less}
-use Rattle.tm_parser.proofs.cursor.Cursor.behind_right.Goals as goal
+use Rattle.tm_parser.proofs.cursor.Cursor.after_right.Goals as goal
 
 pub returns-in_err-next-in-Some-take_link-clause-left : goal.returns-in_err-next-in-Some-take_link-clause-left
 returns-in_err-next-in-Some-take_link-clause-left c =
