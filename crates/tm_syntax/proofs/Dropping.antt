@@ -3,7 +3,6 @@ use Rattle.std.proofs.Common.{arith, ◌≡◌, ◌+◌, ◌++◌, ℕ, suc, Lis
 use denote.Hole.Carrier.{hidden}
 use Rattle.tm_syntax.specs.declared.tree.UnaryOperator.{UnaryOperator}
 use Rattle.tm_syntax.specs.declared.tree.BinaryOperator.{BinaryOperator}
-use Rattle.tm_syntax.specs.declared.tree.Application.{Application}
 use Rattle.tm_syntax.specs.declared.tree.Argument.{Argument}
 use Rattle.tm_syntax.specs.declared.tree.Argument.TheVariants as a
 use Rattle.tm_syntax.specs.declared.tree.Argument.TheBlock.{hidden-the_row-Expr-0}
@@ -32,22 +31,22 @@ joined μ [] ys = omega arith
 joined μ (x ∷ xs) ys = omega (arith, joined μ xs ys)
 
 -- ---------------------------------------------------------------- rows
-exprs_are : (xs : List Expr) → exprs_row (exprs xs) ≡ total weight xs
+pub exprs_are : (xs : List Expr) → exprs_row (exprs xs) ≡ total weight xs
 unfolding hidden exprs shape-the_row-Expr-1
 exprs_are [] = refl
 exprs_are (x ∷ xs) = omega (arith, exprs_are xs)
 
-pairs_are : (xs : List Pair) → pairs_row (pairs xs) ≡ total pair_weight xs
+pub pairs_are : (xs : List Pair) → pairs_row (pairs xs) ≡ total pair_weight xs
 unfolding hidden pairs shape-the_row-Pair-2
 pairs_are [] = refl
 pairs_are (x ∷ xs) = omega (arith, pairs_are xs)
 
-arguments_are : (xs : List Argument) → arguments_row (arguments xs) ≡ total argument_weight xs
+pub arguments_are : (xs : List Argument) → arguments_row (arguments xs) ≡ total argument_weight xs
 unfolding hidden arguments shape-the_row-Argument-3
 arguments_are [] = refl
 arguments_are (x ∷ xs) = omega (arith, arguments_are xs)
 
-keywords_are : (xs : List Keyword) → keywords_row (keywords xs) ≡ total keyword_weight xs
+pub keywords_are : (xs : List Keyword) → keywords_row (keywords xs) ≡ total keyword_weight xs
 unfolding hidden keywords shape-the_row-Keyword-4
 keywords_are [] = refl
 keywords_are (x ∷ xs) = omega (arith, keywords_are xs)
@@ -68,19 +67,6 @@ comparisons_are [] = refl
 comparisons_are (x ∷ xs) = omega (arith, comparisons_are xs)
 
 -- ---------------------------------------------------------------- expressions
-pub of_list : (xs : List Expr) → weight (e.List xs) ≡ total weight xs
-of_list xs = exprs_are xs
-
-pub of_tuple : (xs : List Expr) → weight (e.Tuple xs) ≡ total weight xs
-of_tuple xs = exprs_are xs
-
-pub of_map : (xs : List Pair) → weight (e.Map xs) ≡ total pair_weight xs
-of_map xs = pairs_are xs
-
-pub of_call : (f : List ℕ) (given : List Argument) (named : List Keyword) →
-    weight (e.Call f given named) ≡ total argument_weight given + total keyword_weight named
-of_call f given named = omega (arith, arguments_are given, keywords_are named)
-
 pub of_unary : (op : UnaryOperator) (x : Expr) → weight (e.Unary op x) ≡ suc (weight x)
 unfolding hidden hidden-the_row-Expr-0
 of_unary op x = refl
@@ -115,14 +101,6 @@ pub of_item : (x : Expr) → step_weight (s.Item x) ≡ suc (weight x)
 unfolding hidden hidden-the_row-Expr-0
 of_item x = refl
 
-pub of_apply : (how : Application) (f : List ℕ) (given : List Argument) (named : List Keyword) →
-    step_weight (s.Apply how f given named) ≡ total argument_weight given + total keyword_weight named
-of_apply how f given named = omega (arith, arguments_are given, keywords_are named)
-
-pub of_called : (given : List Argument) (named : List Keyword) →
-    step_weight (s.Call given named) ≡ total argument_weight given + total keyword_weight named
-of_called given named = omega (arith, arguments_are given, keywords_are named)
-
 pub of_slice : (x y z : Expr) → step_weight (s.Slice x y z) ≡ suc (suc (suc (weight x + weight y + weight z)))
 unfolding hidden hidden-the_row-Expr-0
 of_slice x y z = refl
@@ -144,10 +122,10 @@ pub of_or : (x : Expr) → step_weight (s.Or x) ≡ suc (weight x)
 unfolding hidden hidden-the_row-Expr-0
 of_or x = refl
 
-pub ruleset of_expr = (of_list, of_tuple, of_map, of_call, of_unary, of_chain, of_conditional)
+pub ruleset passed = (arguments_are, keywords_are)
+
+pub ruleset of_expr = (exprs_are, pairs_are, passed, of_unary, of_chain, of_conditional)
 
 pub ruleset of_part = (of_plain, of_spread, of_named, of_spread_keywords)
 
-pub ruleset of_step = (of_item, of_apply, of_called, of_slice, of_binary, of_compare, of_and, of_or)
-
-pub ruleset weights = (joined, of_expr, of_part, of_step)
+pub ruleset of_step = (passed, of_item, of_slice, of_binary, of_compare, of_and, of_or)

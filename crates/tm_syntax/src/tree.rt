@@ -321,7 +321,7 @@ pub enum Tree {
 // What an expression holds is dropped by a list, so that a deep one takes no deep stack.
 impl Drop for Expr {
     #[cycle(dropping)]
-    #[tactic(auto, using(crate::proofs::Dropping::weights))]
+    #[tactic(auto, using(crate::proofs::Dropping::of_expr))]
     fn drop(self) {
         match self {
             Expr::Var(_) | Expr::Const(_) | Expr::SelfBlock(_) => {}
@@ -386,7 +386,7 @@ impl Expr {
 
     // Puts aside what it holds.
     #[cycle(dropping)]
-    #[tactic(auto, using(crate::proofs::Dropping::weights))]
+    #[tactic(auto, using(crate::proofs::Dropping::of_expr))]
     fn put_parts(self, left: &mut Vec<Expr>)
         ensures { GrewAtMost (weight self) left.old.items left.new.items }
     {
@@ -412,7 +412,7 @@ impl Expr {
 // Drops expressions one by one. What each holds joins those that are left.
 #[inline(never)]
 #[cycle(dropping)]
-#[tactic(auto, using(crate::proofs::Dropping::weights))]
+#[tactic(auto, using(crate::proofs::Dropping::joined))]
 fn drop_all(mut left: Vec<Expr>) {
     while let Some(expr) = left.pop() {
         expr.put_parts(&mut left);
@@ -424,7 +424,7 @@ fn drop_all(mut left: Vec<Expr>) {
 // there is no memory for the list.
 #[inline(never)]
 #[cycle(dropping)]
-#[tactic(auto, using(crate::proofs::Dropping::weights))]
+#[tactic(auto, using(crate::proofs::Dropping::joined))]
 fn put(expr: Expr, left: &mut Vec<Expr>)
     ensures { GrewAtMost (suc (weight expr)) left.old.items left.new.items }
 {
@@ -438,7 +438,7 @@ fn put(expr: Expr, left: &mut Vec<Expr>)
 }
 
 #[cycle(dropping)]
-#[tactic(auto, using(crate::proofs::Dropping::weights))]
+#[tactic(auto, using(crate::proofs::Dropping::joined))]
 fn put_exprs(mut exprs: Vec<Expr>, left: &mut Vec<Expr>)
     ensures { GrewAtMost (total weight exprs.items) left.old.items left.new.items }
 {
@@ -449,7 +449,7 @@ fn put_exprs(mut exprs: Vec<Expr>, left: &mut Vec<Expr>)
 }
 
 #[cycle(dropping)]
-#[tactic(auto, using(crate::proofs::Dropping::weights))]
+#[tactic(auto, using(crate::proofs::Dropping::joined))]
 fn put_pairs(mut pairs: Vec<Pair>, left: &mut Vec<Expr>)
     ensures { GrewAtMost (total pair_weight pairs.items) left.old.items left.new.items }
 {
@@ -461,7 +461,7 @@ fn put_pairs(mut pairs: Vec<Pair>, left: &mut Vec<Expr>)
 }
 
 #[cycle(dropping)]
-#[tactic(auto, using(crate::proofs::Dropping::weights))]
+#[tactic(auto, using(crate::proofs::Dropping::joined, crate::proofs::Dropping::of_part))]
 fn put_passed(mut given: Vec<Argument>, mut named: Vec<Keyword>, left: &mut Vec<Expr>)
     ensures { GrewAtMost
         (total argument_weight given.items + total keyword_weight named.items)
@@ -486,7 +486,7 @@ fn put_passed(mut given: Vec<Argument>, mut named: Vec<Keyword>, left: &mut Vec<
 }
 
 #[cycle(dropping)]
-#[tactic(auto, using(crate::proofs::Dropping::weights))]
+#[tactic(auto, using(crate::proofs::Dropping::joined))]
 fn put_conditions(mut conditions: Vec<Condition>, left: &mut Vec<Expr>)
     ensures { GrewAtMost (total condition_weight conditions.items) left.old.items left.new.items }
 {
@@ -498,7 +498,7 @@ fn put_conditions(mut conditions: Vec<Condition>, left: &mut Vec<Expr>)
 }
 
 #[cycle(dropping)]
-#[tactic(auto, using(crate::proofs::Dropping::weights))]
+#[tactic(auto, using(crate::proofs::Dropping::joined))]
 fn put_comparisons(mut comparisons: Vec<Comparison>, left: &mut Vec<Expr>)
     ensures { GrewAtMost (total comparison_weight comparisons.items) left.old.items left.new.items }
 {
@@ -509,7 +509,7 @@ fn put_comparisons(mut comparisons: Vec<Comparison>, left: &mut Vec<Expr>)
 }
 
 #[cycle(dropping)]
-#[tactic(auto, using(crate::proofs::Dropping::weights))]
+#[tactic(auto, using(crate::proofs::Dropping::joined))]
 fn put_steps(mut steps: Vec<Step>, left: &mut Vec<Expr>)
     ensures { GrewAtMost (total step_weight steps.items) left.old.items left.new.items }
 {
@@ -520,7 +520,7 @@ fn put_steps(mut steps: Vec<Step>, left: &mut Vec<Expr>)
 }
 
 #[cycle(dropping)]
-#[tactic(auto, using(crate::proofs::Dropping::weights))]
+#[tactic(auto, using(crate::proofs::Dropping::of_step))]
 fn put_step(step: Step, left: &mut Vec<Expr>)
     ensures { GrewAtMost (step_weight step) left.old.items left.new.items }
 {

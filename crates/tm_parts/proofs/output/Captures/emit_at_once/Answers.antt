@@ -8,8 +8,8 @@ pub returns : goal.returns
 returns c =
     let xs = c.self.inside.«open».items in
     let n = c.len-count.result in
-    let seen = subst (λ (k : Capture). k ≡ slice_index_or xs (n - 1) k) (sym c.after-self.view_is) c.index_mut.ensures.value in
+    let seen = subst (λ (k : Capture). k ≡ slice_index_or xs (n - 1) k) (sym c.behind-self.view_is) c.index_mut.ensures.value in
     rw (sym c.self.view_is)
-    (emitted_or_stays c.emit_at_once.result xs n (is_heard c.after-self.inside.mode) c.after-self.inside.text c.emit_at_once.new.target
+    (emitted_or_stays c.emit_at_once.result xs n (is_heard c.behind-self.inside.mode) c.behind-self.inside.text c.emit_at_once.new.target
     string_bytes c.args.escape c.args.value.now (c.len-count.ensures ∙ c.self.inside.«open».ok.0) c.if-count-eq0.false seen
     c.emit_at_once.ensures)

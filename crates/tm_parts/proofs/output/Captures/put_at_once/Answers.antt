@@ -8,8 +8,8 @@ pub returns : goal.returns
 returns c =
     let xs = c.self.inside.«open».items in
     let n = c.len-count.result in
-    let seen = subst (λ (k : Capture). k ≡ slice_index_or xs (n - 1) k) (sym c.after-self.view_is) c.index_mut.ensures.value in
+    let seen = subst (λ (k : Capture). k ≡ slice_index_or xs (n - 1) k) (sym c.behind-self.view_is) c.index_mut.ensures.value in
     rw (c.is_ok.ensures.value, sym c.self.view_is)
-    (put_or_stays (is_ok c.push_str.result) xs n (is_heard c.after-self.inside.mode) (string_bytes c.after-self.inside.text)
+    (put_or_stays (is_ok c.push_str.result) xs n (is_heard c.behind-self.inside.mode) (string_bytes c.behind-self.inside.text)
     (string_bytes c.push_str.new.self) c.args.text.now (c.len-count.ensures ∙ c.self.inside.«open».ok.0) c.if-count-eq0.false seen
     c.push_str.ensures.bytes)
