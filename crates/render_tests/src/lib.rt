@@ -15,6 +15,7 @@ mod calls;
 mod expressions;
 #[cfg(test)]
 mod includes;
+mod lending;
 #[cfg(test)]
 mod limited;
 #[cfg(test)]
@@ -35,3 +36,5 @@ mod settings;
 mod states;
 #[cfg(test)]
 mod values;
+
+pub use lending::with;

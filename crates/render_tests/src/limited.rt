@@ -116,13 +116,17 @@ fn ends(alloc: Global, environment: &Environment<'_>, case: &Case) -> Result<boo
     Ok(is_end && took(&writer, case))
 }
 
-#[test]
-fn a_sink_with_an_end(rt: HostRuntime) -> Result<(), Fail> {
-    let environment = Environment::new(rt.alloc())?;
+fn expect_ends(alloc: Global, environment: &Environment<'_>) -> Result<(), Fail> {
     for case in CASES {
-        if !ends(rt.alloc(), &environment, case)? {
+        if !ends(alloc, environment, case)? {
             return Err(Fail::new(case.source));
         }
     }
     Ok(())
+}
+
+#[test]
+fn a_sink_with_an_end(rt: HostRuntime) -> Result<(), Fail> {
+    let environment = Environment::new(rt.alloc())?;
+    expect_ends(rt.alloc(), &environment)
 }
