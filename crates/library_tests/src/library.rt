@@ -20,7 +20,6 @@ use std::rc::RcStr;
 use template_machine::*;
 // example ends here
 
-use render_tests::with;
 use std::test::Fail;
 
 // example begins here
@@ -167,8 +166,8 @@ fn keeps_templates(alloc: Global, environment: &mut Environment<'_>) -> Result<b
 
 #[test]
 fn templates_are_kept(rt: HostRuntime) -> Result<(), Fail> {
-    let alloc = rt.alloc();
-    assert!(rt; with(Environment::new(alloc)?, |it| keeps_templates(alloc, it))?);
+    let mut environment = Environment::new(rt.alloc())?;
+    assert!(rt; keeps_templates(rt.alloc(), &mut environment)?);
     Ok(())
 }
 
@@ -194,9 +193,9 @@ fn tells_names(environment: &Environment<'_>) -> Result<bool, Error> {
 
 #[test]
 fn sources_are_rendered(rt: HostRuntime) -> Result<(), Fail> {
-    let alloc = rt.alloc();
-    assert!(rt; with(Environment::new(alloc)?, |it| renders_sources(it))?);
-    assert!(rt; with(Environment::new(alloc)?, |it| tells_names(it))?);
+    let environment = Environment::new(rt.alloc())?;
+    assert!(rt; renders_sources(&environment)?);
+    assert!(rt; tells_names(&environment)?);
     Ok(())
 }
 
@@ -231,9 +230,9 @@ fn has_nothing(environment: &Environment<'_>) -> bool {
 
 #[test]
 fn settings_count(rt: HostRuntime) -> Result<(), Fail> {
-    let alloc = rt.alloc();
-    assert!(rt; with(Environment::new(alloc)?, |it| follows_settings(it))?);
-    assert!(rt; with(Environment::empty(alloc), |it| has_nothing(it)));
+    let mut environment = Environment::new(rt.alloc())?;
+    assert!(rt; follows_settings(&mut environment)?);
+    assert!(rt; has_nothing(&Environment::empty(rt.alloc())));
     Ok(())
 }
 
@@ -271,8 +270,8 @@ fn follows_syntax(alloc: Global, environment: &mut Environment<'_>) -> Result<bo
 
 #[test]
 fn syntax_is_set(rt: HostRuntime) -> Result<(), Fail> {
-    let alloc = rt.alloc();
-    assert!(rt; with(Environment::new(alloc)?, |it| follows_syntax(alloc, it))?);
+    let mut environment = Environment::new(rt.alloc())?;
+    assert!(rt; follows_syntax(rt.alloc(), &mut environment)?);
     Ok(())
 }
 
@@ -296,9 +295,9 @@ fn evaluates_owned(alloc: Global, environment: &Environment<'_>) -> Result<bool,
 
 #[test]
 fn expressions_are_evaluated(rt: HostRuntime) -> Result<(), Fail> {
-    let alloc = rt.alloc();
-    assert!(rt; with(Environment::new(alloc)?, |it| evaluates(alloc, it))?);
-    assert!(rt; with(Environment::new(alloc)?, |it| evaluates_owned(alloc, it))?);
+    let environment = Environment::new(rt.alloc())?;
+    assert!(rt; evaluates(rt.alloc(), &environment)?);
+    assert!(rt; evaluates_owned(rt.alloc(), &environment)?);
     Ok(())
 }
 
@@ -383,8 +382,8 @@ fn calls_objects(alloc: Global, environment: &mut Environment<'_>) -> Result<boo
 
 #[test]
 fn objects_answer(rt: HostRuntime) -> Result<(), Fail> {
-    let alloc = rt.alloc();
-    assert!(rt; with(Environment::new(alloc)?, |it| calls_objects(alloc, it))?);
+    let mut environment = Environment::new(rt.alloc())?;
+    assert!(rt; calls_objects(rt.alloc(), &mut environment)?);
     Ok(())
 }
 
@@ -456,8 +455,8 @@ fn asks_rules(alloc: Global, environment: &mut Environment<'_>) -> Result<bool, 
 
 #[test]
 fn callbacks_answer(rt: HostRuntime) -> Result<(), Fail> {
-    let alloc = rt.alloc();
-    assert!(rt; with(Environment::new(alloc)?, |it| asks_rules(alloc, it))?);
+    let mut environment = Environment::new(rt.alloc())?;
+    assert!(rt; asks_rules(rt.alloc(), &mut environment)?);
     Ok(())
 }
 
@@ -496,7 +495,8 @@ fn leaves_a_state(environment: &mut Environment<'_>) -> Result<bool, Error> {
 
 #[test]
 fn captured_renders_are_told(rt: HostRuntime) -> Result<(), Fail> {
-    assert!(rt; with(Environment::new(rt.alloc())?, |it| leaves_a_state(it))?);
+    let mut environment = Environment::new(rt.alloc())?;
+    assert!(rt; leaves_a_state(&mut environment)?);
     Ok(())
 }
 
@@ -549,9 +549,9 @@ fn makes_states(environment: &Environment<'_>) -> Result<bool, Error> {
 
 #[test]
 fn states_are_called(rt: HostRuntime) -> Result<(), Fail> {
-    let alloc = rt.alloc();
-    assert!(rt; with(Environment::new(alloc)?, |it| serves_states(alloc, it))?);
-    assert!(rt; with(Environment::new(alloc)?, |it| makes_states(it))?);
+    let mut environment = Environment::new(rt.alloc())?;
+    assert!(rt; serves_states(rt.alloc(), &mut environment)?);
+    assert!(rt; makes_states(&environment)?);
     Ok(())
 }
 
@@ -577,14 +577,11 @@ fn stops_at_a_limit(alloc: Global, template: &Template<'_, '_>) -> bool {
 }
 // example ends here
 
-fn are_written_to(alloc: Global, environment: &Environment<'_>) -> Result<bool, Error> {
-    let template = environment.template_from_str("Hello")?;
-    Ok(stops_at_a_limit(alloc, &template) && writes(alloc, &template)?)
-}
-
 #[test]
 fn writers_are_written_to(rt: HostRuntime) -> Result<(), Fail> {
-    let alloc = rt.alloc();
-    assert!(rt; with(Environment::new(alloc)?, |it| are_written_to(alloc, it))?);
+    let environment = Environment::new(rt.alloc())?;
+    let template = environment.template_from_str("Hello")?;
+    assert!(rt; writes(rt.alloc(), &template)?);
+    assert!(rt; stops_at_a_limit(rt.alloc(), &template));
     Ok(())
 }

@@ -1,7 +1,6 @@
 //! The last examples of docs/LIBRARY.md: captures, writers, trees and code. examples/check.sh compares both.
 
 use crate::library::{OwnRules, is_fault};
-use render_tests::with;
 use std::alloc::Global;
 use std::rc::RcStr;
 use std::test::Fail;
@@ -91,7 +90,7 @@ fn compiles(alloc: Global, environment: &Environment<'_>) -> Result<bool, Error>
 fn sources_are_compiled(rt: HostRuntime) -> Result<(), Fail> {
     assert!(rt; makes_trees(rt.alloc())?);
     assert!(rt; charges_code(rt.alloc())?);
-    let alloc = rt.alloc();
-    assert!(rt; with(Environment::new(alloc)?, |it| compiles(alloc, it))?);
+    let environment = Environment::new(rt.alloc())?;
+    assert!(rt; compiles(rt.alloc(), &environment)?);
     Ok(())
 }

@@ -1,6 +1,5 @@
 //! Filters of more names than a run has caches for.
 use crate::party::{Party, Rows};
-use crate::with;
 use std::alloc::Global;
 use std::test::Fail;
 use template_machine::*;
@@ -72,12 +71,7 @@ fn all_answer(alloc: Global, environment: &mut Rows<'_>) -> Result<bool, Error> 
 
 #[test]
 fn many_filters_answer(rt: HostRuntime) -> Result<(), Fail> {
-    let alloc = rt.alloc();
-    assert!(rt;
-        with(
-            Rows::new(alloc)?,
-            |environment| all_answer(alloc, environment)
-        )?
-    );
+    let mut environment = Rows::new(rt.alloc())?;
+    assert!(rt; all_answer(rt.alloc(), &mut environment)?);
     Ok(())
 }

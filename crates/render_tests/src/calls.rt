@@ -3,7 +3,6 @@
 use crate::party::{Left, Party, Rows};
 use crate::renders::is_left;
 use crate::states::kept;
-use crate::with;
 use std::alloc::Global;
 use std::test::Fail;
 use template_machine::*;
@@ -214,12 +213,7 @@ fn are_served(alloc: Global, environment: &mut Rows<'_>) -> Result<bool, Error> 
 
 #[test]
 fn calls_are_served(rt: HostRuntime) -> Result<(), Fail> {
-    let alloc = rt.alloc();
-    assert!(rt;
-        with(
-            Rows::new(alloc)?,
-            |environment| are_served(alloc, environment)
-        )?
-    );
+    let mut environment = Rows::new(rt.alloc())?;
+    assert!(rt; are_served(rt.alloc(), &mut environment)?);
     Ok(())
 }

@@ -2,7 +2,6 @@
 
 use crate::party::Rows;
 use crate::renders::is_chain;
-use crate::with;
 use std::alloc::Global;
 use std::test::Fail;
 use template_machine::*;
@@ -78,36 +77,15 @@ fn are_refused(alloc: Global, environment: &Rows<'_>) -> bool {
         && faults(alloc, environment, "a|upper", "UnknownFilter")
 }
 
-/// Whether the value of an expression is undefined.
-fn is_undefined(
-    alloc: Global,
-    environment: &Rows<'_>,
-    source: &'static str,
-) -> Result<bool, Error> {
-    Ok(value_of(alloc, environment, source)? == Value::undefined())
-}
-
-fn have_values(alloc: Global, environment: &Rows<'_>) -> Result<bool, Error> {
-    Ok(
-        are_evaluated(alloc, environment)?
-            && are_refused(alloc, environment)
-            && is_undefined(alloc, environment, "x")?
-            && is_undefined(alloc, environment, "a if b")?
-            && is_syntax_error(environment, "1 +")
-            && is_syntax_error(environment, "")
-            && reads(environment, "a + 1", false, "a")
-            && reads(environment, "a.b.c", true, "a.b.c"),
-    )
-}
-
 #[test]
 fn expressions_have_values(rt: HostRuntime) -> Result<(), Fail> {
-    let alloc = rt.alloc();
-    assert!(rt;
-        with(
-            Rows::new(alloc)?,
-            |environment| have_values(alloc, environment)
-        )?
-    );
+    let environment = Rows::new(rt.alloc())?;
+    assert!(rt; are_evaluated(rt.alloc(), &environment)?);
+    assert!(rt; are_refused(rt.alloc(), &environment));
+    assert!(rt; value_of(rt.alloc(), &environment, "x")? == Value::undefined());
+    assert!(rt; value_of(rt.alloc(), &environment, "a if b")? == Value::undefined());
+    assert!(rt; is_syntax_error(&environment, "1 +") && is_syntax_error(&environment, ""));
+    assert!(rt; reads(&environment, "a + 1", false, "a"));
+    assert!(rt; reads(&environment, "a.b.c", true, "a.b.c"));
     Ok(())
 }

@@ -15,7 +15,6 @@ mod calls;
 mod expressions;
 #[cfg(test)]
 mod includes;
-mod lending;
 #[cfg(test)]
 mod limited;
 #[cfg(test)]
@@ -36,5 +35,3 @@ mod settings;
 mod states;
 #[cfg(test)]
 mod values;
-
-pub use lending::with;

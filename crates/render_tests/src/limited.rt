@@ -116,17 +116,13 @@ fn ends(alloc: Global, environment: &Environment<'_>, case: &Case) -> Result<boo
     Ok(is_end && took(&writer, case))
 }
 
-fn expect_ends(alloc: Global, environment: &Environment<'_>) -> Result<(), Fail> {
+#[test]
+fn a_sink_with_an_end(rt: HostRuntime) -> Result<(), Fail> {
+    let environment = Environment::new(rt.alloc())?;
     for case in CASES {
-        if !ends(alloc, environment, case)? {
+        if !ends(rt.alloc(), &environment, case)? {
             return Err(Fail::new(case.source));
         }
     }
     Ok(())
-}
-
-#[test]
-fn a_sink_with_an_end(rt: HostRuntime) -> Result<(), Fail> {
-    let environment = Environment::new(rt.alloc())?;
-    expect_ends(rt.alloc(), &environment)
 }

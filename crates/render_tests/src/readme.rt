@@ -1,6 +1,5 @@
 //! The example of README.md: examples/check.sh compares both.
 use crate::party::Party;
-use crate::with;
 use std::test::Fail;
 
 // The example begins here.
@@ -27,29 +26,12 @@ fn sum(environment: &Environment<'_>) -> Result<Value, Error> {
 }
 // The example ends here.
 
-fn is_greeted(environment: &mut Environment<'_>, upper: Box<dyn Callable>) -> Result<bool, Error> {
-    Ok(greet(environment, upper)?.as_str() == "<h1>Hello WORLD!</h1>")
-}
-
-fn is_summed(environment: &mut Environment<'_>) -> Result<bool, Error> {
-    Ok(sum(environment)? == Value::number(7))
-}
-
 #[test]
 fn greets(rt: HostRuntime) -> Result<(), Fail> {
-    let alloc = rt.alloc();
-    let upper = Box::new(alloc, Party::Upper)?;
-    assert!(rt;
-        with(
-            Environment::new(alloc)?,
-            |environment| is_greeted(environment, upper)
-        )?
-    );
-    assert!(rt;
-        with(
-            Environment::new(alloc)?,
-            |environment| is_summed(environment)
-        )?
-    );
+    let mut environment = Environment::new(rt.alloc())?;
+    let upper = Box::new(rt.alloc(), Party::Upper)?;
+    let text = greet(&mut environment, upper)?;
+    assert!(rt; text.as_str() == "<h1>Hello WORLD!</h1>");
+    assert!(rt; sum(&environment)? == Value::number(7));
     Ok(())
 }

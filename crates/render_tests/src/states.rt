@@ -7,7 +7,6 @@ ghost use Rattle.tm_tables.specs.Stated.{just};
 use crate::callbacks::{Folder, Method, Style, rule_of};
 use crate::macros::serve_states;
 use crate::party::{Left, Page, Party, Rows};
-use crate::with;
 use std::alloc::Global;
 use std::test::Fail;
 use template_machine::*;
@@ -150,8 +149,8 @@ fn is_well(alloc: Global, environment: &mut Rows<'_>) -> Result<bool, Error> {
 
 #[test]
 fn states_keep(rt: HostRuntime) -> Result<(), Fail> {
-    let alloc = rt.alloc();
-    assert!(rt; with(Rows::new(alloc)?, |environment| is_well(alloc, environment))?);
+    let mut environment = Rows::new(rt.alloc())?;
+    assert!(rt; is_well(rt.alloc(), &mut environment)?);
     Ok(())
 }
 
@@ -182,13 +181,8 @@ fn are_asked(alloc: Global, environment: &mut Environment<'_>) -> Result<bool, E
 
 #[test]
 fn boxes_are_asked(rt: HostRuntime) -> Result<(), Fail> {
-    let alloc = rt.alloc();
-    assert!(rt;
-        with(
-            Environment::new(alloc)?,
-            |environment| are_asked(alloc, environment)
-        )?
-    );
+    let mut environment = Environment::new(rt.alloc())?;
+    assert!(rt; are_asked(rt.alloc(), &mut environment)?);
     Ok(())
 }
 
@@ -209,21 +203,11 @@ fn names_of(
     Ok(text)
 }
 
-fn are_told(alloc: Global, environment: &Environment<'_>) -> Result<bool, Error> {
-    let source = "{% set x = foo %}{{ x }}{{ bar.baz }}";
-    let names = names_of(alloc, environment, source, false)?;
-    let nested = names_of(alloc, environment, source, true)?;
-    Ok(names.as_str() == " bar foo" && nested.as_str() == " bar.baz foo")
-}
-
 #[test]
 fn templates_tell_what_they_read(rt: HostRuntime) -> Result<(), Fail> {
-    let alloc = rt.alloc();
-    assert!(rt;
-        with(
-            Environment::new(alloc)?,
-            |environment| are_told(alloc, environment)
-        )?
-    );
+    let environment = Environment::new(rt.alloc())?;
+    let source = "{% set x = foo %}{{ x }}{{ bar.baz }}";
+    assert!(rt; names_of(rt.alloc(), &environment, source, false)?.as_str() == " bar foo");
+    assert!(rt; names_of(rt.alloc(), &environment, source, true)?.as_str() == " bar.baz foo");
     Ok(())
 }
