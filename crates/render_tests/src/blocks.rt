@@ -1,6 +1,6 @@
 //! Rows of blocks and of templates that extend others, and blocks that a state is asked for.
-use crate::party::{Left, Rows};
-use crate::renders::{Row, fault_of, is_chain, lists, row_of};
+use crate::party::Rows;
+use crate::renders::fault_of;
 use std::alloc::Global;
 use std::test::Fail;
 use template_machine::*;
@@ -166,145 +166,21 @@ pub(crate) const JOINED: &str =
 - a{% extends "base" %} => a => MissingArgument
 - a => a => ok => gets base MissingArgument"#;
 
-/// A source; the name of the template that the state of its render stands in; the names that it
-/// exports; and calls of its blocks, each with a text after `:` or with the kinds of a fault
-/// after `!`.
-pub(crate) const STATES: &[&str] = &[
-    "{% if false %}{% block b %}{% for x in [1] %}{{ y.z }}{% endfor %}{% endblock %}{% endif %}ok => <string> =>  => b!UndefinedError b!UndefinedError no!UnknownBlock",
-    "{% set v = 1 %}{% if false %}{% block b %}{% for x in [1] %}{% set w = 3 %}{{ y.z }}{% endfor %}{% endblock %}{% block c %}{% set w = 2 %}{{ v }}{{ w }}{% endblock %}{% endif %} => <string> => v => c:12 b!UndefinedError c:12 no!UnknownBlock b!UndefinedError c:12",
-    r#"{% extends "mid" %}{% block a %}c{{ super() }}{% endblock %} => base =>  => a:cmx a:cmx"#,
-    r#"{% set v = 1 %}{% extends "hidden" %}{% block a %}1{{ super() }}{% endblock %}{% block c %}{{ v }}{% endblock %} => hidden => v => a!EvalBlock>UndefinedError c:1 a!EvalBlock>UndefinedError"#,
-    "{% if false %}{% block a required %}{% endblock %}{% endif %} => <string> =>  => a!InvalidOperation a!InvalidOperation",
-    "{% if false %}{% block a %}{{ super() }}{% endblock %}{% endif %} => <string> =>  => a!InvalidOperation a!InvalidOperation",
-    "{% if false %}{% block a %}x{% endblock %}{% block b %}[{{ self.a() }}]{% endblock %}{% block c %}{{ self.b() }}{{ self.no() }}{% endblock %}{% endif %} => <string> =>  => b:[x] c!UnknownBlock b:[x]",
-    r#"{% if false %}{% block a %}{% extends "base2" %}q{% endblock %}{% endif %} => <string> =>  => a:P"#,
-    r#"{% if false %}{% block a %}{% autoescape "html" %}{{ y.z }}{% endautoescape %}{% endblock %}{% block b %}{{ "<" }}{% endblock %}{% endif %} => <string> =>  => b:< a!UndefinedError b:<"#,
-    "{% if false %}{% block a %}{{ 1|kept }}{% endblock %}{% block b %}{{ read() }}{% endblock %}{% block c %}{{ keep() }}{% endblock %}{% endif %} => <string> =>  => b: a!MissingArgument b:1 c:2 b:1",
-    "{% set n = namespace(v=0) %}{% if false %}{% block b %}{% set n.v = n.v + 1 %}{{ n.v }}{% endblock %}{% endif %} => <string> => n => b:1 b:2",
-];
-
-/// Whether a state stands where its row says, in no block.
-fn stands(state: &Left<'_>, row: &Row<'_>) -> bool {
-    state.name() == row.text
-        && state.current_block().is_none()
-        && state.auto_escape() == AutoEscape::None
-        && lists(&state.exports(), row.end)
-}
-
-/// Whether a block gives this text.
-fn gives(state: &mut Left<'_>, block: &str, text: &str) -> bool {
-    match state.render_block(block) {
-        Ok(found) => found.as_str() == text,
-        Err(_) => false,
-    }
-}
-
-/// Whether it is a fault of these kinds.
-fn faults(state: &mut Left<'_>, block: &str, kinds: &str) -> bool {
-    match state.render_block(block) {
-        Ok(_) => false,
-        Err(error) => is_chain(&error, kinds),
-    }
-}
-
-/// Whether a call comes to what stands after it.
-fn is_answered(state: &mut Left<'_>, call: &str) -> bool {
-    if let Some((block, kinds)) = call.split_once('!') {
-        return faults(state, block, kinds);
-    }
-    let (block, text) = call.split_once(':').unwrap_or((call, ""));
-    gives(state, block, text)
-}
-
-/// Whether all calls of a row do, and the state stands after each as it stood before.
-fn are_answered(state: &mut Left<'_>, row: &Row<'_>) -> bool {
-    for call in row.left.split(' ') {
-        if !is_answered(state, call) || !stands(state, row) {
-            return false;
-        }
-    }
-    true
-}
-
-/// Whether the state of a row's render is as the row says.
-fn is_state(environment: &Rows<'_>, row: &Row<'_>) -> Result<bool, Error> {
-    let template = environment.template_from_str(row.source)?;
-    let mut ids = StateIds::new();
-    let captured = template.render_captured_to(&mut ids, Value::undefined(), &mut NullWriter)?;
-    let (_output, mut state) = captured.into_parts();
-    Ok(stands(&state, row) && are_answered(&mut state, row))
-}
-
-/// Asks states for their blocks.
-pub(crate) fn expect_states(environment: &Rows<'_>, lines: &[&str]) -> Result<(), Fail> {
-    for &line in lines {
-        let row = row_of(line);
-        if !is_state(environment, &row)? {
-            return Err(Fail::new(row.source));
-        }
-    }
-    Ok(())
-}
-
-/// Whether a block, written into a sink that takes so many bytes, ends with this kind, or none, and the sink has this.
-fn is_written(
-    alloc: Global,
-    state: &mut Left<'_>,
-    block: &str,
-    room: usize,
-    kind: Option<ErrorKind>,
-    text: &str,
-) -> bool {
-    let mut writer = Limited::new(Counted::new(Vec::new(alloc)), room);
-    let found = match state.render_block_to_write(block, &mut writer) {
-        Ok(()) => None,
-        Err(error) => Some(error.kind()),
-    };
-    found == kind && writer.inner().inner().as_slice() == text.as_bytes()
-}
-
-/// Whether blocks of a state are written: whole, into a sink with an end, and with a fault.
-fn are_written(alloc: Global, environment: &Rows<'_>) -> Result<bool, Error> {
-    let source =
-        "{% if false %}{% block b %}ab{{ 1 }}{% endblock %}{% block c %}d{{ y.z }}{% endblock %}{% endif %}";
-    let template = environment.template_from_str(source)?;
-    let mut ids = StateIds::new();
-    let captured = template.render_captured_to(&mut ids, Value::undefined(), &mut NullWriter)?;
-    let (_output, mut state) = captured.into_parts();
-    Ok(
-        is_written(alloc, &mut state, "b", 9, None, "ab1")
-            && is_written(
-                alloc,
-                &mut state,
-                "b",
-                1,
-                Some(ErrorKind::WriteFailure),
-                "a",
-            )
-            && is_written(
-                alloc,
-                &mut state,
-                "c",
-                9,
-                Some(ErrorKind::UndefinedError),
-                "d",
-            )
-            && is_written(
-                alloc,
-                &mut state,
-                "no",
-                9,
-                Some(ErrorKind::UnknownBlock),
-                "",
-            )
-            && is_written(alloc, &mut state, "b", 9, None, "ab1"),
-    )
-}
-
-/// Writes blocks of a state.
-pub(crate) fn expect_written(alloc: Global, environment: &Rows<'_>) -> Result<(), Fail> {
-    expect(are_written(alloc, environment)?, "blocks that are written")
-}
+/// Blocks that states run, also after faults, and write whole or into a sink with an end.
+pub(crate) const STATES: &str = r#"Blocks that states run.
+- ?{% if false %}{% block b %}{% for x in [1] %}{{ y.z }}{% endfor %}{% endblock %}{% endif %}ok => <string> =>  => block b ! UndefinedError; block b ! UndefinedError; block no ! UnknownBlock
+- ?{% set v = 1 %}{% if false %}{% block b %}{% for x in [1] %}{% set w = 3 %}{{ y.z }}{% endfor %}{% endblock %}{% block c %}{% set w = 2 %}{{ v }}{{ w }}{% endblock %}{% endif %} => <string> => v => block c -> 12; block b ! UndefinedError; block c -> 12; block no ! UnknownBlock; block b ! UndefinedError; block c -> 12
+- ?{% extends "mid" %}{% block a %}c{{ super() }}{% endblock %} => base =>  => block a -> cmx; block a -> cmx
+- ?{% set v = 1 %}{% extends "hidden" %}{% block a %}1{{ super() }}{% endblock %}{% block c %}{{ v }}{% endblock %} => hidden => v => block a ! EvalBlock>UndefinedError; block c -> 1; block a ! EvalBlock>UndefinedError
+- ?{% if false %}{% block a required %}{% endblock %}{% endif %} => <string> =>  => block a ! InvalidOperation; block a ! InvalidOperation
+- ?{% if false %}{% block a %}{{ super() }}{% endblock %}{% endif %} => <string> =>  => block a ! InvalidOperation; block a ! InvalidOperation
+- ?{% if false %}{% block a %}x{% endblock %}{% block b %}[{{ self.a() }}]{% endblock %}{% block c %}{{ self.b() }}{{ self.no() }}{% endblock %}{% endif %} => <string> =>  => block b -> [x]; block c ! UnknownBlock; block b -> [x]
+- ?{% if false %}{% block a %}{% extends "base2" %}q{% endblock %}{% endif %} => <string> =>  => block a -> P
+- ?{% if false %}{% block a %}{% autoescape "html" %}{{ y.z }}{% endautoescape %}{% endblock %}{% block b %}{{ "<" }}{% endblock %}{% endif %} => <string> =>  => block b -> <; block a ! UndefinedError; block b -> <
+- ?{% if false %}{% block a %}{{ 1|kept }}{% endblock %}{% block b %}{{ read() }}{% endblock %}{% block c %}{{ keep() }}{% endblock %}{% endif %} => <string> =>  => block b -> ; block a ! MissingArgument; block b -> 1; block c -> 2; block b -> 1
+- ?{% set n = namespace(v=0) %}{% if false %}{% block b %}{% set n.v = n.v + 1 %}{{ n.v }}{% endblock %}{% endif %} => <string> => n => block b -> 1; block b -> 2
+- ?{% block b %}{{ title() }}{% endblock %} => <string> =>  => filter block c ! UnknownBlock; filter block b -> <string>; test block b -> true
+- ?{% if false %}{% block b %}ab{{ 1 }}{% endblock %}{% block c %}d{{ y.z }}{% endblock %}{% endif %} => <string> =>  => write b 9 ab1; write b 1 a WriteFailure; write c 9 d UndefinedError; write no 9  UnknownBlock; write b 9 ab1"#;
 
 /// The source of a template that extends the one of a name, and goes on with the rest.
 fn extending(alloc: Global, parent: &str, rest: &str) -> Result<String, Error> {

@@ -14,9 +14,7 @@ fn add_filters(alloc: Global, environment: &mut Rows<'_>) -> Result<(), Error> {
     for first in FIRST.chars() {
         for &(seconds, party) in &ENDS {
             for second in seconds.chars() {
-                let mut name = String::new(alloc);
-                name.push(first)?;
-                name.push(second)?;
+                let name = format!(in alloc; "{first}{second}")?;
                 environment.add_filter(name.as_str(), party)?;
             }
         }
@@ -25,14 +23,12 @@ fn add_filters(alloc: Global, environment: &mut Rows<'_>) -> Result<(), Error> {
 }
 
 /// Writes a use of each filter.
-fn write_uses(out: &mut String) -> Result<(), Error> {
+fn write_uses(alloc: Global, out: &mut String) -> Result<(), Error> {
     for first in FIRST.chars() {
         for &(seconds, _) in &ENDS {
             for second in seconds.chars() {
-                out.push_str("{{ 0|")?;
-                out.push(first)?;
-                out.push(second)?;
-                out.push_str("(1, 2) }}")?;
+                let used = format!(in alloc; "{{{{ 0|{first}{second}(1, 2) }}}}")?;
+                out.push_str(used.as_str())?;
             }
         }
     }
@@ -41,10 +37,9 @@ fn write_uses(out: &mut String) -> Result<(), Error> {
 
 /// A loop of two rounds, in which each filter is used twice.
 fn source(alloc: Global) -> Result<String, Error> {
-    let mut text = String::new(alloc);
-    text.push_str("{% for x in [1, 2] %}")?;
-    write_uses(&mut text)?;
-    write_uses(&mut text)?;
+    let mut text = String::from_str(alloc, "{% for x in [1, 2] %}")?;
+    write_uses(alloc, &mut text)?;
+    write_uses(alloc, &mut text)?;
     text.push_str("{% endfor %}")?;
     Ok(text)
 }

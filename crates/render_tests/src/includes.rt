@@ -1,7 +1,7 @@
 //! Rows of templates that include or import others, and what states of such renders answer.
 
-use crate::blocks::{expect, expect_states};
-use crate::party::{Left, Rows, add_objects};
+use crate::blocks::expect;
+use crate::party::{Rows, add_objects};
 use crate::settings::expect_table;
 use std::alloc::Global;
 use std::test::Fail;
@@ -276,29 +276,22 @@ const JOINED: &str = r#"What templates include and import where an object joins 
 - {% import "i" as m %}{{ m }} => (t/i/j) => ok => name t
 - {% extends "base" %}{% block a %}{% include "j" %}{% endblock %} => [TJ] => ok => gets j t/base/j"#;
 
-/// Templates for states, each after its name.
-static PARTS: [(&str, &str); 4] = [
-    ("base3", "{{ y.z }}"),
-    ("k3", r#"{% extends "base3" %}"#),
-    (
-        "deep",
-        r#"{% autoescape "html" %}{% with r = 2 %}{% set s %}{{ r }}{{ y.z }}{% endset %}{% endwith %}{% endautoescape %}"#,
-    ),
-    ("looped", "{% for x in [1] %}{{ x }}{{ y.z }}{% endfor %}"),
-];
-
-/// States of renders, as those of blocks.
-const STATES: &[&str] = &[
-    r#"{% if false %}{% block b %}{% include "k3" %}{% endblock %}{% endif %}ok => <string> =>  => b!BadInclude>UndefinedError b!BadInclude>UndefinedError"#,
-    r#"{% if false %}{% block b %}{% with %}{% include "bad" %}{% endwith %}{% endblock %}{% block c %}{% include "i" %}{% endblock %}{% endif %} => <string> =>  => c:ab1 b!BadInclude>UndefinedError c:ab1 b!BadInclude>UndefinedError"#,
-    r#"{% if false %}{% block b %}{% include "deep" %}{% endblock %}{% block c %}{{ "<" }}{% endblock %}{% endif %} => <string> =>  => c:< b!BadInclude>UndefinedError c:< b!BadInclude>UndefinedError"#,
-    r#"{% if false %}{% block b %}{% for x in [1] recursive %}{% include "looped" %}{% endfor %}{% endblock %}{% endif %} => <string> =>  => b!BadInclude>UndefinedError b!BadInclude>UndefinedError"#,
-    r#"{% if false %}{% block a %}r{% include "child" %}{{ self.b() }}{% endblock %}{% block b %}s{% endblock %}{% endif %} => <string> =>  => a:rBcs b:s a:rBcs"#,
-    r#"{% include "i2" %}{% if false %}{% block b %}{{ q }}{% endblock %}{% endif %} => <string> => q => b:7 b:7"#,
-    r#"{% import "f" as m %}{% if false %}{% block b %}{{ m.f(1) }}{% endblock %}{% endif %} => <string> => m => b:<1> b:<1>"#,
-    r#"{% if false %}{% block b %}{% include "no" %}{% endblock %}{% block c %}{% include 1 ignore missing %}{% endblock %}{% block d %}{% import "deep" as m %}{% endblock %}{% endif %} => <string> =>  => b!TemplateNotFound c!InvalidOperation d!BadInclude>UndefinedError b!TemplateNotFound"#,
-    r#"{% extends "base" %}{% block b %}{% include "child" %}{% endblock %}{% block c %}{% include "n" %}{% endblock %} => base =>  => c:n b!BadInclude>InvalidOperation c:n"#,
-];
+/// What states of renders run that include or import others, and macros that they call by names of imports.
+const STATES: &str = r#"States of renders that include or import others.
+- @template base3 {{ y.z }}
+- @template k3 {% extends "base3" %}
+- @template deep {% autoescape "html" %}{% with r = 2 %}{% set s %}{{ r }}{{ y.z }}{% endset %}{% endwith %}{% endautoescape %}
+- @template looped {% for x in [1] %}{{ x }}{{ y.z }}{% endfor %}
+- ?{% if false %}{% block b %}{% include "k3" %}{% endblock %}{% endif %}ok => <string> =>  => block b ! BadInclude>UndefinedError; block b ! BadInclude>UndefinedError
+- ?{% if false %}{% block b %}{% with %}{% include "bad" %}{% endwith %}{% endblock %}{% block c %}{% include "i" %}{% endblock %}{% endif %} => <string> =>  => block c -> ab1; block b ! BadInclude>UndefinedError; block c -> ab1; block b ! BadInclude>UndefinedError
+- ?{% if false %}{% block b %}{% include "deep" %}{% endblock %}{% block c %}{{ "<" }}{% endblock %}{% endif %} => <string> =>  => block c -> <; block b ! BadInclude>UndefinedError; block c -> <; block b ! BadInclude>UndefinedError
+- ?{% if false %}{% block b %}{% for x in [1] recursive %}{% include "looped" %}{% endfor %}{% endblock %}{% endif %} => <string> =>  => block b ! BadInclude>UndefinedError; block b ! BadInclude>UndefinedError
+- ?{% if false %}{% block a %}r{% include "child" %}{{ self.b() }}{% endblock %}{% block b %}s{% endblock %}{% endif %} => <string> =>  => block a -> rBcs; block b -> s; block a -> rBcs
+- ?{% include "i2" %}{% if false %}{% block b %}{{ q }}{% endblock %}{% endif %} => <string> => q => block b -> 7; block b -> 7
+- ?{% import "f" as m %}{% if false %}{% block b %}{{ m.f(1) }}{% endblock %}{% endif %} => <string> => m => block b -> <1>; block b -> <1>
+- ?{% if false %}{% block b %}{% include "no" %}{% endblock %}{% block c %}{% include 1 ignore missing %}{% endblock %}{% block d %}{% import "deep" as m %}{% endblock %}{% endif %} => <string> =>  => block b ! TemplateNotFound; block c ! InvalidOperation; block d ! BadInclude>UndefinedError; block b ! TemplateNotFound
+- ?{% extends "base" %}{% block b %}{% include "child" %}{% endblock %}{% block c %}{% include "n" %}{% endblock %} => base =>  => block c -> n; block b ! BadInclude>InvalidOperation; block c -> n
+- ?{% from "f" import f as g %}{% import "f" as m %} => <string> => g m => call g 5 -> <5>; call m ! InvalidOperation; call q ! UnknownFunction"#;
 
 /// Whether an error is InvalidOperation without a cause, after so many includes.
 fn is_refused(error: &Error, includes: usize) -> bool {
@@ -369,48 +362,13 @@ fn expect_chain(alloc: Global, environment: &mut Rows<'_>) -> Result<(), Fail> {
     )
 }
 
-/// Whether the call of a name by a state is a fault of this kind.
-fn refuses(state: &mut Left<'_>, name: &str, kind: ErrorKind) -> bool {
-    match state.call_macro(name, &[]) {
-        Ok(_) => false,
-        Err(error) => error.kind() == kind && error.cause().is_none(),
-    }
-}
-
-/// Whether a state calls a macro that was imported by its new name, and no module.
-fn is_called(alloc: Global, environment: &Rows<'_>) -> Result<bool, Error> {
-    let source = r#"{% from "f" import f as g %}{% import "f" as m %}"#;
-    let template = environment.template_from_str(source)?;
-    let mut ids = StateIds::new();
-    let captured = template.render_captured_to(&mut ids, Value::undefined(), &mut NullWriter)?;
-    let (_output, mut state) = captured.into_parts();
-    let mut args = Vec::new(alloc);
-    args.push(Value::number(5))?;
-    let text = state.call_macro("g", &args)?;
-    Ok(
-        text.as_str() == "<5>"
-            && refuses(&mut state, "m", ErrorKind::InvalidOperation)
-            && refuses(&mut state, "q", ErrorKind::UnknownFunction),
-    )
-}
-
-/// Adds the templates for states.
-fn add_parts(environment: &mut Rows<'_>) -> Result<(), Error> {
-    for (name, source) in PARTS {
-        environment.add_template(name, source)?;
-    }
-    Ok(())
-}
-
-/// Renders the tables, and asks the states.
+/// Renders the tables.
 fn expect_includes(alloc: Global, environment: &mut Rows<'_>) -> Result<(), Fail> {
     add_objects(environment)?;
     environment.set_fuel(Some(10000));
     expect_table(alloc, environment, INCLUDES)?;
     expect_table(alloc, environment, IMPORTS)?;
-    add_parts(environment)?;
-    expect_states(environment, STATES)?;
-    expect(is_called(alloc, environment)?, "a macro that was imported")?;
+    expect_table(alloc, environment, STATES)?;
     expect_chain(alloc, environment)?;
     expect_table(alloc, environment, JOINED)
 }

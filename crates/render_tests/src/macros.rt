@@ -1,7 +1,5 @@
-//! Rows of macros and call tags, and macros that a state calls.
-use crate::party::{Left, Rows};
-use crate::renders::is_left;
-use crate::states::kept;
+//! Rows of macros and call tags, and macros of other renders.
+use crate::party::Rows;
 use std::alloc::Global;
 use template_machine::*;
 
@@ -82,47 +80,6 @@ pub(crate) const MACROS: &str = r#"Macros and call tags.
 - {% macro m() %}x{% endmacro %}{{ by_macro("m") }} => x => ok
 - @limit 500"#;
 
-/// Two macros, of which one faults where it stands deep.
-const DECLARED: &str =
-    r#"{% macro m(a, b=2) %}{{ a }}{{ b }}{% endmacro %}{% macro bad(p) %}{% set q = 1 %}{% with r = 2 %}{% autoescape "html" %}{{ x.y }}{% endautoescape %}{% endwith %}{% endmacro %}"#;
-
-/// Whether a state stands as the render of these two left it.
-fn stands(state: &Left<'_>) -> bool {
-    is_left(state, "exports bad m")
-        && is_left(state, "known bad dict m namespace range title")
-        && state.auto_escape() == AutoEscape::None
-}
-
-/// Whether the call of a name is a fault of this kind, and the state stands as before.
-fn faults(state: &mut Left<'_>, name: &str, kind: ErrorKind) -> bool {
-    match state.call_macro(name, &[]) {
-        Ok(_) => false,
-        Err(error) => error.kind() == kind && stands(state),
-    }
-}
-
-/// Whether the call of `m` with 1 gives its text, and the state stands as before.
-fn gives(alloc: Global, state: &mut Left<'_>) -> Result<bool, Error> {
-    let mut args = Vec::new(alloc);
-    args.push(Value::number(1))?;
-    let text = state.call_macro("m", &args)?;
-    Ok(text.as_str() == "12" && stands(state))
-}
-
-/// Whether a state calls its macros by their names, also after faults and with what it keeps.
-fn are_called(alloc: Global, environment: &Rows<'_>) -> Result<bool, Error> {
-    let template = environment.template_from_str(DECLARED)?;
-    let mut ids = StateIds::new();
-    let captured = template.render_captured_to(&mut ids, Value::undefined(), &mut NullWriter)?;
-    let (_output, mut state) = captured.into_parts();
-    let is_called = gives(alloc, &mut state)?
-        && faults(&mut state, "no", ErrorKind::UnknownFunction)
-        && faults(&mut state, "bad", ErrorKind::UndefinedError);
-    let _before = state.set_temp("k", Value::number(3))?;
-    let is_kept = faults(&mut state, "bad", ErrorKind::UndefinedError) && kept(&state) == Some(3);
-    Ok(is_called && is_kept && gives(alloc, &mut state)?)
-}
-
 /// Whether a source is InvalidOperation, which nothing caused.
 fn is_refused(environment: &Rows<'_>, ids: &mut StateIds, source: &str, given: Value) -> bool {
     match environment.render_str(ids, source, given) {
@@ -153,14 +110,10 @@ fn belong_to_renders(alloc: Global, environment: &Rows<'_>) -> Result<bool, Erro
     Ok(is_refused_after && is_refused(environment, &mut StateIds::new(), source, names))
 }
 
-/// Whether macros serve the states of their renders, and end at the limit.
-pub(crate) fn serve_states(alloc: Global, environment: &Rows<'_>) -> Result<bool, Error> {
+/// Whether macros serve the states of their renders alone, and end at the limit.
+pub(crate) fn are_bounded(alloc: Global, environment: &Rows<'_>) -> Result<bool, Error> {
     let endless = "{% macro m() %}{{ m() }}{% endmacro %}{{ m() }}";
-    let is_ended = is_refused(
-        environment,
-        &mut StateIds::new(),
-        endless,
-        Value::undefined(),
-    );
-    Ok(is_ended && are_called(alloc, environment)? && belong_to_renders(alloc, environment)?)
+    let mut ids = StateIds::new();
+    let is_ended = is_refused(environment, &mut ids, endless, Value::undefined());
+    Ok(is_ended && belong_to_renders(alloc, environment)?)
 }

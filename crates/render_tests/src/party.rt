@@ -381,9 +381,8 @@ fn add_functions(environment: &mut Rows<'_>) -> Result<(), Error> {
     Ok(())
 }
 
-/// Adds the functions, filters and tests of the rows.
-pub(crate) fn add_objects(environment: &mut Rows<'_>) -> Result<(), Error> {
-    add_functions(environment)?;
+/// Adds the filters and tests of the rows.
+pub(crate) fn add_filters(environment: &mut Rows<'_>) -> Result<(), Error> {
     for &(name, party) in FILTERS {
         environment.add_filter(name, party)?;
     }
@@ -393,6 +392,12 @@ pub(crate) fn add_objects(environment: &mut Rows<'_>) -> Result<(), Error> {
     environment.remove_filter("gone");
     environment.remove_test("gone");
     Ok(())
+}
+
+/// Adds the functions, filters and tests of the rows.
+pub(crate) fn add_objects(environment: &mut Rows<'_>) -> Result<(), Error> {
+    add_functions(environment)?;
+    add_filters(environment)
 }
 
 /// Puts a value under a name.

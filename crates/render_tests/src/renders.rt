@@ -41,6 +41,8 @@ pub(crate) struct Setup<'a> {
     pub(crate) room: usize,
     /// Their context value.
     pub(crate) given: Given,
+    /// How often their states are asked.
+    pub(crate) times: usize,
 }
 
 /// A context value.
@@ -60,6 +62,7 @@ pub(crate) fn usual<'a>() -> Setup<'a> {
         width: usize::MAX,
         room: usize::MAX,
         given: Given::Names,
+        times: 1,
     }
 }
 

@@ -1,5 +1,6 @@
 //! Tables of rows, with settings between them.
 
+use crate::asking::expect_state;
 use crate::callbacks::{folder_of, method_of, rule_of, style_of};
 use crate::party::{Party, Rows, add_objects};
 use crate::renders::{Given, Setup, are, expect_row, fault_of, row_of, template_of, usual};
@@ -153,6 +154,7 @@ fn change_setup<'source>(setup: &mut Setup<'source>, word: &str, rest: &'source 
         "name" => setup.name = rest,
         "width" => setup.width = rest.parse().unwrap_or(usize::MAX),
         "room" => setup.room = rest.parse().unwrap_or(usize::MAX),
+        "times" => setup.times = rest.parse().unwrap_or(1),
         "names" => setup.given = Given::Names,
         "undefined-names" => setup.given = Given::Undefined,
         "lost-names" => setup.given = Given::Lost,
@@ -161,7 +163,19 @@ fn change_setup<'source>(setup: &mut Setup<'source>, word: &str, rest: &'source 
     true
 }
 
-/// Renders a table's rows after its heading. A row that begins with `@` is a setting.
+/// Whether a line is a setting, which is made, or one that is asked for. It begins with `@` then.
+fn is_setting<'source>(
+    alloc: Global,
+    environment: &mut Rows<'source>,
+    setup: &mut Setup<'source>,
+    words: &'source str,
+) -> Result<bool, Error> {
+    let (word, rest) = words.split_once(' ').unwrap_or((words, ""));
+    Ok(change_setup(setup, word, rest) || change(alloc, environment, word, rest)?)
+}
+
+/// Renders a table's rows after its heading. A row that begins with `@` is a setting, and one that begins with `?` asks
+/// a state.
 pub(crate) fn expect_table<'source>(
     alloc: Global,
     environment: &mut Rows<'source>,
@@ -171,13 +185,14 @@ pub(crate) fn expect_table<'source>(
     let mut lines = table.split("\n- ");
     let _heading = lines.next();
     for line in lines {
-        let Some(words) = line.strip_prefix('@') else {
+        if let Some(asked) = line.strip_prefix('?') {
+            expect_state(alloc, environment, &setup, &row_of(asked))?;
+        } else if let Some(words) = line.strip_prefix('@') {
+            if !is_setting(alloc, environment, &mut setup, words)? {
+                return Err(Fail::new(line));
+            }
+        } else {
             expect_row(alloc, environment, &setup, &row_of(line))?;
-            continue;
-        };
-        let (word, rest) = words.split_once(' ').unwrap_or((words, ""));
-        if !change_setup(&mut setup, word, rest) && !change(alloc, environment, word, rest)? {
-            return Err(Fail::new(line));
         }
     }
     Ok(())
@@ -216,8 +231,7 @@ static TABLES: [&str; 26] = [
 fn expect_tables(alloc: Global, environment: &mut Rows<'_>) -> Result<(), Fail> {
     add_objects(environment)?;
     blocks::add_layouts(environment)?;
-    blocks::expect_states(environment, blocks::STATES)?;
-    blocks::expect_written(alloc, environment)?;
+    expect_table(alloc, environment, blocks::STATES)?;
     blocks::expect_chains(alloc, environment)?;
     for table in TABLES {
         expect_table(alloc, environment, table)?;

@@ -1,26 +1,41 @@
-//! What states keep, the other ways to render, and objects in boxes.
+//! What states serve, and objects in boxes.
 ghost use Rattle.std.specs.Prelude.{true};
 ghost use Rattle.tm_values.specs.Val.{boolean};
 ghost use Rattle.tm_meaning.specs.declared.reply.Reply.TheVariants.{Value as gives};
 ghost use Rattle.tm_tables.specs.Stated.{just};
 
+use crate::blocks::expect;
 use crate::callbacks::{Folder, Method, Style, rule_of};
-use crate::macros::serve_states;
-use crate::party::{Left, Page, Party, Rows};
+use crate::macros::are_bounded;
+use crate::party::{Left, Rows, add_filters};
+use crate::settings::expect_table;
 use std::alloc::Global;
 use std::test::Fail;
 use template_machine::*;
 
-/// Keeps a number at `k`, and gives the one that was kept there.
-fn replaced(state: &mut Left<'_>, number: i128) -> Result<Option<i128>, Error> {
-    match state.set_temp("k", Value::number(number))? {
-        Some(before) => Ok(before.as_i128()),
-        None => Ok(None),
-    }
-}
+/// What states serve: a render's, that of a template of which nothing ran, and that of no template. In `t` one macro
+/// faults where it stands deep.
+const SERVED: &str = r#"What states serve.
+- ?{% set a = 1 %}{% set _b = 2 %} => <string> => a => known _b a dict namespace range; find _b -> 2; find no -> nothing
+- @template t {% block b %}{% set z = 1 %}{{ z }}{% endblock %}{% set y = 2 %}{% macro m(a) %}{{ a }}{{ y }}{% endmacro %}{% macro _bad() %}{% with r = 1 %}{{ x.y }}{% endwith %}{% endmacro %}
+- ?&t => t => m y => call range 3 -> [0, 1, 2]; block b -> 1; call m 5 -> 52; call no ! UnknownFunction; block no ! UnknownBlock; filter no ! UnknownFilter; test no ! UnknownTest; gets no TemplateNotFound; filter kept ! MissingArgument; kept -> 1
+- @times 100
+- ?&t => t => m y => call _bad ! UndefinedError; block b -> 1; call m 5 -> 52
+- @times 1
+- @name u
+- ?+{% block b %}x{% endblock %}{% macro m() %}M{% endmacro %} => u =>  => write b 9 x; call m ! UnknownFunction; keep 1 -> nothing; kept -> 1; call no ! UnknownFunction; block no ! UnknownBlock; filter no ! UnknownFilter; test no ! UnknownTest; gets no TemplateNotFound
+- @name <string>
+- ?- => <unknown> =>  => call range 2 -> [0, 1]; format 42 -> 42; gets t t; call no ! UnknownFunction; block no ! UnknownBlock; filter no ! UnknownFilter; test no ! UnknownTest; gets no TemplateNotFound; filter kept ! MissingArgument; kept -> 1
+- ?{% macro m(a, b=2) %}{{ a }}{{ b }}{% endmacro %}{% macro bad(p) %}{% set q = 1 %}{% with r = 2 %}{% autoescape "html" %}{{ x.y }}{% endautoescape %}{% endwith %}{% endmacro %} => <string> => bad m => call m 1 -> 12; known bad dict m namespace range; call no ! UnknownFunction; known bad dict m namespace range; call bad ! UndefinedError; known bad dict m namespace range; keep 3 -> nothing; call bad ! UndefinedError; kept -> 3; call m 1 -> 12; known bad dict m namespace range
+- @fuel 3
+- {% block b %}x{% endblock %} => x => 2 => fuel 1
+- ?{% block b %}x{% endblock %} => <string> =>  => block b ! OutOfFuel; known dict namespace range; fuel 0
+- @fuel none
+- @undefined strict
+- ?x => <string> =>  => keep 3 -> nothing; keep 2 -> 3; kept -> 2; filter second 1 0 -> 0; test second 1 0 -> false; filter no 1 0 ! UnknownFilter; block no ! UnknownBlock; filter upper hello -> HELLO; format 42 -> 42; format undefined ! UndefinedError; kept -> 2; filter kept ! MissingArgument; kept -> 1"#;
 
 /// The number that is kept at `k`.
-pub(crate) fn kept(state: &Left<'_>) -> Option<i128> {
+fn kept(state: &Left<'_>) -> Option<i128> {
     match state.get_temp("k") {
         Some(value) => value.as_i128(),
         None => None,
@@ -28,130 +43,50 @@ pub(crate) fn kept(state: &Left<'_>) -> Option<i128> {
 }
 
 /// Whether a closure's work on the state is there after it, and its answer is given.
-fn works_on(captured: &mut CapturedOf<Left<'_>>) -> Result<bool, Error> {
-    let before = captured.with_state_mut(|state| replaced(state, 3))?;
-    Ok(before.is_none() && kept(captured.state()) == Some(3) && captured.output().is_empty())
-}
-
-/// Whether a state has the filter and the test `second`, and no others, and no block.
-fn applies(alloc: Global, state: &mut Left<'_>) -> Result<bool, Error> {
-    let mut values = Vec::new(alloc);
-    values.push(Value::number(1))?;
-    values.push(Value::number(0))?;
-    let filtered = state.apply_filter("second", &values)?;
-    let holds = state.perform_test("second", &values)?;
-    let unknown = match state.apply_filter("no", &values) {
-        Ok(_) => false,
-        Err(error) => error.kind() == ErrorKind::UnknownFilter,
+fn works_on(captured: &mut CapturedOf<Left<'_>>) -> bool {
+    let before = captured.with_state_mut(|state| state.set_temp("k", Value::number(3)));
+    let is_first = match before {
+        Ok(before) => before.is_none(),
+        Err(_) => false,
     };
-    let no_block = match state.render_block("no") {
-        Ok(_) => false,
-        Err(error) => error.kind() == ErrorKind::UnknownBlock,
-    };
-    let none_runs = state.current_block().is_none();
-    Ok(filtered.as_i128() == Some(0) && !holds && unknown && no_block && none_runs)
+    is_first && kept(captured.state()) == Some(3) && captured.output() == "x"
 }
 
-/// Whether a filter gives a text in capitals.
-fn shouts(alloc: Global, state: &mut Left<'_>) -> Result<bool, Error> {
-    let mut values = Vec::new(alloc);
-    values.push(Value::text(alloc, "hello world")?)?;
-    let shouted = state.apply_filter("upper", &values)?;
-    Ok(shouted.as_str() == Some("HELLO WORLD"))
-}
-
-/// Whether a filter that answers a fault has kept its value before.
-fn keeps_before_a_fault(state: &mut Left<'_>) -> bool {
-    match state.apply_filter("kept", &[]) {
-        Ok(_) => false,
-        Err(error) => error.kind() == ErrorKind::MissingArgument && kept(state) == Some(1),
-    }
-}
-
-/// Whether a state writes values as templates do, here under strict undefined values.
-fn formats(state: &Left<'_>) -> Result<bool, Error> {
-    let text = state.format(&Value::number(42))?;
-    let is_refused = match state.format(&Value::undefined()) {
-        Ok(_) => false,
-        Err(error) => error.kind() == ErrorKind::UndefinedError,
-    };
-    Ok(text.as_str() == "42" && is_refused)
-}
-
-/// Whether the state of a render keeps what it is given, also apart from the text, and filters.
-fn keeps_the_last(alloc: Global, template: &Page<'_, '_>) -> Result<bool, Error> {
-    let mut ids = StateIds::new();
-    let mut captured = template.render_captured_to(&mut ids, Value::undefined(), &mut NullWriter)?;
-    if !works_on(&mut captured)? {
-        return Ok(false);
-    }
-    let (output, mut state) = captured.into_parts();
-    let before = replaced(&mut state, 2)?;
-    let is_able = applies(alloc, &mut state)? && shouts(alloc, &mut state)? && formats(&state)?;
-    let is_kept = kept(&state) == Some(2) && keeps_before_a_fault(&mut state);
-    Ok(output.is_empty() && before == Some(3) && is_able && is_kept)
-}
-
-/// Whether a state runs its template's block for a filter and for a test that ask for it, and goes on after a fault.
-fn runs_blocks(alloc: Global, environment: &Rows<'_>) -> Result<bool, Error> {
-    let template = environment.template_from_str("{% block b %}{{ title() }}{% endblock %}")?;
-    let mut ids = StateIds::new();
-    let captured = template.render_captured_to(&mut ids, Value::undefined(), &mut NullWriter)?;
-    let (_output, mut state) = captured.into_parts();
-    let mut name = Vec::new(alloc);
-    name.push(Value::text(alloc, "c")?)?;
-    let unknown = match state.apply_filter("block", &name) {
-        Ok(_) => false,
-        Err(error) => error.kind() == ErrorKind::UnknownBlock,
-    };
-    name.clear();
-    name.push(Value::text(alloc, "b")?)?;
-    let text = state.apply_filter("block", &name)?;
-    let holds = state.perform_test("block", &name)?;
-    Ok(unknown && text.as_str() == Some("<string>") && holds && state.name() == "<string>")
-}
-
-/// Whether a template that was given no name has the usual one, and renders its source.
-fn is_unnamed(template: &Page<'_, '_>) -> Result<bool, Error> {
-    let text = template.render(&mut StateIds::new(), Value::undefined())?;
-    Ok(template.name() == "<string>" && template.source() == "x" && text.as_str() == "x")
-}
-
-/// Whether a source that tells its name is rendered at once, under a name and without one.
-fn renders_at_once(environment: &Rows<'_>) -> Result<bool, Error> {
-    let (mut ids, source) = (StateIds::new(), "{{ title() }}");
-    let named = environment.render_named_str(&mut ids, "named", source, Value::undefined())?;
-    let unnamed = environment.render_str(&mut ids, source, Value::undefined())?;
-    Ok(named.as_str() == "named" && unnamed.as_str() == "<string>")
-}
-
-fn renders_otherwise(alloc: Global, environment: &Rows<'_>) -> Result<bool, Error> {
+/// Whether a captured render has its text and its state, also apart from each other.
+fn is_captured(environment: &Rows<'_>) -> Result<bool, Error> {
     let template = environment.template_from_str("x")?;
+    let mut captured = template.render_captured(&mut StateIds::new(), Value::undefined())?;
+    let is_worked_on = works_on(&mut captured);
+    let (output, state) = captured.into_parts();
+    Ok(is_worked_on && output.as_str() == "x" && kept(&state) == Some(3))
+}
+
+/// Whether the state of no template has what its environment has.
+fn has_its_environment(environment: &Rows<'_>) -> Result<bool, Error> {
+    let state = environment.empty_state(&mut StateIds::new())?;
+    let is_range = state.lookup("range")? == Some(Value::function(0));
     Ok(
-        is_unnamed(&template)?
-            && keeps_the_last(alloc, &template)?
-            && runs_blocks(alloc, environment)?
-            && serve_states(alloc, environment)?,
+        is_range
+            && state.undefined_behavior() == UndefinedBehavior::Lenient
+            && state.env().fuel().is_none(),
     )
 }
 
-fn is_well(alloc: Global, environment: &mut Rows<'_>) -> Result<bool, Error> {
-    environment.add_function("title", Party::Title)?;
-    environment.add_filter("second", Party::Second)?;
-    environment.add_filter("upper", Party::Upper)?;
-    environment.add_filter("kept", Party::Kept)?;
-    environment.add_filter("block", Party::Block)?;
-    environment.add_test("second", Party::Second)?;
-    environment.add_test("block", Party::Block)?;
-    environment.set_undefined_behavior(UndefinedBehavior::Strict);
-    Ok(renders_at_once(environment)? && renders_otherwise(alloc, environment)?)
+fn expect_states(alloc: Global, environment: &mut Rows<'_>) -> Result<(), Fail> {
+    add_filters(environment)?;
+    expect(
+        has_its_environment(environment)?,
+        "the state of no template",
+    )?;
+    expect_table(alloc, environment, SERVED)?;
+    expect(is_captured(environment)?, "a captured render")?;
+    expect(are_bounded(alloc, environment)?, "macros of other renders")
 }
 
 #[test]
-fn states_keep(rt: HostRuntime) -> Result<(), Fail> {
+fn states_serve(rt: HostRuntime) -> Result<(), Fail> {
     let mut environment = Rows::new(rt.alloc())?;
-    assert!(rt; is_well(rt.alloc(), &mut environment)?);
-    Ok(())
+    expect_states(rt.alloc(), &mut environment)
 }
 
 /// Answers true.

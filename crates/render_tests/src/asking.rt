@@ -1,0 +1,199 @@
+//! What rows ask of states, and what states answer.
+
+use crate::party::{Left, Rows};
+use crate::renders::{Row, Setup, is_chain, is_left, lists, template_of};
+use std::alloc::Global;
+use std::test::Fail;
+use template_machine::*;
+
+/// A number, an undefined value, or else a text.
+fn value_of(alloc: Global, word: &str) -> Result<Value, Error> {
+    if word == "undefined" {
+        return Ok(Value::undefined());
+    }
+    match word.parse() {
+        Ok(number) => Ok(Value::number(number)),
+        Err(_) => Value::text(alloc, word),
+    }
+}
+
+/// The values of words with a blank between them.
+fn values_of(alloc: Global, words: &str) -> Result<Vec<Value>, Error> {
+    let mut values = Vec::new(alloc);
+    for word in words.split_whitespace() {
+        values.push(value_of(alloc, word)?)?;
+    }
+    Ok(values)
+}
+
+/// The text of a value; `nothing` where there is none.
+fn text_of(alloc: Global, found: Option<&Value>) -> Result<String, Error> {
+    match found {
+        Some(value) => printing::to_text(alloc, value, &NoRecords),
+        None => Ok(String::from_str(alloc, "nothing")?),
+    }
+}
+
+/// The text of a value that something answered.
+fn printed(alloc: Global, answer: Result<Value, Error>) -> Result<String, Error> {
+    printing::to_text(alloc, &answer?, &NoRecords)
+}
+
+/// The text of what a test answered.
+fn decided(alloc: Global, answer: Result<bool, Error>) -> Result<String, Error> {
+    printed(alloc, answer.map(Value::boolean))
+}
+
+/// Keeps a value at `k`, and answers what was kept there.
+fn replaced(alloc: Global, state: &mut Left<'_>, value: Value) -> Result<String, Error> {
+    text_of(alloc, state.set_temp("k", value)?.as_ref())
+}
+
+/// What a block, a macro, a filter or a test answers to values.
+fn called(
+    alloc: Global,
+    state: &mut Left<'_>,
+    word: &str,
+    name: &str,
+    args: &[Value],
+) -> Result<String, Error> {
+    match word {
+        "block" => state.render_block(name),
+        "call" => state.call_macro(name, args),
+        "filter" => printed(alloc, state.apply_filter(name, args)),
+        "test" => decided(alloc, state.perform_test(name, args)),
+        _ => Err(Error::from(ErrorKind::UnknownMethod)),
+    }
+}
+
+/// What a state answers to such words.
+fn answer(alloc: Global, state: &mut Left<'_>, words: &str) -> Result<String, Error> {
+    let (word, rest) = words.split_once(' ').unwrap_or((words, ""));
+    match word {
+        "keep" => replaced(alloc, state, value_of(alloc, rest)?),
+        "kept" => text_of(alloc, state.get_temp("k")),
+        "find" => text_of(alloc, state.lookup(rest)?.as_ref()),
+        "format" => state.format(&value_of(alloc, rest)?),
+        _ => {
+            let (name, args) = rest.split_once(' ').unwrap_or((rest, ""));
+            called(alloc, state, word, name, &values_of(alloc, args)?)
+        }
+    }
+}
+
+/// Whether a block, written into a sink that takes so many bytes, leaves this text there, and ends with no fault or with
+/// one of the kind after it.
+fn is_written(alloc: Global, state: &mut Left<'_>, words: &str) -> bool {
+    let mut words = words.split(' ');
+    let block = words.next().unwrap_or("");
+    let room = words.next().unwrap_or("").parse().unwrap_or(0);
+    let mut writer = Limited::new(Counted::new(Vec::new(alloc)), room);
+    let end = match state.render_block_to_write(block, &mut writer) {
+        Ok(()) => "",
+        Err(error) => error.kind().name(),
+    };
+    let text = words.next().unwrap_or("");
+    writer.inner().inner().as_slice() == text.as_bytes() && end == words.next().unwrap_or("")
+}
+
+/// Whether the answer to what stands before ` -> ` is the text after it; to what stands before ` ! `, a fault of the kinds
+/// after it; and else whether the state is so.
+fn is_answered(alloc: Global, state: &mut Left<'_>, call: &str) -> bool {
+    if let Some((words, text)) = call.split_once(" -> ") {
+        return match answer(alloc, state, words) {
+            Ok(found) => found.as_str() == text,
+            Err(_) => false,
+        };
+    }
+    if let Some((words, kinds)) = call.split_once(" ! ") {
+        return match answer(alloc, state, words) {
+            Ok(_) => false,
+            Err(error) => is_chain(&error, kinds),
+        };
+    }
+    match call.strip_prefix("write ") {
+        Some(words) => is_written(alloc, state, words),
+        None => is_left(state, call),
+    }
+}
+
+/// Whether a state stands in the template that its row names, in no block, with the names that the row exports.
+fn stands(state: &Left<'_>, row: &Row<'_>) -> bool {
+    state.name() == row.text
+        && state.current_block().is_none()
+        && state.auto_escape() == AutoEscape::None
+        && lists(&state.exports(), row.end)
+}
+
+/// Whether a state answers as its row says, so often, and stands after each answer as before.
+fn are_answered(alloc: Global, state: &mut Left<'_>, row: &Row<'_>, times: usize) -> bool {
+    if !stands(state, row) {
+        return false;
+    }
+    for _ in 0..times {
+        for call in row.left.split("; ") {
+            if !is_answered(alloc, state, call) || !stands(state, row) {
+                return false;
+            }
+        }
+    }
+    true
+}
+
+/// Asks the state of a render.
+fn is_rendered<'source>(
+    alloc: Global,
+    environment: &Rows<'source>,
+    setup: &Setup<'_>,
+    row: &Row<'source>,
+) -> Result<bool, Error> {
+    let template = template_of(environment, setup.name, row.source)?;
+    let mut ids = StateIds::new();
+    let captured = template.render_captured_to(&mut ids, Value::undefined(), &mut NullWriter)?;
+    let (_output, mut state) = captured.into_parts();
+    Ok(are_answered(alloc, &mut state, row, setup.times))
+}
+
+/// Asks the state of a template of which nothing ran.
+fn is_unrun<'source>(
+    alloc: Global,
+    environment: &Rows<'source>,
+    setup: &Setup<'_>,
+    source: &'source str,
+    row: &Row<'_>,
+) -> Result<bool, Error> {
+    let template = template_of(environment, setup.name, source)?;
+    let mut state = template.new_state(&mut StateIds::new())?;
+    Ok(are_answered(alloc, &mut state, row, setup.times))
+}
+
+/// Asks the state of no template.
+fn is_empty(
+    alloc: Global,
+    environment: &Rows<'_>,
+    setup: &Setup<'_>,
+    row: &Row<'_>,
+) -> Result<bool, Error> {
+    let mut state = environment.empty_state(&mut StateIds::new())?;
+    Ok(are_answered(alloc, &mut state, row, setup.times))
+}
+
+/// Asks the state of a row: of the render of its source; of a template whose source stands after `+`, of which nothing
+/// ran; or of no template, `-`. After the source come the name of the template that the state stands in, the names
+/// that it exports, and what it is asked, with `; ` between.
+pub(crate) fn expect_state<'source>(
+    alloc: Global,
+    environment: &Rows<'source>,
+    setup: &Setup<'_>,
+    row: &Row<'source>,
+) -> Result<(), Fail> {
+    let is_well = match (row.source, row.source.strip_prefix('+')) {
+        ("-", _) => is_empty(alloc, environment, setup, row)?,
+        (_, Some(source)) => is_unrun(alloc, environment, setup, source, row)?,
+        _ => is_rendered(alloc, environment, setup, row)?,
+    };
+    if is_well {
+        return Ok(());
+    }
+    Err(Fail::new(row.source))
+}
