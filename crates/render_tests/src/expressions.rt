@@ -1,10 +1,27 @@
 //! Expressions and their values.
 
+use crate::blocks::expect;
 use crate::party::Rows;
-use crate::renders::is_chain;
+use crate::renders::{Row, is_chain, row_of};
 use std::alloc::Global;
 use std::test::Fail;
 use template_machine::*;
+
+/// Expressions, and how their values are printed, where namespaces are maps; or a fault of the kinds that come last.
+static ROWS: [&str; 12] = [
+    "a + 1 => 2",
+    "[namespace(a=1)] => [{\"a\": 1}]",
+    "{\"a\": namespace(b=namespace(c=1))} => {\"a\": {\"b\": {\"c\": 1}}}",
+    "number > 10 and number < 20 => true",
+    "range(3) => [0, 1, 2]",
+    "x.y =>  => UndefinedError",
+    "super() =>  => InvalidOperation",
+    "self.b() =>  => UnknownBlock",
+    "loop(1) =>  => UnknownFunction",
+    "a|upper =>  => UnknownFilter",
+    "1 + =>  => SyntaxError",
+    " =>  => SyntaxError",
+];
 
 /// A context in which a is 1 and `number` 15.
 fn context(alloc: Global) -> Result<Value, Error> {
@@ -19,10 +36,10 @@ fn value_of(alloc: Global, environment: &Rows<'_>, source: &'static str) -> Resu
     expression.eval(&mut StateIds::new(), context(alloc)?)
 }
 
-fn is_syntax_error(environment: &Rows<'_>, source: &'static str) -> bool {
-    match environment.compile_expression(source) {
-        Ok(_) => false,
-        Err(error) => is_chain(&error, "SyntaxError"),
+fn is_undefined(alloc: Global, environment: &Rows<'_>, source: &'static str) -> bool {
+    match value_of(alloc, environment, source) {
+        Ok(value) => value == Value::undefined(),
+        Err(_) => false,
     }
 }
 
@@ -37,55 +54,34 @@ fn reads(environment: &Rows<'_>, source: &'static str, nested: bool, wanted: &st
     }
 }
 
-/// Whether an expression faults with this chain.
-fn faults(alloc: Global, environment: &Rows<'_>, source: &'static str, chain: &str) -> bool {
-    match value_of(alloc, environment, source) {
-        Ok(_value) => false,
-        Err(error) => is_chain(&error, chain),
+fn is_printed(alloc: Global, value: &Value, wanted: &str) -> bool {
+    match printing::to_text(alloc, value, &NoRecords) {
+        Ok(text) => text.as_str() == wanted,
+        Err(_) => false,
     }
 }
 
-/// Whether the value of an expression is printed so.
-fn prints(
-    alloc: Global,
-    environment: &Rows<'_>,
-    source: &'static str,
-    wanted: &str,
-) -> Result<bool, Error> {
-    let value = value_of(alloc, environment, source)?;
-    let text = printing::to_text(alloc, &value, &NoRecords)?;
-    Ok(text.as_str() == wanted)
+/// Whether an expression comes to what its row says.
+fn is_row(alloc: Global, environment: &Rows<'_>, row: &Row<'static>) -> bool {
+    match value_of(alloc, environment, row.source) {
+        Ok(value) => row.end.is_empty() && is_printed(alloc, &value, row.text),
+        Err(error) => is_chain(&error, row.end),
+    }
 }
 
-/// Whether expressions have their values, in which namespaces are maps.
-fn are_evaluated(alloc: Global, environment: &Rows<'_>) -> Result<bool, Error> {
-    let nested = "{\"a\": namespace(b=namespace(c=1))}";
-    Ok(
-        prints(alloc, environment, "a + 1", "2")?
-            && prints(alloc, environment, "[namespace(a=1)]", "[{\"a\": 1}]")?
-            && prints(alloc, environment, nested, "{\"a\": {\"b\": {\"c\": 1}}}")?
-            && prints(alloc, environment, "number > 10 and number < 20", "true")?
-            && prints(alloc, environment, "range(3)", "[0, 1, 2]")?,
-    )
-}
-
-fn are_refused(alloc: Global, environment: &Rows<'_>) -> bool {
-    faults(alloc, environment, "x.y", "UndefinedError")
-        && faults(alloc, environment, "super()", "InvalidOperation")
-        && faults(alloc, environment, "self.b()", "UnknownBlock")
-        && faults(alloc, environment, "loop(1)", "UnknownFunction")
-        && faults(alloc, environment, "a|upper", "UnknownFilter")
+fn expect_expressions(alloc: Global, environment: &Rows<'_>) -> Result<(), Fail> {
+    for line in ROWS {
+        expect(is_row(alloc, environment, &row_of(line)), line)?;
+    }
+    for source in ["x", "a if b"] {
+        expect(is_undefined(alloc, environment, source), source)?;
+    }
+    expect(reads(environment, "a + 1", false, "a"), "a name")?;
+    expect(reads(environment, "a.b.c", true, "a.b.c"), "a chain")
 }
 
 #[test]
 fn expressions_have_values(rt: HostRuntime) -> Result<(), Fail> {
     let environment = Rows::new(rt.alloc())?;
-    assert!(rt; are_evaluated(rt.alloc(), &environment)?);
-    assert!(rt; are_refused(rt.alloc(), &environment));
-    assert!(rt; value_of(rt.alloc(), &environment, "x")? == Value::undefined());
-    assert!(rt; value_of(rt.alloc(), &environment, "a if b")? == Value::undefined());
-    assert!(rt; is_syntax_error(&environment, "1 +") && is_syntax_error(&environment, ""));
-    assert!(rt; reads(&environment, "a + 1", false, "a"));
-    assert!(rt; reads(&environment, "a.b.c", true, "a.b.c"));
-    Ok(())
+    expect_expressions(rt.alloc(), &environment)
 }

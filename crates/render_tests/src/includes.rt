@@ -1,7 +1,7 @@
 //! Rows of templates that include or import others, and what states of such renders answer.
 
-use crate::blocks::expect;
-use crate::party::{Rows, add_objects};
+use crate::blocks::{expect, rendered};
+use crate::party::{Page, Rows, add_objects};
 use crate::settings::expect_table;
 use std::alloc::Global;
 use std::test::Fail;
@@ -306,35 +306,40 @@ fn is_refused(error: &Error, includes: usize) -> bool {
 }
 
 /// Whether the render of a template is refused after so many includes, with nothing written.
-fn ends(alloc: Global, environment: &Rows<'_>, name: &str, includes: usize) -> Result<bool, Error> {
+fn is_ended(alloc: Global, template: &Page<'_, '_>, includes: usize) -> bool {
     let mut writer = Counted::new(Vec::new(alloc));
-    let template = environment.get_template(name)?;
     let mut ids = StateIds::new();
     let is_refused = match template.render_captured_to(&mut ids, Value::undefined(), &mut writer) {
         Ok(_) => false,
         Err(error) => is_refused(&error, includes),
     };
-    Ok(is_refused && writer.inner().is_empty())
+    is_refused && writer.inner().is_empty()
 }
 
-/// Whether the template of a name gives this text.
-fn gives(environment: &Rows<'_>, name: &str, text: &str) -> Result<bool, Error> {
-    let template = environment.get_template(name)?;
-    let found = template.render(&mut StateIds::new(), Value::undefined())?;
-    Ok(found.as_str() == text)
+/// Whether that of the template of a name is.
+fn ends(alloc: Global, environment: &Rows<'_>, name: &str, includes: usize) -> bool {
+    match environment.get_template(name) {
+        Ok(template) => is_ended(alloc, &template, includes),
+        Err(_) => false,
+    }
+}
+
+/// Whether the template of a name gives `x`.
+fn gives(environment: &Rows<'_>, name: &str) -> bool {
+    match rendered(environment, name) {
+        Ok(text) => text.as_str() == "x",
+        Err(_) => false,
+    }
 }
 
 /// Adds 200 templates: c0 is `x`, and each one after includes the one before it.
 fn add_chain(alloc: Global, environment: &mut Rows<'_>) -> Result<(), Error> {
-    let mut before = String::from_str(alloc, "c0")?;
     environment.add_template("c0", "x")?;
     for number in 1..200_usize {
         let name = format!(in alloc; "c{number}")?;
-        let mut source = String::from_str(alloc, "{% include '")?;
-        source.push_str(before.as_str())?;
-        source.push_str("' %}")?;
+        let before = number - 1;
+        let source = format!(in alloc; "{{% include 'c{before}' %}}")?;
         environment.add_template_owned(name.as_str(), source)?;
-        before = name;
     }
     Ok(())
 }
@@ -342,17 +347,17 @@ fn add_chain(alloc: Global, environment: &mut Rows<'_>) -> Result<(), Error> {
 /// Renders templates that lie deep in each other, within the limit and beyond it, and one that includes itself.
 fn expect_chain(alloc: Global, environment: &mut Rows<'_>) -> Result<(), Fail> {
     add_chain(alloc, environment)?;
-    expect(gives(environment, "c49", "x")?, "49 includes")?;
-    expect(ends(alloc, environment, "c50", 49)?, "50 includes")?;
-    expect(ends(alloc, environment, "c199", 49)?, "199 includes")?;
+    expect(gives(environment, "c49"), "49 includes")?;
+    expect(ends(alloc, environment, "c50", 49), "50 includes")?;
+    expect(ends(alloc, environment, "c199", 49), "199 includes")?;
     environment.set_recursion_limit(91);
-    expect(gives(environment, "c9", "x")?, "9 includes")?;
-    expect(ends(alloc, environment, "c10", 9)?, "10 includes")?;
+    expect(gives(environment, "c9"), "9 includes")?;
+    expect(ends(alloc, environment, "c10", 9), "10 includes")?;
     environment.set_recursion_limit(500);
     environment.add_template("t", "{% include 't' %}")?;
     environment.set_fuel(Some(101));
     expect(
-        ends(alloc, environment, "t", 49)?,
+        ends(alloc, environment, "t", 49),
         "one that includes itself",
     )?;
     expect_table(
