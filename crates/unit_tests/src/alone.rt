@@ -1,9 +1,10 @@
 //! Expressions on their own: their code, and what is none.
 use crate::code;
-use crate::rows::halves;
+use crate::rows::{expect, halves};
+use std::alloc::Global;
 use std::test::Fail;
 use tm_compiler::parse_expr;
-use tm_values::ErrorKind;
+use tm_values::{Error, ErrorKind};
 
 /// What they are compiled to.
 static CODES: [&str; 9] = [
@@ -36,18 +37,26 @@ static REFUSED: [&str; 14] = [
     "{% set a = 1 %}",
 ];
 
+fn has_code(alloc: Global, source: &str, wanted: &str) -> Result<bool, Error> {
+    let tree = parse_expr(alloc, source)?;
+    code::has_code(alloc, &tree, wanted)
+}
+
+fn is_refused(alloc: Global, source: &str) -> bool {
+    match parse_expr(alloc, source) {
+        Ok(_) => false,
+        Err(error) => error.kind() == ErrorKind::SyntaxError,
+    }
+}
+
 #[test]
 fn expressions_have_their_code(rt: HostRuntime) -> Result<(), Fail> {
-    for row in &CODES {
+    for row in CODES {
         let (source, wanted) = halves(row);
-        let tree = parse_expr(rt.alloc(), source)?;
-        assert!(rt; code::has_code(rt.alloc(), &tree, wanted)?, "at {row}");
+        expect(has_code(rt.alloc(), source, wanted)?, row)?;
     }
-    for source in &REFUSED {
-        match parse_expr(rt.alloc(), source) {
-            Ok(_) => assert!(rt; false, "at {source}"),
-            Err(error) => assert!(rt; error.kind() == ErrorKind::SyntaxError, "at {source}"),
-        }
+    for source in REFUSED {
+        expect(is_refused(rt.alloc(), source), source)?;
     }
     Ok(())
 }

@@ -1,20 +1,17 @@
 //! Cache numbers of a stream that has more names than there are caches.
-use crate::{sources, syntax};
+use crate::sources::expect_codes;
+use crate::syntax;
 use std::alloc::Global;
 use std::test::Fail;
-use tm_printing::to_text;
 use tm_syntax::CACHES;
-use tm_values::{Error, NoRecords, Value};
+use tm_values::Error;
 
 static NAMES: &str = "abcdefghijklmnopqrstuvwxyzABCDEFGHIJKLMNOPQRSTUVWXYZ";
 
 /// Writes the words of a filter of a name with a cache number.
 fn write_filter(alloc: Global, out: &mut String, name: char, cache: i128) -> Result<(), Error> {
-    out.push_str(" filter:")?;
-    out.push(name)?;
-    out.push_str("1@")?;
-    let number = to_text(alloc, &Value::number(cache), &NoRecords)?;
-    out.push_str(number.as_str())?;
+    let words = format!(in alloc; " filter:{name}1@{cache}")?;
+    out.push_str(words.as_str())?;
     Ok(())
 }
 
@@ -44,13 +41,17 @@ fn write_code(alloc: Global, out: &mut String) -> Result<(), Error> {
     Ok(())
 }
 
-#[test]
-fn the_first_names_have_caches(rt: HostRuntime) -> Result<(), Fail> {
-    let alloc = rt.alloc();
-    let syntax = syntax::usual(alloc)?;
+/// The source with its code.
+fn row(alloc: Global) -> Result<String, Error> {
     let mut row = String::new(alloc);
     write_source(&mut row)?;
     write_code(alloc, &mut row)?;
-    assert!(rt; sources::has_code(alloc, &*syntax, row.as_str())?);
-    Ok(())
+    Ok(row)
+}
+
+#[test]
+fn the_first_names_have_caches(rt: HostRuntime) -> Result<(), Fail> {
+    let syntax = syntax::usual(rt.alloc())?;
+    let row = row(rt.alloc())?;
+    expect_codes(rt.alloc(), &*syntax, &[row.as_str()])
 }

@@ -1,8 +1,8 @@
 //! Sources under flags and delimiters of the caller's own, and who owns the texts of a source.
-use crate::sources::check_codes;
+use crate::rows::expect;
+use crate::sources::expect_codes;
 use crate::syntax::{self, Flags, NO_FLAG};
 use std::alloc::Global;
-use std::process::Abort;
 use std::rc::RcStr;
 use std::test::Fail;
 use tm_scanner::{SyntaxConfig, scan};
@@ -16,8 +16,7 @@ static DELIMITED: [&str; 1] = [
 #[test]
 fn delimiters_are_the_callers(rt: HostRuntime) -> Result<(), Fail> {
     let syntax = syntax::with_delimiters(rt.alloc(), &["<%", "%>", "${", "}", "<%#", "%>"])?;
-    check_codes(&rt, rt.alloc(), &*syntax, &DELIMITED)?;
-    Ok(())
+    expect_codes(rt.alloc(), &*syntax, &DELIMITED)
 }
 
 static UNUSABLE: [[&str; 6]; 3] = [
@@ -34,10 +33,11 @@ fn is_unusable(alloc: Global, texts: &[&str; 6]) -> bool {
 }
 
 #[test]
-fn unusable_delimiters_are_refused(rt: HostRuntime) {
+fn unusable_delimiters_are_refused(rt: HostRuntime) -> Result<(), Fail> {
     for texts in &UNUSABLE {
-        assert!(rt; is_unusable(rt.alloc(), texts), "at {}", texts[0]);
+        expect(is_unusable(rt.alloc(), texts), texts[0])?;
     }
+    Ok(())
 }
 
 const TRIM: Flags = Flags {
@@ -94,7 +94,7 @@ static FLAGGED: [(Flags, &[&str]); 5] = [
 fn flags_trim(rt: HostRuntime) -> Result<(), Fail> {
     for (flags, rows) in &FLAGGED {
         let syntax = syntax::with_flags(rt.alloc(), *flags)?;
-        check_codes(&rt, rt.alloc(), &*syntax, rows)?;
+        expect_codes(rt.alloc(), &*syntax, rows)?;
     }
     Ok(())
 }
@@ -111,10 +111,7 @@ fn shares_raw_texts(alloc: Global, syntax: &SyntaxConfig, source: &str) -> Resul
 fn raw_texts_share_the_source(rt: HostRuntime) -> Result<(), Fail> {
     let syntax = syntax::usual(rt.alloc())?;
     for source in ["", "a{{ b }} c {% raw %} d {% endraw %}", "{ {{- a -}} }\n"] {
-        assert!(rt;
-            shares_raw_texts(rt.alloc(), &*syntax, source)?,
-            "at {source}"
-        );
+        expect(shares_raw_texts(rt.alloc(), &*syntax, source)?, source)?;
     }
     Ok(())
 }

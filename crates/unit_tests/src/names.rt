@@ -1,8 +1,8 @@
 //! Sources with the names that they read where no open scope has assigned them.
-use crate::rows::halves;
+use crate::rows::{expect, halves};
 use crate::syntax;
 use std::alloc::Global;
-use std::process::Abort;
+use std::collections::BTreeSet;
 use std::rc::RcStr;
 use std::test::Fail;
 use tm_compiler::{SyntaxConfig, parse};
@@ -70,42 +70,46 @@ static NESTED: [&str; 15] = [
     "{% call a.b.m() %}{{ c.d }}{% endcall %} => a.b.m c.d",
 ];
 
-/// The names that a source reads, each after a blank.
-fn names_of(
+/// Whether these are the names, each after a blank.
+fn are(names: &BTreeSet<String>, wanted: &str) -> bool {
+    let mut rest = wanted.split_whitespace();
+    for name in names.iter() {
+        if rest.next() != Some(name.as_str()) {
+            return false;
+        }
+    }
+    rest.next().is_none()
+}
+
+/// Whether a source reads these names.
+fn reads(
     alloc: Global,
     syntax: &SyntaxConfig,
     source: &str,
     nested: bool,
-) -> Result<String, Error> {
+    wanted: &str,
+) -> Result<bool, Error> {
     let source = RcStr::from_str(alloc, source)?;
     let tree = parse(alloc, &source, syntax)?;
     let names = undeclared(alloc, &tree, nested)?;
-    let mut text = String::new(alloc);
-    for name in names.iter() {
-        text.push_str(" ")?;
-        text.push_str(name.as_str())?;
-    }
-    Ok(text)
+    Ok(are(&names, wanted))
 }
 
-fn check_names(rt: &impl Abort, alloc: Global, rows: &[&str], nested: bool) -> Result<(), Error> {
+fn expect_names(alloc: Global, rows: &[&str], nested: bool) -> Result<(), Fail> {
     let syntax = syntax::usual(alloc)?;
     for row in rows {
         let (source, names) = halves(row);
-        let found = names_of(alloc, &*syntax, source, nested)?;
-        assert!(rt; found.as_str() == names, "at {row}");
+        expect(reads(alloc, &*syntax, source, nested, names)?, row)?;
     }
     Ok(())
 }
 
 #[test]
 fn names_are_read(rt: HostRuntime) -> Result<(), Fail> {
-    check_names(&rt, rt.alloc(), &ALONE, false)?;
-    Ok(())
+    expect_names(rt.alloc(), &ALONE, false)
 }
 
 #[test]
 fn names_are_read_with_what_is_nested(rt: HostRuntime) -> Result<(), Fail> {
-    check_names(&rt, rt.alloc(), &NESTED, true)?;
-    Ok(())
+    expect_names(rt.alloc(), &NESTED, true)
 }

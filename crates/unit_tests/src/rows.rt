@@ -1,6 +1,15 @@
 //! Rows of tables, each one text: an array of texts is proved far faster than one of pairs.
 use std::alloc::Global;
+use std::test::Fail;
 use tm_values::Error;
+
+/// A failure of this name, where something isn't so.
+pub(crate) fn expect(holds: bool, name: &str) -> Result<(), Fail> {
+    if holds {
+        return Ok(());
+    }
+    Err(Fail::new(name))
+}
 
 /// A row's parts before and after its ` =>`.
 pub(crate) fn halves(row: &str) -> (&str, &str) {

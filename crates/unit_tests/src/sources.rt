@@ -1,8 +1,7 @@
 //! Sources with their code, and what is no source of a template.
-use crate::rows::{halves, joined};
+use crate::rows::{expect, halves, joined};
 use crate::{blocks, code, imports, macros, syntax};
 use std::alloc::Global;
-use std::process::Abort;
 use std::rc::RcStr;
 use std::test::Fail;
 use tm_compiler::{SyntaxConfig, Tree, parse};
@@ -182,15 +181,14 @@ pub(crate) fn has_code(alloc: Global, syntax: &SyntaxConfig, row: &str) -> Resul
     code::has_code(alloc, &tree, wanted)
 }
 
-/// Asserts that each row has its code.
-pub(crate) fn check_codes(
-    rt: &impl Abort,
+/// Expects that each row has its code.
+pub(crate) fn expect_codes(
     alloc: Global,
     syntax: &SyntaxConfig,
     rows: &[&str],
-) -> Result<(), Error> {
+) -> Result<(), Fail> {
     for row in rows {
-        assert!(rt; has_code(alloc, syntax, row)?, "at {row}");
+        expect(has_code(alloc, syntax, row)?, row)?;
     }
     Ok(())
 }
@@ -198,11 +196,15 @@ pub(crate) fn check_codes(
 #[test]
 fn sources_have_their_code(rt: HostRuntime) -> Result<(), Fail> {
     let syntax = syntax::usual(rt.alloc())?;
-    check_codes(&rt, rt.alloc(), &*syntax, &EXPRESSIONS_AND_STATEMENTS)?;
-    check_codes(&rt, rt.alloc(), &*syntax, &TOKENS)?;
-    check_codes(&rt, rt.alloc(), &*syntax, &macros::CODES)?;
-    check_codes(&rt, rt.alloc(), &*syntax, &blocks::CODES)?;
-    check_codes(&rt, rt.alloc(), &*syntax, &imports::CODES)?;
+    for rows in [
+        EXPRESSIONS_AND_STATEMENTS.as_slice(),
+        TOKENS.as_slice(),
+        macros::CODES.as_slice(),
+        blocks::CODES.as_slice(),
+        imports::CODES.as_slice(),
+    ] {
+        expect_codes(rt.alloc(), &*syntax, rows)?;
+    }
     Ok(())
 }
 
@@ -440,38 +442,38 @@ fn is_template(alloc: Global, syntax: &SyntaxConfig, source: &str) -> Result<boo
     }
 }
 
-/// Asserts of each row's pieces, joined, whether they spell a template.
-fn check_joined(
-    rt: &impl Abort,
+/// Whether a row's pieces, joined, spell a template.
+fn is_joined(
     alloc: Global,
-    rows: &[&str],
+    syntax: &SyntaxConfig,
+    pieces: &str,
     count: usize,
-    wanted: bool,
-) -> Result<(), Error> {
+) -> Result<bool, Error> {
+    let source = joined(alloc, pieces, count)?;
+    is_template(alloc, syntax, source.as_str())
+}
+
+/// Expects that each row's pieces spell a template, or that none do.
+fn expect_joined(alloc: Global, rows: &[&str], count: usize, wanted: bool) -> Result<(), Fail> {
     let syntax = syntax::usual(alloc)?;
     for pieces in rows {
-        let source = joined(alloc, pieces, count)?;
-        assert!(rt;
-            is_template(alloc, &*syntax, source.as_str())? == wanted,
-            "{count} at {pieces}"
-        );
+        let is_template = is_joined(alloc, &*syntax, pieces, count)?;
+        expect(is_template == wanted, pieces)?;
     }
     Ok(())
 }
 
 #[test]
 fn what_is_no_template_is_refused(rt: HostRuntime) -> Result<(), Fail> {
-    check_joined(&rt, rt.alloc(), &REFUSED, 0, false)?;
-    check_joined(&rt, rt.alloc(), &macros::REFUSED, 0, false)?;
-    check_joined(&rt, rt.alloc(), &blocks::REFUSED, 0, false)?;
-    check_joined(&rt, rt.alloc(), &imports::REFUSED, 0, false)?;
-    Ok(())
+    expect_joined(rt.alloc(), &REFUSED, 0, false)?;
+    expect_joined(rt.alloc(), &macros::REFUSED, 0, false)?;
+    expect_joined(rt.alloc(), &blocks::REFUSED, 0, false)?;
+    expect_joined(rt.alloc(), &imports::REFUSED, 0, false)
 }
 
 #[test]
 fn nestings_are_counted(rt: HostRuntime) -> Result<(), Fail> {
-    check_joined(&rt, rt.alloc(), &NESTINGS, 150, true)?;
-    check_joined(&rt, rt.alloc(), &NESTINGS, 151, false)?;
-    check_joined(&rt, rt.alloc(), &LONG, 1_000_000, true)?;
-    Ok(())
+    expect_joined(rt.alloc(), &NESTINGS, 150, true)?;
+    expect_joined(rt.alloc(), &NESTINGS, 151, false)?;
+    expect_joined(rt.alloc(), &LONG, 1_000_000, true)
 }
