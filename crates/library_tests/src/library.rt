@@ -466,19 +466,20 @@ fn keeps(state: &mut State<'_>) -> Result<bool, Error> {
     Ok(state.set_temp("seen", Value::boolean(true))?.is_none())
 }
 
-fn tells(state: &State<'_>) -> Result<bool, Error> {
-    Ok(
-        state.name() == "a.html"
-            && state.auto_escape() == AutoEscape::Html
-            && state.undefined_behavior() == UndefinedBehavior::Lenient
-            && state.env().fuel() == Some(100)
-            && state.fuel_levels() == Some((5, 95))
-            && state.current_block().is_none()
-            && state.lookup("_b")? == Some(Value::number(2))
-            && state.exports()?.len() == 1
-            && state.known_variables()?.len() == 5
-            && state.get_temp("seen").is_some(),
-    )
+fn tells(state: &State<'_>) -> bool {
+    state.name() == "a.html"
+        && state.auto_escape() == AutoEscape::Html
+        && state.undefined_behavior() == UndefinedBehavior::Lenient
+        && state.env().fuel() == Some(100)
+        && state.fuel_levels() == Some((5, 95))
+        && state.current_block().is_none()
+        && state.get_temp("seen").is_some()
+}
+
+fn finds_names(state: &State<'_>) -> Result<bool, Error> {
+    let found = state.lookup("_b")?;
+    let (exports, known) = (state.exports()?, state.known_variables()?);
+    Ok(found == Some(Value::number(2)) && exports.len() == 1 && known.len() == 5)
 }
 
 fn leaves_a_state(environment: &mut Environment<'_>) -> Result<bool, Error> {
@@ -486,8 +487,8 @@ fn leaves_a_state(environment: &mut Environment<'_>) -> Result<bool, Error> {
     let source = "{% set a = 1 %}{% set _b = 2 %}x";
     let template = environment.template_from_named_str("a.html", source)?;
     let mut captured = template.render_captured(&mut StateIds::new(), Value::undefined())?;
-    let is_kept = captured.with_state_mut(|state| keeps(state))?;
-    let is_told = tells(captured.state())? && captured.output() == "x";
+    let is_kept = captured.with_state_mut(|state| keeps(state))? && captured.output() == "x";
+    let is_told = tells(captured.state()) && finds_names(captured.state())?;
     let output = captured.into_output();
     Ok(is_kept && is_told && output.as_str() == "x")
 }
@@ -518,10 +519,13 @@ fn asks_objects(state: &mut State<'_>) -> Result<bool, Error> {
     let filtered = state.apply_filter("yes", &[])?;
     let holds = state.perform_test("yes", &[])?;
     let is_refused = is_fault(state.apply_filter("kept", &[]), ErrorKind::MissingArgument);
-    let is_kept = state.get_temp("k").is_some();
+    Ok(filtered.is_true() && holds && is_refused && state.get_temp("k").is_some())
+}
+
+fn formats(state: &State<'_>) -> Result<bool, Error> {
     let text = state.format(&Value::number(42))?;
-    let is_same = state.get_template("parts")?.source() == PARTS;
-    Ok(filtered.is_true() && holds && is_refused && is_kept && text.as_str() == "42" && is_same)
+    let template = state.get_template("parts")?;
+    Ok(text.as_str() == "42" && template.source() == PARTS)
 }
 // example ends here
 
@@ -534,7 +538,7 @@ fn serves_states(alloc: Global, environment: &mut Environment<'_>) -> Result<boo
     let captured = template.render_captured(&mut StateIds::new(), Value::undefined())?;
     let (output, mut state) = captured.into_parts();
     let are_run = runs_parts(alloc, &mut state)? && asks_objects(&mut state)?;
-    Ok(output.as_str() == "B" && are_run)
+    Ok(output.as_str() == "B" && are_run && formats(&state)?)
 }
 
 fn makes_states(environment: &Environment<'_>) -> Result<bool, Error> {
