@@ -21,12 +21,20 @@ use tm_values::{AutoEscape, Error, ErrorKind, UndefinedBehavior, Value};
 use tm_vm::Machine;
 
 /// The template that is rendered, or of which a state is.
-#[derive(Drop)]
 pub(crate) enum OwnTemplate<'env> {
     /// One that outlives the state.
     Lent(&'env CompiledTemplate<'env>),
     /// One of the state alone.
     Owned(Box<CompiledTemplate<'env>>),
+}
+
+// By hand: one call for each owner, in place of a drop of each part.
+impl Drop for OwnTemplate<'_> {
+    fn drop(self) {
+        match self {
+            OwnTemplate::Lent(_) | OwnTemplate::Owned(_) => {}
+        }
+    }
 }
 
 impl<'env> OwnTemplate<'env> {

@@ -23,12 +23,20 @@ use tm_values::{Error, ErrorKind, Value};
 use tm_vm::Machine;
 
 /// A compiled template: the environment's, or one of its own.
-#[derive(Drop)]
 pub(crate) enum TemplateRef<'env, 'source> {
     /// The environment's entry of a name.
     Lent(&'env Name, &'env CompiledTemplate<'source>),
     /// Its own, boxed: whoever owns a template would else have all of its layout in its proof.
     Owned(Box<CompiledTemplate<'source>>),
+}
+
+// By hand: one call for each owner, in place of a drop of each part.
+impl Drop for TemplateRef<'_, '_> {
+    fn drop(self) {
+        match self {
+            TemplateRef::Lent(_, _) | TemplateRef::Owned(_) => {}
+        }
+    }
 }
 
 /// A template of an environment.

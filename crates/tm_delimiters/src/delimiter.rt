@@ -11,9 +11,15 @@ enum Text {
 }
 
 /// A delimiter. A contract sees its bytes.
-#[derive(Drop)]
 pub(crate) struct Delimiter {
     text: Text,
+}
+
+// By hand: one call for each owner, in place of a drop of each part.
+impl Drop for Delimiter {
+    fn drop(self) {
+        let Delimiter { text: _text } = self;
+    }
 }
 
 impl Model for Delimiter {

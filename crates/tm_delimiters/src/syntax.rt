@@ -16,7 +16,6 @@ pub enum Kind {
 }
 
 /// Delimiters and flags, usable or not.
-#[derive(Drop)]
 pub(crate) struct UncheckedSyntax {
     pub(crate) block_start: Delimiter,
     pub(crate) block_end: Delimiter,
@@ -27,6 +26,23 @@ pub(crate) struct UncheckedSyntax {
     pub(crate) trim_blocks: bool,
     pub(crate) lstrip_blocks: bool,
     pub(crate) keep_trailing_newline: bool,
+}
+
+// By hand: one call for each owner, in place of a drop of each part.
+impl Drop for UncheckedSyntax {
+    fn drop(self) {
+        let UncheckedSyntax {
+            block_start: _block_start,
+            block_end: _block_end,
+            variable_start: _variable_start,
+            variable_end: _variable_end,
+            comment_start: _comment_start,
+            comment_end: _comment_end,
+            trim_blocks: _trim_blocks,
+            lstrip_blocks: _lstrip_blocks,
+            keep_trailing_newline: _keep_trailing_newline,
+        } = self;
+    }
 }
 
 impl Model for UncheckedSyntax {

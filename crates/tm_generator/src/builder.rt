@@ -48,12 +48,23 @@ pub(crate) struct Around {
 }
 
 /// Code that is being made, and the jumps in it that lead nowhere yet.
-#[derive(Drop)]
 pub(crate) struct Builder {
     alloc: Global,
     code: Items<Instruction>,
     outs: Items<Out>,
     exits: Items<Exit>,
+}
+
+// By hand: one call for each owner, in place of a drop of each part.
+impl Drop for Builder {
+    fn drop(self) {
+        let Builder {
+            alloc: _alloc,
+            code: _code,
+            outs: _outs,
+            exits: _exits,
+        } = self;
+    }
 }
 
 impl Builder {

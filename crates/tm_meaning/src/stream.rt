@@ -6,12 +6,20 @@ use std::alloc::AllocError;
 use tm_syntax::Name;
 
 /// A template: the render's own, or an entry of the environment.
-#[derive(Drop)]
 pub enum TemplateId {
     /// The one that is rendered.
     Own,
     /// The one that the environment has at a name.
     Entry(Name),
+}
+
+// By hand: one call for each owner, in place of a drop of each part.
+impl Drop for TemplateId {
+    fn drop(self) {
+        match self {
+            TemplateId::Own | TemplateId::Entry(_) => {}
+        }
+    }
 }
 
 impl TemplateId {
@@ -40,12 +48,21 @@ impl TemplateId {
 }
 
 /// A stream: a template's root, or its block of a name.
-#[derive(Drop)]
 pub struct StreamId {
     /// The template.
     pub template: TemplateId,
     /// The name of the block; none for the root.
     pub block: Option<Name>,
+}
+
+// By hand: one call for each owner, in place of a drop of each part.
+impl Drop for StreamId {
+    fn drop(self) {
+        let StreamId {
+            template: _template,
+            block: _block,
+        } = self;
+    }
 }
 
 impl StreamId {

@@ -7,11 +7,21 @@ use tm_tables::Context;
 use tm_values::Value;
 
 /// Rooms of what is over, which hold no values. No contract sees them.
-#[derive(Drop)]
 pub(crate) struct Rooms {
     scopes: Vec<Context>,
     operands: Vec<Vec<Value>>,
     runs: Vec<Box<NestedRun>>,
+}
+
+// By hand: one call for each owner, in place of a drop of each part.
+impl Drop for Rooms {
+    fn drop(self) {
+        let Rooms {
+            scopes: _scopes,
+            operands: _operands,
+            runs: _runs,
+        } = self;
+    }
 }
 
 impl Rooms {

@@ -18,7 +18,6 @@ pub enum Saved {
 }
 
 /// What a block's run replaces.
-#[derive(Drop)]
 pub struct SavedBlock {
     /// The stream that ran.
     pub stream: StreamId,
@@ -32,8 +31,20 @@ pub struct SavedBlock {
     pub outer: usize,
 }
 
+// By hand: one call for each owner, in place of a drop of each part.
+impl Drop for SavedBlock {
+    fn drop(self) {
+        let SavedBlock {
+            stream: _stream,
+            block: _block,
+            escape: _escape,
+            scopes: _scopes,
+            outer: _outer,
+        } = self;
+    }
+}
+
 /// What the run of a `super()` replaces.
-#[derive(Drop)]
 pub struct SavedSuper {
     /// What a block's run replaces.
     pub replaced: SavedBlock,
@@ -41,8 +52,17 @@ pub struct SavedSuper {
     pub places: NameTable<usize>,
 }
 
+// By hand: one call for each owner, in place of a drop of each part.
+impl Drop for SavedSuper {
+    fn drop(self) {
+        let SavedSuper {
+            replaced: _replaced,
+            places: _places,
+        } = self;
+    }
+}
+
 /// What a macro's run replaces, which has scopes of its own.
-#[derive(Drop)]
 pub struct SavedMacro {
     /// The scopes.
     pub context: Context,
@@ -56,8 +76,20 @@ pub struct SavedMacro {
     pub lists: Lists,
 }
 
+// By hand: one call for each owner, in place of a drop of each part.
+impl Drop for SavedMacro {
+    fn drop(self) {
+        let SavedMacro {
+            context: _context,
+            stream: _stream,
+            block: _block,
+            escape: _escape,
+            lists: _lists,
+        } = self;
+    }
+}
+
 /// What an include's run replaces, which stands in the scopes that stood.
-#[derive(Drop)]
 pub struct SavedInclude {
     /// What a block's run replaces.
     pub replaced: SavedBlock,
@@ -65,4 +97,15 @@ pub struct SavedInclude {
     pub closure: Option<usize>,
     /// The lists of blocks, their places and the loaded names.
     pub lists: Lists,
+}
+
+// By hand: one call for each owner, in place of a drop of each part.
+impl Drop for SavedInclude {
+    fn drop(self) {
+        let SavedInclude {
+            replaced: _replaced,
+            closure: _closure,
+            lists: _lists,
+        } = self;
+    }
 }

@@ -37,7 +37,6 @@ use tm_values::{
 };
 
 /// What a state keeps. A contract sees it as a world of the definitions.
-#[derive(Drop)]
 pub struct StateData {
     id: u64,
     pub(crate) context: Context,
@@ -54,6 +53,29 @@ pub struct StateData {
     pub(crate) fuel_is_set: bool,
     pub(crate) rooms: Rooms,
     pub(crate) template_place: usize,
+}
+
+// By hand: one call for each owner, in place of a drop of each part.
+impl Drop for StateData {
+    fn drop(self) {
+        let StateData {
+            id: _id,
+            context: _context,
+            namespaces: _namespaces,
+            loops: _loops,
+            closures: _closures,
+            streams: _streams,
+            temps: _temps,
+            lists: _lists,
+            block: _block,
+            escape: _escape,
+            stream: _stream,
+            fuel: _fuel,
+            fuel_is_set: _fuel_is_set,
+            rooms: _rooms,
+            template_place: _template_place,
+        } = self;
+    }
 }
 
 impl Model for StateData {

@@ -13,11 +13,21 @@ use tm_values::{Node, Value};
 
 /// The instructions of a stream, where its loops begin, and where its macros are entered, each with how many
 /// arguments it takes. A contract sees the instructions.
-#[derive(Drop)]
 pub struct Code {
     instructions: Items<Instruction>,
     loops: Vec<LoopPlace>,
     macros: Vec<(usize, usize)>,
+}
+
+// By hand: one call for each owner, in place of a drop of each part.
+impl Drop for Code {
+    fn drop(self) {
+        let Code {
+            instructions: _instructions,
+            loops: _loops,
+            macros: _macros,
+        } = self;
+    }
 }
 
 impl Model for Code {
@@ -40,12 +50,21 @@ impl Model for Code {
 }
 
 /// The code of a block, and whether another template has to replace it.
-#[derive(Drop)]
 pub struct BlockCode {
     /// Whether it is refused where no template replaces it.
     pub required: bool,
     /// What it runs.
     pub code: Code,
+}
+
+// By hand: one call for each owner, in place of a drop of each part.
+impl Drop for BlockCode {
+    fn drop(self) {
+        let BlockCode {
+            required: _required,
+            code: _code,
+        } = self;
+    }
 }
 
 /// Where the loops of instructions begin, each at its number. AllocError when out of memory.

@@ -310,12 +310,20 @@ pub struct CallBlock {
 }
 
 /// What a source spells.
-#[derive(Drop)]
 pub enum Tree {
     /// A template: the statements that a render runs.
     Statements(Items<Stmt>),
     /// An expression.
     Expression(Boxed<Expr>),
+}
+
+// By hand: one call for each owner, in place of a drop of each part.
+impl Drop for Tree {
+    fn drop(self) {
+        match self {
+            Tree::Statements(_) | Tree::Expression(_) => {}
+        }
+    }
 }
 
 // What an expression holds is dropped by a list, so that a deep one takes no deep stack.

@@ -24,10 +24,19 @@ use tm_syntax::{Name, NameMap};
 use tm_values::{Error, ErrorKind, Records, Value, ValueMap};
 
 /// The scopes of a state. A contract sees them innermost first.
-#[derive(Drop)]
 pub struct Context {
     frames: Vec<Frame>,
     outer: usize,
+}
+
+// By hand: one call for each owner, in place of a drop of each part.
+impl Drop for Context {
+    fn drop(self) {
+        let Context {
+            frames: _frames,
+            outer: _outer,
+        } = self;
+    }
 }
 
 impl Model for Context {
@@ -77,7 +86,10 @@ impl Context {
           outer = outer;
         }) }
     {
-        let Context { mut frames, .. } = self;
+        let Context {
+            mut frames,
+            outer: _outer,
+        } = self;
         frames.truncate(2);
         if frames.len() < 2 {
             frames.clear();

@@ -50,13 +50,25 @@ impl Found<'_> {
 
 /// A scope: its own names, the value whose keys are names too, its loop, and the numbers of the closure that was made
 /// in it and of the one that it reads.
-#[derive(Drop)]
 pub struct Frame {
     pub(crate) locals: Locals,
     pub(crate) context: Value,
     pub(crate) mark: Option<LoopMark>,
     pub(crate) own_closure: Option<usize>,
     reads: Option<usize>,
+}
+
+// By hand: one call for each owner, in place of a drop of each part.
+impl Drop for Frame {
+    fn drop(self) {
+        let Frame {
+            locals: _locals,
+            context: _context,
+            mark: _mark,
+            own_closure: _own_closure,
+            reads: _reads,
+        } = self;
+    }
 }
 
 impl Model for Frame {

@@ -10,10 +10,19 @@ use tm_meaning::TemplateId;
 use tm_syntax::Name;
 
 /// A template of a chain, with the names of its blocks. A contract sees both.
-#[derive(Drop)]
 pub(crate) struct Layer {
     pub template: TemplateId,
     pub names: Rc<BlockNames>,
+}
+
+// By hand: one call for each owner, in place of a drop of each part.
+impl Drop for Layer {
+    fn drop(self) {
+        let Layer {
+            template: _template,
+            names: _names,
+        } = self;
+    }
 }
 
 impl Model for Layer {

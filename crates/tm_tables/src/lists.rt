@@ -46,10 +46,19 @@ fn shared(alloc: Global, loaded: Loaded) -> Result<Rc<Loaded>, Error>
 
 /// The lists of blocks by name, the places in them that aren't the child's, and the names of the templates that were
 /// loaded, in order. Copies share the lists and the names, until one of them gets more. A contract sees all three.
-#[derive(Drop)]
 pub struct Lists {
     loaded: Option<Rc<Loaded>>,
     places: NameTable<usize>,
+}
+
+// By hand: one call for each owner, in place of a drop of each part.
+impl Drop for Lists {
+    fn drop(self) {
+        let Lists {
+            loaded: _loaded,
+            places: _places,
+        } = self;
+    }
 }
 
 impl Model for Lists {

@@ -75,10 +75,19 @@ fn shared(alloc: Global, names: LoadedNames) -> Result<Rc<LoadedNames>, Error>
 /// The templates with the names of their blocks, from child to root, and the names of the templates that were loaded,
 /// in order. Copies share the latter, until one of them gets more. A contract sees the lists of the templates by the
 /// names of their blocks, and the latter.
-#[derive(Drop)]
 pub(crate) struct Loaded {
     layers: Vec<Layer>,
     names: Option<Rc<LoadedNames>>,
+}
+
+// By hand: one call for each owner, in place of a drop of each part.
+impl Drop for Loaded {
+    fn drop(self) {
+        let Loaded {
+            layers: _layers,
+            names: _names,
+        } = self;
+    }
 }
 
 impl Model for Loaded {

@@ -79,10 +79,19 @@ fn add_exported(
 
 /// Names with what they stand for, found by the hashes of the names first. The room of the first ones stays
 /// when they are cleared. A contract sees the pairs, in the order of the names.
-#[derive(Drop)]
 pub struct Locals {
     first: Vec<(Name, Value)>,
     others: BTreeMap<Name, Value>,
+}
+
+// By hand: one call for each owner, in place of a drop of each part.
+impl Drop for Locals {
+    fn drop(self) {
+        let Locals {
+            first: _first,
+            others: _others,
+        } = self;
+    }
 }
 
 impl Model for Locals {

@@ -14,7 +14,6 @@ use tm_values::{Error, ErrorKind, LoopPosition, Value, same_items, share_all};
 
 /// A loop: its items, how often the next one was asked for, how many loops that can be called lie around it
 /// with no other loop between, its number in its stream, whether it can be called, and that stream.
-#[derive(Drop)]
 pub struct LoopState {
     items: Rc<Vec<Value>>,
     turns: usize,
@@ -23,6 +22,21 @@ pub struct LoopState {
     recursive: bool,
     stream: StreamId,
     kept: Option<Vec<Value>>,
+}
+
+// By hand: one call for each owner, in place of a drop of each part.
+impl Drop for LoopState {
+    fn drop(self) {
+        let LoopState {
+            items: _items,
+            turns: _turns,
+            depth: _depth,
+            number: _number,
+            recursive: _recursive,
+            stream: _stream,
+            kept: _kept,
+        } = self;
+    }
 }
 
 impl Model for LoopState {

@@ -105,7 +105,6 @@ pub trait Parties: Drop {
 /// Functions by number, from 0: those of the language, where they are there, and then objects of the caller;
 /// the caller's filters and tests by name; its method object, its formatter and what joins names, where it gave
 /// one; and what chooses escapes.
-#[derive(Drop)]
 pub struct Objects<C: Drop, M: Drop, F: Drop, R: Drop, J: Drop> {
     language: bool,
     functions: Vec<C>,
@@ -115,6 +114,22 @@ pub struct Objects<C: Drop, M: Drop, F: Drop, R: Drop, J: Drop> {
     formatter: Option<F>,
     escaping: R,
     joining: Option<J>,
+}
+
+// By hand: one call for each owner, in place of a drop of each part.
+impl<C: Drop, M: Drop, F: Drop, R: Drop, J: Drop> Drop for Objects<C, M, F, R, J> {
+    fn drop(self) {
+        let Objects {
+            language: _language,
+            functions: _functions,
+            filters: _filters,
+            tests: _tests,
+            fallback: _fallback,
+            formatter: _formatter,
+            escaping: _escaping,
+            joining: _joining,
+        } = self;
+    }
 }
 
 impl<C: Drop, M: Drop, F: Drop, R: Drop, J: Drop> Model for Objects<C, M, F, R, J> {

@@ -59,7 +59,6 @@ impl LeafFlow {
 }
 
 /// A leaf's run: what such a run has of its own. Its room is used for the next one.
-#[derive(Drop)]
 pub(crate) struct Leaf {
     place: usize,
     operands: Stack,
@@ -68,6 +67,20 @@ pub(crate) struct Leaf {
     fuel: u64,
     // A bit for each macro that isn't tried again, by its entry.
     others: u64,
+}
+
+// By hand: one call for each owner, in place of a drop of each part.
+impl Drop for Leaf {
+    fn drop(self) {
+        let Leaf {
+            place: _place,
+            operands: _operands,
+            names: _names,
+            text: _text,
+            fuel: _fuel,
+            others: _others,
+        } = self;
+    }
 }
 
 impl Model for Leaf {

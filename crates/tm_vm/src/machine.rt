@@ -43,12 +43,23 @@ fn wrapped(alloc: Global, wrap: Option<Wrapping>, halt: Halt) -> Halt
 }
 
 /// The machine. A contract sees it as a configuration of the definitions.
-#[derive(Drop)]
 pub struct Machine {
     pub(crate) run: Activation,
     pub(crate) captures: Captures,
     pub(crate) state: StateData,
     pub(crate) leaf: Leaf,
+}
+
+// By hand: one call for each owner, in place of a drop of each part.
+impl Drop for Machine {
+    fn drop(self) {
+        let Machine {
+            run: _run,
+            captures: _captures,
+            state: _state,
+            leaf: _leaf,
+        } = self;
+    }
 }
 
 impl Model for Machine {
@@ -105,9 +116,10 @@ impl Machine {
         ensures state { result.1 ≡ self.world }
     {
         let Machine {
+            run: _run,
             captures,
             state,
-            ..
+            leaf: _leaf,
         } = self;
         (captures, state)
     }
@@ -118,7 +130,12 @@ impl Machine {
             (λ v. self.run.operands ≡ v ∷ []) }
         ensures state { result.1 ≡ self.world }
     {
-        let Machine { mut run, state, .. } = self;
+        let Machine {
+            mut run,
+            captures: _captures,
+            state,
+            leaf: _leaf,
+        } = self;
         if run.operands.len() != 1 {
             return (None, state);
         }
