@@ -1,7 +1,7 @@
 #!/usr/bin/env bash
 # Renders each example by ./mj, with the JSON file, the names and the other templates that it has (.json, .names, .others), and compares the
-# output with its .expected file. The code in README.md and in docs/LIBRARY.md must be that of their tests. No nesting may take more of the
-# stack than bench/stack says.
+# output with its .expected file. Each row of command must hold. The code in README.md and in docs/LIBRARY.md must be that of their tests. No
+# nesting may take more of the stack than bench/stack says.
 set -euo pipefail
 cd "$(dirname "${BASH_SOURCE[0]}")"
 
@@ -48,6 +48,7 @@ for input in hello.txt mail.txt server.conf page.html notice.txt table.html menu
         failed=$((failed + 1))
     fi
 done
+./command ../crates/mj/out/mj || failed=$((failed + 1))
 if ! nestings=$(../bench/stack); then
     echo "$nestings" >&2
     failed=$((failed + 1))

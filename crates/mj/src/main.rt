@@ -1,10 +1,10 @@
 //! The command line of template machine: a file is rendered to standard output.
 #![tactic(auto)]
 
-#[cfg(test)]
-mod tests;
+mod program;
+mod render;
 
-use mj_run::{Texts, run};
+use crate::program::{Texts, run};
 use mj_words::{Refusal, tell_refusal};
 use std::io::{self, BufWriter, Read};
 use std::process::ExitCode;

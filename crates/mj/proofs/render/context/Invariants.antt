@@ -1,7 +1,7 @@
 use Rattle.std.proofs.Common.{◌≡◌, ◌++◌, drop, map}
 use Rattle.mj_words.specs.CommandLine.{plain}
-use Rattle.mj_run.specs.Program.{pair_of}
-use Rattle.mj_run.proofs.render.context.Given as goal
+use Rattle.mj.specs.Program.{pair_of}
+use Rattle.mj.proofs.render.context.Given as goal
 
 -- the pairs of the texts that are left are left
 abbrev pub invariant-loop-name : goal.invariant-loop-name

@@ -1,6 +1,6 @@
-use Rattle.mj_run.proofs.Rendered.{is_done, is_fault, at_first}
-use Rattle.mj_run.proofs.Lists.{passed}
-use Rattle.mj_run.proofs.render.render_template.Goals as goal
+use Rattle.mj.proofs.Rendered.{is_done, is_fault, at_first}
+use Rattle.mj.proofs.Lists.{passed}
+use Rattle.mj.proofs.render.render_template.Goals as goal
 
 pub returns : goal.returns
 returns g c = λ input means.

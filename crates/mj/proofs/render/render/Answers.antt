@@ -1,8 +1,8 @@
 use Rattle.std.specs.Prelude.{map}
-use Rattle.mj_run.specs.Program.{input_of, named}
-use Rattle.mj_run.proofs.Rendered.{fault_flushed, rendered_flushed, unflushed}
-use Rattle.mj_run.proofs.Lists.{passed}
-use Rattle.mj_run.proofs.render.render.Goals as goal
+use Rattle.mj.specs.Program.{input_of, named}
+use Rattle.mj.proofs.Rendered.{fault_flushed, rendered_flushed, unflushed}
+use Rattle.mj.proofs.Lists.{passed}
+use Rattle.mj.proofs.render.render.Goals as goal
 
 pub returns-in_err-rendered : goal.returns-in_err-rendered
 returns-in_err-rendered g c =

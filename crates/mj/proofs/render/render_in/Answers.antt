@@ -2,16 +2,16 @@ use Rattle.std.specs.Prelude.{map}
 use Rattle.std.proofs.Common.{ap}
 use Rattle.template_machine.specs.Environment.{EnvironmentValue}
 use Rattle.mj_words.specs.CommandLine.{asked_of}
-use Rattle.mj_run.specs.Program.{input_of, named}
-use Rattle.mj_run.proofs.Added.{is_found}
-use Rattle.mj_run.proofs.Rendered.{started, is_meant_by, is_refused}
-use Rattle.mj_run.proofs.Lists.{passed}
+use Rattle.mj.specs.Program.{input_of, named}
+use Rattle.mj.proofs.Added.{is_found}
+use Rattle.mj.proofs.Rendered.{started, is_meant_by, is_refused}
+use Rattle.mj.proofs.Lists.{passed}
 use Rattle.tm_tables.specs.contracts.callable.BoxDynCallableCallable.TheImpl as callables
 use Rattle.tm_tables.specs.contracts.fallback.BoxDynMethodFallbackMethodFallback.TheImpl as fallbacks
 use Rattle.tm_tables.specs.contracts.formatter.BoxDynFormatterFormatter.TheImpl as formatters
 use Rattle.tm_tables.specs.contracts.escape_rule.BoxDynEscapeRuleEscapeRule.TheImpl as rules
 use Rattle.tm_tables.specs.contracts.path_join.BoxDynPathJoinPathJoin.TheImpl as joins
-use Rattle.mj_run.proofs.render.render_in.Goals as goal
+use Rattle.mj.proofs.render.render_in.Goals as goal
 
 pub returns : goal.returns
 returns g c = λ members given.

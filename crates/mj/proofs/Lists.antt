@@ -6,7 +6,7 @@ use Rattle.std.specs.Prelude.{string_bytes}
 use Rattle.std.specs.declared.string.String.{String}
 use Rattle.std.proofs.lemmas.List.{drop_all, map-append}
 use Rattle.mj_words.specs.CommandLine.{Text}
-use Rattle.mj_run.specs.Program.{named}
+use Rattle.mj.specs.Program.{named}
 
 -- an error that was passed on
 pub passed : {T E : Type 0} (r : Result T E) (P : T → Type 0) (Q : E → Type 0) (e : E) → IsErrAnd r (λ x. x ≡ e) → Q e → MatchResult r P Q

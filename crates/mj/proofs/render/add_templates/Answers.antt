@@ -1,9 +1,9 @@
 use Rattle.std.proofs.Common.{rules, ◌≡◌, ℕ, List, ◌∷◌, map, ap, Bor, Global}
 use Rattle.std.specs.declared.string.String.{String}
-use Rattle.mj_run.specs.Program.{named}
-use Rattle.mj_run.proofs.Added.{put_next, next_refused}
-use Rattle.mj_run.proofs.Lists.{passed_fault}
-use Rattle.mj_run.proofs.render.add_templates.Goals as goal
+use Rattle.mj.specs.Program.{named}
+use Rattle.mj.proofs.Added.{put_next, next_refused}
+use Rattle.mj.proofs.Lists.{passed_fault}
+use Rattle.mj.proofs.render.add_templates.Goals as goal
 
 -- one more source was put
 pub loop-file-preserved : goal.loop-file-preserved

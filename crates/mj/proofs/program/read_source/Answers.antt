@@ -1,5 +1,5 @@
 use Rattle.std.proofs.Common.{inr, IsOk, subst}
-use Rattle.mj_run.proofs.program.read_source.Goals as goal
+use Rattle.mj.proofs.program.read_source.Goals as goal
 
 -- bytes that are no text
 pub returns-in-Err-from_utf8-clause-read : goal.returns-in-Err-from_utf8-clause-read

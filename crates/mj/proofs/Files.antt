@@ -8,9 +8,9 @@ use Rattle.mj_words.specs.CommandLine.{Text, are_files, asked, is_option, is_inp
 use Rattle.mj_words.specs.Told.{IsTold, refusal_message, refusal_status, usage}
 use Rattle.mj_words.specs.declared.arguments.Refusal.{Refusal}
 use Rattle.mj_words.specs.declared.arguments.Refusal.TheVariants.{Usage, OutOfMemory}
-use Rattle.mj_run.specs.Program.{Input, FilesStay, InputStays, IsRead, IsInput, IsMembers, IsNoObject, IsUnread, AreRead, HaveUnread}
-use Rattle.mj_run.specs.Program.{BeginWith, either, files_asked}
-use Rattle.mj_run.proofs.Lists.{any_first, any_later}
+use Rattle.mj.specs.Program.{Input, FilesStay, InputStays, IsRead, IsInput, IsMembers, IsNoObject, IsUnread, AreRead, HaveUnread}
+use Rattle.mj.specs.Program.{BeginWith, either, files_asked}
+use Rattle.mj.proofs.Lists.{any_first, any_later}
 
 module _ {T : Type 0} (of_file : T → Text → Option Text → Type 0) (old new : T) (stay : FilesStay of_file old new) where
   members_before : (json : Option Text) (members : List (Val × Val)) → IsMembers of_file new json members →

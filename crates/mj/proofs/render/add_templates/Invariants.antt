@@ -1,7 +1,7 @@
 use Rattle.std.proofs.Common.{◌≡◌, map}
-use Rattle.mj_run.specs.Program.{named}
-use Rattle.mj_run.proofs.Added.{Adding}
-use Rattle.mj_run.proofs.render.add_templates.Given as goal
+use Rattle.mj.specs.Program.{named}
+use Rattle.mj.proofs.Added.{Adding}
+use Rattle.mj.proofs.render.add_templates.Given as goal
 
 -- the sources that are left are still to be put, and nothing else has changed
 abbrev pub invariant-loop-file : goal.invariant-loop-file

@@ -26,8 +26,8 @@ use Rattle.template_machine.specs.Environment.{new_environment, greatest_limit}
 use Rattle.template_machine.specs.Renders.{CapturedValue, StateValue, answer_by, greatest, meaning, Rendered, as_meant, by_writer}
 use Rattle.template_machine.specs.Renders.{by_memory}
 use Rattle.mj_words.specs.CommandLine.{Text, ArgumentsValue}
-use Rattle.mj_run.specs.Program.{Input, context_of, limit_of, Means, IsMeant, IsRendered, IsBegun, IsFault, no_memory, AreAdded, SpellNone}
-use Rattle.mj_run.specs.Program.{own_objects, write_failed, flush_failed, no_tree, meant}
+use Rattle.mj.specs.Program.{Input, context_of, limit_of, Means, IsMeant, IsRendered, IsBegun, IsFault, no_memory, AreAdded, SpellNone}
+use Rattle.mj.specs.Program.{own_objects, write_failed, flush_failed, no_tree, meant}
 
 -- Objects of which nothing but this is stated: a template means what it means where there are none.
 abbrev template_over : {O : Type 0} → O → Text → Named Compiled → Option ℕ → ℕ → Compiled → TemplateValue O

@@ -6,8 +6,8 @@ ghost use Rattle.template_machine.specs.Environment.{greatest_limit, new_environ
 ghost use Rattle.tm_syntax.specs.Named.{Named};
 ghost use Rattle.tm_templates.specs.Templates.{Compiled};
 ghost use Rattle.tm_values.specs.Answer.{Refused};
-ghost use Rattle.mj_run.specs.Program.{Input, input_of, context_of, limit_of, named, IsMeant, IsRendered, IsFault};
-ghost use Rattle.mj_run.specs.Program.{AreAdded, BeginWith, SpellNone};
+ghost use Rattle.mj.specs.Program.{Input, input_of, context_of, limit_of, named, IsMeant, IsRendered, IsFault};
+ghost use Rattle.mj.specs.Program.{AreAdded, BeginWith, SpellNone};
 
 use mj_words::Arguments;
 use std::alloc::Global;

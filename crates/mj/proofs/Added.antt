@@ -11,8 +11,8 @@ use Rattle.tm_templates.specs.Templates.{Compiled, IsTemplate, IsRefused}
 use Rattle.tm_tables.specs.Stated.{StatedObjects}
 use Rattle.template_machine.specs.Environment.{EnvironmentValue, IsTemplateOf}
 use Rattle.mj_words.specs.CommandLine.{Text}
-use Rattle.mj_run.specs.Program.{AreAdded, BeginWith, SpellNone}
-use Rattle.mj_run.proofs.Lists.{any_first, any_later}
+use Rattle.mj.specs.Program.{AreAdded, BeginWith, SpellNone}
+use Rattle.mj.proofs.Lists.{any_first, any_later}
 
 put_keeps : (x y : Text) (t u : Compiled) (ts : Named Compiled) → find x ts ≡ Some u → (x ≡ y) ⊎ (x ≢ y) →
     (v : Compiled) × (find x (put y t ts) ≡ Some v)

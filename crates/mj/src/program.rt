@@ -4,8 +4,8 @@ ghost use Rattle.std.specs.Prelude.{MatchResult};
 ghost use Rattle.tm_values.specs.declared.error.ErrorKind.{ErrorKind as Kind};
 ghost use Rattle.tm_meaning.specs.Memory.{is_want_of_memory};
 ghost use Rattle.mj_words.specs.CommandLine.{Text, are_files, asked, files_of, is_input};
-ghost use Rattle.mj_run.specs.Program.{Input, IsRead, IsInput, IsUnread, IsMembers, IsNoObject, IsWrongUse, IsRendered, IsFault};
-ghost use Rattle.mj_run.specs.Program.{AreRead, FilesStay, HaveUnread, InputStays, named};
+ghost use Rattle.mj.specs.Program.{Input, IsRead, IsInput, IsUnread, IsMembers, IsNoObject, IsWrongUse, IsRendered, IsFault};
+ghost use Rattle.mj.specs.Program.{AreRead, FilesStay, HaveUnread, InputStays, named};
 ghost use Rattle.mj_words.specs.Told.{IsTold, message, usage};
 
 use crate::render::render;

@@ -1,8 +1,8 @@
 use Rattle.std.specs.Prelude.{map}
-use Rattle.mj_run.specs.Program.{input_of, named}
-use Rattle.mj_run.proofs.Rendered.{is_memory}
-use Rattle.mj_run.proofs.Lists.{passed}
-use Rattle.mj_run.proofs.render.render_unflushed.Goals as goal
+use Rattle.mj.specs.Program.{input_of, named}
+use Rattle.mj.proofs.Rendered.{is_memory}
+use Rattle.mj.proofs.Lists.{passed}
+use Rattle.mj.proofs.render.render_unflushed.Goals as goal
 
 -- no memory for the names and texts
 pub returns-in_err-context : goal.returns-in_err-context
