@@ -5,7 +5,7 @@ ghost use Rattle.tm_syntax.specs.Named.{find, put_each};
 ghost use Rattle.tm_meaning.specs.Memory.{is_want_of_memory};
 ghost use Rattle.tm_meaning.specs.World.{depth};
 ghost use Rattle.tm_meaning.specs.Calls.{block_call, by_depths, deeper, enter_block, from_deeper, further_call, has, refused};
-ghost use Rattle.tm_meaning.specs.Calls.{as_printed, named_call, replied, runs, value_call};
+ghost use Rattle.tm_meaning.specs.Calls.{as_printed, depths_left, named_call, replied, runs, value_call};
 ghost use Rattle.tm_meaning.specs.declared.run_text.RunText.TheVariants as texts;
 ghost use Rattle.tm_state.specs.Answers.{Answers, Becomes, Comes, FurtherComes, FurtherLies, KeepsFixedAndNames, LeavesState, NeedsPlain, PrintedComes};
 ghost use Rattle.tm_state.specs.Answers.{CallDeeper, HasOneMore, is_macro, shown, tested, text_for};
@@ -32,6 +32,13 @@ pub(crate) enum Further {
 }
 
 impl StateData {
+    /// How many depths more lie within the limit.
+    pub(crate) fn depths_left<H: Host>(&self, host: &H) -> usize
+        ensures { result ≡ depths_left (H.meaning host.now) self.now }
+    {
+        host.recursion_limit().saturating_sub(self.context.depth())
+    }
+
     /// What an answer comes to: what it keeps is kept, and then its further call is made, and so on, each one
     /// deeper; of a test its truth. InvalidOperation for one beyond the limit, and what a call answers as its fault.
     pub(crate) fn follow<H: Host>(

@@ -5,7 +5,6 @@ ghost use Rattle.std.specs.Prelude.{nat_lt, slice_get, Ok, OnOk, OnErr, IfErr, I
 ghost use Rattle.tm_values.specs.Answer.{IsAnswer, OkOrOutOfMemory, OrStays, IsLent};
 ghost use Rattle.tm_meaning.specs.Memory.{is_want_of_memory};
 ghost use Rattle.tm_syntax.specs.Named.{find, name_cmp, put, put_each, texts_of};
-ghost use Rattle.tm_meaning.specs.Calls.{deeper, depths_left};
 ghost use Rattle.tm_meaning.specs.World.{depth, with_escape, innermost, loop_depth, top_loop, top_mark, next_turn};
 ghost use Rattle.tm_meaning.specs.World.{cleared, pop, store, set_member, make_namespace, emitted, records_of};
 ghost use Rattle.tm_meaning.specs.World.{HostValue, find_name, top_locals, view_of, name_of, Good, Bad, block_of};
@@ -303,13 +302,6 @@ impl StateData {
         ensures { result ≡ length self.now.scopes.frames }
     {
         self.context.height()
-    }
-
-    /// How many depths more lie within the limit.
-    pub(crate) fn depths_left<H: Host>(&self, host: &H) -> usize
-        ensures { result ≡ depths_left (H.meaning host.now) self.now }
-    {
-        host.recursion_limit().saturating_sub(self.context.depth())
     }
 
     /// Takes the state out, and leaves one of no template and without scopes in its place.

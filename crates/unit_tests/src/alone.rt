@@ -49,13 +49,19 @@ fn is_refused(alloc: Global, source: &str) -> bool {
     }
 }
 
+/// The code of each row's source is the row's.
+fn expect_codes(alloc: Global, rows: &[&str]) -> Result<(), Fail> {
+    for row in rows {
+        let (source, wanted) = halves(row);
+        expect(has_code(alloc, source, wanted)?, row)?;
+    }
+    Ok(())
+}
+
 #[test]
 fn expressions_have_their_code(rt: HostRuntime) -> Result<(), Fail> {
-    for row in CODES {
-        let (source, wanted) = halves(row);
-        expect(has_code(rt.alloc(), source, wanted)?, row)?;
-    }
-    for source in REFUSED {
+    expect_codes(rt.alloc(), &CODES)?;
+    for source in &REFUSED {
         expect(is_refused(rt.alloc(), source), source)?;
     }
     Ok(())
