@@ -20,6 +20,7 @@ use std::rc::RcStr;
 use template_machine::*;
 // example ends here
 
+use crate::library_parts::compiles;
 use std::test::Fail;
 
 // example begins here
@@ -42,15 +43,7 @@ fn tells_errors(alloc: Global) -> Result<bool, Error> {
     let is_told = wrapped.detail() == Some("in the footer") && printed.as_str() == "BadInclude";
     Ok(is_told && cause == "OutOfFuel" && wrapped.kind() == ErrorKind::BadInclude)
 }
-// example ends here
 
-#[test]
-fn errors_are_told(rt: HostRuntime) -> Result<(), Fail> {
-    assert!(rt; tells_errors(rt.alloc())?);
-    Ok(())
-}
-
-// example begins here
 fn tells_values(alloc: Global) -> Result<bool, Error> {
     let plain = Value::text(alloc, "<b>")?;
     let safe = Value::safe_text(alloc, "<b>")?;
@@ -74,15 +67,6 @@ fn tells_values(alloc: Global) -> Result<bool, Error> {
             && !Value::none().is_true(),
     )
 }
-// example ends here
-
-#[test]
-fn values_are_told(rt: HostRuntime) -> Result<(), Fail> {
-    assert!(rt; tells_values(rt.alloc())?);
-    Ok(())
-}
-
-// example begins here
 /// A map of one name.
 fn named(alloc: Global, name: &str, value: Value) -> Result<Value, Error> {
     let mut map = ValueMap::new(alloc);
@@ -107,15 +91,7 @@ fn makes_lists_and_maps(alloc: Global) -> Result<bool, Error> {
             && map.at_key(&key).is_none(),
     )
 }
-// example ends here
 
-#[test]
-fn lists_and_maps_are_told(rt: HostRuntime) -> Result<(), Fail> {
-    assert!(rt; makes_lists_and_maps(rt.alloc())?);
-    Ok(())
-}
-
-// example begins here
 fn makes_maps_of_pairs(alloc: Global) -> Result<bool, Error> {
     let mut pairs = Vec::new(alloc);
     pairs.push((Value::number(1), Value::text(alloc, "old")?))?;
@@ -134,15 +110,7 @@ fn makes_maps_of_pairs(alloc: Global) -> Result<bool, Error> {
     let text = printing::to_text(alloc, &module, &NoRecords)?;
     Ok(is_found && is_one && keywords.is_true() && text.as_str() == "written")
 }
-// example ends here
 
-#[test]
-fn maps_are_made_of_pairs(rt: HostRuntime) -> Result<(), Fail> {
-    assert!(rt; makes_maps_of_pairs(rt.alloc())?);
-    Ok(())
-}
-
-// example begins here
 fn keeps_templates(alloc: Global, environment: &mut Environment<'_>) -> Result<bool, Error> {
     environment.add_template("a.txt", "Hello {{ name }}!")?;
     environment.add_template_owned("b.txt", String::from_str(alloc, "{{ 6 * 7 }}")?)?;
@@ -162,16 +130,7 @@ fn keeps_templates(alloc: Global, environment: &mut Environment<'_>) -> Result<b
     let is_empty = environment.templates().next().is_none();
     Ok(text.as_str() == "42" && is_first && is_gone && is_empty)
 }
-// example ends here
 
-#[test]
-fn templates_are_kept(rt: HostRuntime) -> Result<(), Fail> {
-    let mut environment = Environment::new(rt.alloc())?;
-    assert!(rt; keeps_templates(rt.alloc(), &mut environment)?);
-    Ok(())
-}
-
-// example begins here
 fn renders_sources(environment: &Environment<'_>) -> Result<bool, Error> {
     let mut ids = StateIds::new();
     let sum = environment.render_str(&mut ids, "{{ 1 + 1 }}", Value::undefined())?;
@@ -189,17 +148,7 @@ fn tells_names(environment: &Environment<'_>) -> Result<bool, Error> {
     let are_names = names.len() == 2 && names.contains("b") && names.contains("user");
     Ok(are_names && nested.contains("user.name") && template.source() == source)
 }
-// example ends here
 
-#[test]
-fn sources_are_rendered(rt: HostRuntime) -> Result<(), Fail> {
-    let environment = Environment::new(rt.alloc())?;
-    assert!(rt; renders_sources(&environment)?);
-    assert!(rt; tells_names(&environment)?);
-    Ok(())
-}
-
-// example begins here
 fn follows_settings(environment: &mut Environment<'_>) -> Result<bool, Error> {
     let (mut ids, source) = (StateIds::new(), "{{ answer }}");
     environment.add_global("answer", Value::number(42))?;
@@ -226,17 +175,7 @@ fn follows_settings(environment: &mut Environment<'_>) -> Result<bool, Error> {
 fn has_nothing(environment: &Environment<'_>) -> bool {
     environment.globals().next().is_none() && environment.templates().next().is_none()
 }
-// example ends here
 
-#[test]
-fn settings_count(rt: HostRuntime) -> Result<(), Fail> {
-    let mut environment = Environment::new(rt.alloc())?;
-    assert!(rt; follows_settings(&mut environment)?);
-    assert!(rt; has_nothing(&Environment::empty(rt.alloc())));
-    Ok(())
-}
-
-// example begins here
 fn own_syntax(alloc: Global) -> Result<SyntaxConfig, Error> {
     let builder = SyntaxConfig::builder()
         .block_delimiters(
@@ -266,16 +205,7 @@ fn follows_syntax(alloc: Global, environment: &mut Environment<'_>) -> Result<bo
     let is_refused = is_fault(empty.build(), ErrorKind::InvalidDelimiter);
     Ok(text.as_str() == "42!\n" && is_refused && environment.syntax().keeps_newline())
 }
-// example ends here
 
-#[test]
-fn syntax_is_set(rt: HostRuntime) -> Result<(), Fail> {
-    let mut environment = Environment::new(rt.alloc())?;
-    assert!(rt; follows_syntax(rt.alloc(), &mut environment)?);
-    Ok(())
-}
-
-// example begins here
 fn evaluates(alloc: Global, environment: &Environment<'_>) -> Result<bool, Error> {
     let expression = environment.compile_expression("number > 10 and number < 20")?;
     let names = expression.undeclared_variables(false)?;
@@ -291,17 +221,6 @@ fn evaluates_owned(alloc: Global, environment: &Environment<'_>) -> Result<bool,
         .eval(&mut StateIds::new(), Value::undefined())?;
     Ok(value == Value::number(2))
 }
-// example ends here
-
-#[test]
-fn expressions_are_evaluated(rt: HostRuntime) -> Result<(), Fail> {
-    let environment = Environment::new(rt.alloc())?;
-    assert!(rt; evaluates(rt.alloc(), &environment)?);
-    assert!(rt; evaluates_owned(rt.alloc(), &environment)?);
-    Ok(())
-}
-
-// example begins here
 /// Answers true.
 #[derive(Drop)]
 struct Yes;
@@ -314,9 +233,6 @@ impl Answering for Yes {
     }
 }
 
-// example ends here
-
-// example begins here
 /// Tells the template's name, keeps a value before a fault, or asks for a further call.
 #[derive(Clone, Copy)]
 enum Asking {
@@ -353,9 +269,7 @@ impl Callable for Asking {
         }
     }
 }
-// example ends here
 
-// example begins here
 const CALLS: &str =
     "{% macro m() %}M{% endmacro %}{% block b %}B{% endblock %}{{ title() }} {{ 1|yes }} {{ 1 is yes }} {{ by_filter() }} {{ by_macro() }} {{ by_block() }}";
 
@@ -378,16 +292,6 @@ fn calls_objects(alloc: Global, environment: &mut Environment<'_>) -> Result<boo
     let is_gone = is_fault(unknown, ErrorKind::UnknownFilter);
     Ok(text.as_str() == "B<string> true true true M B" && is_gone)
 }
-// example ends here
-
-#[test]
-fn objects_answer(rt: HostRuntime) -> Result<(), Fail> {
-    let mut environment = Environment::new(rt.alloc())?;
-    assert!(rt; calls_objects(rt.alloc(), &mut environment)?);
-    Ok(())
-}
-
-// example begins here
 /// Rules for methods, for what values are written as, for escapes and for names of templates.
 #[derive(Drop)]
 pub(crate) struct OwnRules;
@@ -420,9 +324,7 @@ impl Formatter for OwnRules {
         escape_formatter(alloc, value, view)
     }
 }
-// example ends here
 
-// example begins here
 impl EscapeRule for OwnRules {
     ghost escapes = { λ _ name. Html };
 
@@ -451,16 +353,6 @@ fn asks_rules(alloc: Global, environment: &mut Environment<'_>) -> Result<bool, 
     let text = environment.render_str(&mut StateIds::new(), source, Value::undefined())?;
     Ok(text.as_str() == "twice&lt;.")
 }
-// example ends here
-
-#[test]
-fn callbacks_answer(rt: HostRuntime) -> Result<(), Fail> {
-    let mut environment = Environment::new(rt.alloc())?;
-    assert!(rt; asks_rules(rt.alloc(), &mut environment)?);
-    Ok(())
-}
-
-// example begins here
 /// Keeps a value in a state, and tells whether none was there.
 fn keeps(state: &mut State<'_>) -> Result<bool, Error> {
     Ok(state.set_temp("seen", Value::boolean(true))?.is_none())
@@ -492,16 +384,7 @@ fn leaves_a_state(environment: &mut Environment<'_>) -> Result<bool, Error> {
     let output = captured.into_output();
     Ok(is_kept && is_told && output.as_str() == "x")
 }
-// example ends here
 
-#[test]
-fn captured_renders_are_told(rt: HostRuntime) -> Result<(), Fail> {
-    let mut environment = Environment::new(rt.alloc())?;
-    assert!(rt; leaves_a_state(&mut environment)?);
-    Ok(())
-}
-
-// example begins here
 const PARTS: &str = "{% macro m(a) %}[{{ a }}]{% endmacro %}{% block b %}B{% endblock %}";
 
 fn runs_parts(alloc: Global, state: &mut State<'_>) -> Result<bool, Error> {
@@ -527,9 +410,7 @@ fn formats(state: &State<'_>) -> Result<bool, Error> {
     let template = state.get_template("parts")?;
     Ok(text.as_str() == "42" && template.source() == PARTS)
 }
-// example ends here
 
-// example begins here
 fn serves_states(alloc: Global, environment: &mut Environment<'_>) -> Result<bool, Error> {
     add_objects(alloc, environment)?;
     environment.add_filter("kept", Box::new(alloc, Asking::Kept)?)?;
@@ -549,17 +430,7 @@ fn makes_states(environment: &Environment<'_>) -> Result<bool, Error> {
     let range = empty.lookup("range")?;
     Ok(block.as_str() == "B" && empty.name() == "<unknown>" && range == Some(Value::function(0)))
 }
-// example ends here
 
-#[test]
-fn states_are_called(rt: HostRuntime) -> Result<(), Fail> {
-    let mut environment = Environment::new(rt.alloc())?;
-    assert!(rt; serves_states(rt.alloc(), &mut environment)?);
-    assert!(rt; makes_states(&environment)?);
-    Ok(())
-}
-
-// example begins here
 fn writes(alloc: Global, template: &Template<'_, '_>) -> Result<bool, Error> {
     let mut ids = StateIds::new();
     let mut writer = Counted::new(Vec::new(alloc));
@@ -581,11 +452,48 @@ fn stops_at_a_limit(alloc: Global, template: &Template<'_, '_>) -> bool {
 }
 // example ends here
 
-#[test]
-fn writers_are_written_to(rt: HostRuntime) -> Result<(), Fail> {
-    let environment = Environment::new(rt.alloc())?;
+/// Whether a template is written to both writers.
+fn writes_hello(alloc: Global, environment: &Environment<'_>) -> Result<bool, Error> {
     let template = environment.template_from_str("Hello")?;
-    assert!(rt; writes(rt.alloc(), &template)?);
-    assert!(rt; stops_at_a_limit(rt.alloc(), &template));
+    Ok(writes(alloc, &template)? && stops_at_a_limit(alloc, &template))
+}
+
+#[test]
+fn values_are_told(rt: HostRuntime) -> Result<(), Fail> {
+    let alloc = rt.alloc();
+    assert!(rt; tells_errors(alloc)?);
+    assert!(rt; tells_values(alloc)?);
+    assert!(rt; makes_lists_and_maps(alloc)?);
+    assert!(rt; makes_maps_of_pairs(alloc)?);
+    Ok(())
+}
+
+#[test]
+fn environments_serve(rt: HostRuntime) -> Result<(), Fail> {
+    let alloc = rt.alloc();
+    let mut environment = Environment::new(alloc)?;
+    assert!(rt; renders_sources(&environment)?);
+    assert!(rt; tells_names(&environment)?);
+    assert!(rt; evaluates(alloc, &environment)?);
+    assert!(rt; evaluates_owned(alloc, &environment)?);
+    assert!(rt; makes_states(&environment)?);
+    assert!(rt; writes_hello(alloc, &environment)?);
+    assert!(rt; compiles(alloc, &environment)?);
+    assert!(rt; follows_settings(&mut environment)?);
+    assert!(rt; has_nothing(&Environment::empty(alloc)));
+    Ok(())
+}
+
+// Fuel that an example sets counts for those after it.
+#[test]
+fn environments_change(rt: HostRuntime) -> Result<(), Fail> {
+    let alloc = rt.alloc();
+    let mut environment = Environment::new(alloc)?;
+    assert!(rt; keeps_templates(alloc, &mut environment)?);
+    assert!(rt; leaves_a_state(&mut environment)?);
+    assert!(rt; serves_states(alloc, &mut environment)?);
+    assert!(rt; calls_objects(alloc, &mut environment)?);
+    assert!(rt; asks_rules(alloc, &mut environment)?);
+    assert!(rt; follows_syntax(alloc, &mut environment)?);
     Ok(())
 }

@@ -35,18 +35,9 @@ fn keeps_an_error(alloc: Global) -> bool {
         && taken.kind() == ErrorKind::WriteFailure
         && wrapper.err.is_none()
 }
-// example ends here
 
-#[test]
-fn outputs_are_written_to(rt: HostRuntime) -> Result<(), Fail> {
-    assert!(rt; captures_text(rt.alloc())?);
-    assert!(rt; keeps_an_error(rt.alloc()));
-    Ok(())
-}
-
-// example begins here
 fn makes_trees(alloc: Global) -> Result<bool, Error> {
-    let is_expression = match parse_expr(alloc, "1 + 2")? {
+    let is_expression = match &parse_expr(alloc, "1 + 2")? {
         Tree::Expression(_) => true,
         Tree::Statements(_) => false,
     };
@@ -63,10 +54,8 @@ fn charges_code(alloc: Global) -> Result<bool, Error> {
     }
     Ok(fuel.initial() == 10 && fuel.consumed() == 2 && fuel.remaining() == 8)
 }
-// example ends here
 
-// example begins here
-fn compiles(alloc: Global, environment: &Environment<'_>) -> Result<bool, Error> {
+pub(crate) fn compiles(alloc: Global, environment: &Environment<'_>) -> Result<bool, Error> {
     let mut config = TemplateConfig::default();
     config.default_auto_escape = EscapeSetting::Own(OwnRules);
     let compiled = CompiledTemplate::new(alloc, "a.txt", Source::Lent("{{ '<' }}"), &config)?;
@@ -87,10 +76,11 @@ fn compiles(alloc: Global, environment: &Environment<'_>) -> Result<bool, Error>
 // example ends here
 
 #[test]
-fn sources_are_compiled(rt: HostRuntime) -> Result<(), Fail> {
-    assert!(rt; makes_trees(rt.alloc())?);
-    assert!(rt; charges_code(rt.alloc())?);
-    let environment = Environment::new(rt.alloc())?;
-    assert!(rt; compiles(rt.alloc(), &environment)?);
+fn parts_serve(rt: HostRuntime) -> Result<(), Fail> {
+    let alloc = rt.alloc();
+    assert!(rt; captures_text(alloc)?);
+    assert!(rt; keeps_an_error(alloc));
+    assert!(rt; makes_trees(alloc)?);
+    assert!(rt; charges_code(alloc)?);
     Ok(())
 }

@@ -11,21 +11,12 @@ use tm_syntax::{BlockCode, Code, NameMap, Tree};
 use tm_values::Error;
 
 /// The streams of a template, or of an expression.
+#[derive(Drop)]
 pub struct Streams {
     /// What a render runs, or what the expression is evaluated by.
     pub root: Code,
     /// What its blocks run, by name; an expression has none.
     pub blocks: NameMap<BlockCode>,
-}
-
-// By hand: one call for each owner, in place of a drop of each part.
-impl Drop for Streams {
-    fn drop(self) {
-        let Streams {
-            root: _root,
-            blocks: _blocks,
-        } = self;
-    }
 }
 
 /// The streams of a tree, which share its texts and literals; OutOfMemory.

@@ -35,21 +35,12 @@ use tm_values::{AutoEscape, Error};
 const EXPRESSION: &str = "<expression>";
 
 /// How templates are compiled.
+#[derive(Drop)]
 pub struct TemplateConfig<R: Drop> {
     /// The delimiters.
     pub syntax_config: SyntaxConfig,
     /// How the escape of a template is chosen.
     pub default_auto_escape: EscapeSetting<R>,
-}
-
-// By hand: one call for each owner, in place of a drop of each part.
-impl<R: Drop> Drop for TemplateConfig<R> {
-    fn drop(self) {
-        let TemplateConfig {
-            syntax_config: _syntax_config,
-            default_auto_escape: _default_auto_escape,
-        } = self;
-    }
 }
 
 impl<R: Drop> Default for TemplateConfig<R> {

@@ -7,6 +7,7 @@ use tm_tables::EscapeRule;
 use tm_values::AutoEscape;
 
 /// How the escape of a template is chosen, where the template itself doesn't say it.
+#[derive(Drop)]
 pub enum EscapeSetting<R: Drop> {
     /// By its name, as `default_auto_escape_callback` does.
     ByName,
@@ -14,15 +15,6 @@ pub enum EscapeSetting<R: Drop> {
     Never,
     /// By a rule of the caller's.
     Own(R),
-}
-
-// By hand: one call for each owner, in place of a drop of each part.
-impl<R: Drop> Drop for EscapeSetting<R> {
-    fn drop(self) {
-        match self {
-            EscapeSetting::ByName | EscapeSetting::Never | EscapeSetting::Own(_) => {}
-        }
-    }
 }
 
 impl<R: EscapeRule> EscapeRule for EscapeSetting<R> {
