@@ -2,7 +2,6 @@
 
 use crate::party::{Page, Party, Rows};
 use std::alloc::Global;
-use std::test::Fail;
 use template_machine::*;
 
 /// Writes the name of the template that runs.
@@ -71,18 +70,11 @@ fn drops_templates(environment: &mut Rows<'_>) -> bool {
     is_walked && is_whole && is_gone && has_templates(environment, "")
 }
 
-fn are_served(alloc: Global, environment: &mut Rows<'_>) -> Result<bool, Error> {
+pub(crate) fn are_served(alloc: Global, environment: &mut Rows<'_>) -> Result<bool, Error> {
     environment.add_function("title", Party::Title)?;
     environment.add_template("t", "t")?;
     environment.add_template("a", "a")?;
     environment.add_template_owned("b", String::from_str(alloc, TITLE)?)?;
     let are_rendered = renders_at_once(environment) && renders_each(environment)?;
     Ok(are_rendered && drops_templates(environment))
-}
-
-#[test]
-fn calls_are_served(rt: HostRuntime) -> Result<(), Fail> {
-    let mut environment = Rows::new(rt.alloc())?;
-    assert!(rt; are_served(rt.alloc(), &mut environment)?);
-    Ok(())
 }

@@ -368,7 +368,7 @@ fn expect_chain(alloc: Global, environment: &mut Rows<'_>) -> Result<(), Fail> {
 }
 
 /// Renders the tables.
-fn expect_includes(alloc: Global, environment: &mut Rows<'_>) -> Result<(), Fail> {
+pub(crate) fn expect_includes(alloc: Global, environment: &mut Rows<'_>) -> Result<(), Fail> {
     add_objects(environment)?;
     environment.set_fuel(Some(10000));
     expect_table(alloc, environment, INCLUDES)?;
@@ -376,10 +376,4 @@ fn expect_includes(alloc: Global, environment: &mut Rows<'_>) -> Result<(), Fail
     expect_table(alloc, environment, STATES)?;
     expect_chain(alloc, environment)?;
     expect_table(alloc, environment, JOINED)
-}
-
-#[test]
-fn others_are_included(rt: HostRuntime) -> Result<(), Fail> {
-    let mut environment = Rows::new(rt.alloc())?;
-    expect_includes(rt.alloc(), &mut environment)
 }

@@ -36,4 +36,6 @@ mod settings;
 #[cfg(test)]
 mod states;
 #[cfg(test)]
+mod tables;
+#[cfg(test)]
 mod values;

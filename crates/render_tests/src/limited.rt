@@ -1,5 +1,7 @@
 //! Renders into a sink with an end.
 
+use crate::blocks::expect;
+use crate::party::{Parts, Rows};
 use std::alloc::Global;
 use std::test::Fail;
 use template_machine::*;
@@ -86,7 +88,7 @@ static CASES: &[Case] = &[
 ];
 
 /// The kind that a render ends with; none where it is done.
-fn end_of(template: &Template<'_, '_>, writer: &mut Bytes) -> Option<ErrorKind> {
+fn end_of(template: &TemplateOf<'_, '_, Parts>, writer: &mut Bytes) -> Option<ErrorKind> {
     match template.render_captured_to(&mut StateIds::new(), Value::undefined(), writer) {
         Ok(_captured) => None,
         Err(error) => Some(error.kind()),
@@ -105,7 +107,7 @@ fn took(writer: &Bytes, case: &Case) -> bool {
 }
 
 /// Whether a render comes to what its case says.
-fn ends(alloc: Global, environment: &Environment<'_>, case: &Case) -> Result<bool, Error> {
+fn ends(alloc: Global, environment: &Rows<'_>, case: &Case) -> Result<bool, Error> {
     let template = environment.template_from_str(case.source)?;
     let mut writer = Limited::new(Counted::new(Vec::new(alloc)), case.limit);
     let end = end_of(&template, &mut writer);
@@ -116,13 +118,10 @@ fn ends(alloc: Global, environment: &Environment<'_>, case: &Case) -> Result<boo
     Ok(is_end && took(&writer, case))
 }
 
-#[test]
-fn a_sink_with_an_end(rt: HostRuntime) -> Result<(), Fail> {
-    let environment = Environment::new(rt.alloc())?;
+/// Each case ends as it says.
+pub(crate) fn expect_ends(alloc: Global, environment: &Rows<'_>) -> Result<(), Fail> {
     for case in CASES {
-        if !ends(rt.alloc(), &environment, case)? {
-            return Err(Fail::new(case.source));
-        }
+        expect(ends(alloc, environment, case)?, case.source)?;
     }
     Ok(())
 }

@@ -228,7 +228,7 @@ static TABLES: [&str; 26] = [
 ];
 
 /// Renders all tables. A setting holds until the next one, also in the tables after its own.
-fn expect_tables(alloc: Global, environment: &mut Rows<'_>) -> Result<(), Fail> {
+pub(crate) fn expect_tables(alloc: Global, environment: &mut Rows<'_>) -> Result<(), Fail> {
     add_objects(environment)?;
     blocks::add_layouts(environment)?;
     expect_table(alloc, environment, blocks::STATES)?;
@@ -241,31 +241,13 @@ fn expect_tables(alloc: Global, environment: &mut Rows<'_>) -> Result<(), Fail> 
 
 // The test lends its environment, which is dropped in one place: each way out that drops one is
 // dear to prove.
-#[test]
-fn rows_render(rt: HostRuntime) -> Result<(), Fail> {
-    let mut environment = Rows::new(rt.alloc())?;
-    expect_tables(rt.alloc(), &mut environment)
-}
-
-#[test]
-fn long_sources_render(rt: HostRuntime) -> Result<(), Fail> {
-    let environment = Rows::new(rt.alloc())?;
-    bounds::expect_long(rt.alloc(), &environment)
-}
-
 /// Asks an environment without functions, and gives it what joins names, a method object and formatters.
-fn expect_empty(alloc: Global, environment: &mut Rows<'_>) -> Result<(), Fail> {
+pub(crate) fn expect_empty(alloc: Global, environment: &mut Rows<'_>) -> Result<(), Fail> {
     expect_table(alloc, environment, EMPTY)?;
     expect_table(alloc, environment, blocks::JOINED)?;
     expect_table(alloc, environment, RULES)?;
     expect_table(alloc, environment, METHODS)?;
     expect_table(alloc, environment, FORMATTERS)
-}
-
-#[test]
-fn empty_has_no_functions(rt: HostRuntime) -> Result<(), Fail> {
-    let mut environment = Rows::empty(rt.alloc());
-    expect_empty(rt.alloc(), &mut environment)
 }
 
 const EMPTY: &str = "An environment without functions, as it is at first.

@@ -29,14 +29,8 @@ const SERVED: &str = r#"What states serve.
 - @undefined strict
 - ?x => <string> =>  => keep 3 -> nothing; keep 2 -> 3; kept -> 2; filter second 1 0 -> 0; test second 1 0 -> false; filter no 1 0 ! UnknownFilter; block no ! UnknownBlock; filter upper hello -> HELLO; format 42 -> 42; format undefined ! UndefinedError; kept -> 2; filter kept ! MissingArgument; kept -> 1"#;
 
-fn expect_states(alloc: Global, environment: &mut Rows<'_>) -> Result<(), Fail> {
+pub(crate) fn expect_states(alloc: Global, environment: &mut Rows<'_>) -> Result<(), Fail> {
     add_filters(environment)?;
     expect_table(alloc, environment, SERVED)?;
     expect(are_bounded(alloc, environment)?, "macros of other renders")
-}
-
-#[test]
-fn states_serve(rt: HostRuntime) -> Result<(), Fail> {
-    let mut environment = Rows::new(rt.alloc())?;
-    expect_states(rt.alloc(), &mut environment)
 }

@@ -1,0 +1,38 @@
+//! All tables, in environments that are new where a table needs one.
+
+use crate::blocks::expect;
+use crate::bounds::expect_long;
+use crate::caches::all_answer;
+use crate::calls::are_served;
+use crate::expressions::expect_expressions;
+use crate::includes::expect_includes;
+use crate::limited::expect_ends;
+use crate::party::Rows;
+use crate::settings::{expect_empty, expect_tables};
+use crate::states::expect_states;
+use std::test::Fail;
+
+#[test]
+fn rows_hold(rt: HostRuntime) -> Result<(), Fail> {
+    let alloc = rt.alloc();
+    let mut environment = Rows::new(alloc)?;
+    expect_expressions(alloc, &environment)?;
+    expect_ends(alloc, &environment)?;
+    expect_states(alloc, &mut environment)?;
+    environment = Rows::new(alloc)?;
+    expect(are_served(alloc, &mut environment)?, "calls")?;
+    environment = Rows::new(alloc)?;
+    expect(all_answer(alloc, &mut environment)?, "many filters")?;
+    environment = Rows::new(alloc)?;
+    expect_includes(alloc, &mut environment)?;
+    environment = Rows::new(alloc)?;
+    expect_tables(alloc, &mut environment)?;
+    environment = Rows::empty(alloc);
+    expect_empty(alloc, &mut environment)
+}
+
+#[test]
+fn long_sources_render(rt: HostRuntime) -> Result<(), Fail> {
+    let environment = Rows::new(rt.alloc())?;
+    expect_long(rt.alloc(), &environment)
+}
