@@ -16,7 +16,7 @@ static LAYOUTS: [&str; 5] = [
 
 /// Adds them.
 pub(crate) fn add_layouts(environment: &mut Rows<'_>) -> Result<(), Error> {
-    for layout in LAYOUTS {
+    for layout in &LAYOUTS {
         let (name, source) = layout.split_once(' ').unwrap_or((layout, ""));
         environment.add_template(name, source)?;
     }

@@ -70,12 +70,11 @@ fn is_row(alloc: Global, environment: &Rows<'_>, row: &Row<'static>) -> bool {
 }
 
 pub(crate) fn expect_expressions(alloc: Global, environment: &Rows<'_>) -> Result<(), Fail> {
-    for line in ROWS {
+    for line in &ROWS {
         expect(is_row(alloc, environment, &row_of(line)), line)?;
     }
-    for source in ["x", "a if b"] {
-        expect(is_undefined(alloc, environment, source), source)?;
-    }
+    expect(is_undefined(alloc, environment, "x"), "x")?;
+    expect(is_undefined(alloc, environment, "a if b"), "a if b")?;
     expect(reads(environment, "a + 1", false, "a"), "a name")?;
     expect(reads(environment, "a.b.c", true, "a.b.c"), "a chain")
 }

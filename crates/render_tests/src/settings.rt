@@ -233,7 +233,7 @@ pub(crate) fn expect_tables(alloc: Global, environment: &mut Rows<'_>) -> Result
     blocks::add_layouts(environment)?;
     expect_table(alloc, environment, blocks::STATES)?;
     blocks::expect_chains(alloc, environment)?;
-    for table in TABLES {
+    for table in &TABLES {
         expect_table(alloc, environment, table)?;
     }
     Ok(())
