@@ -1,4 +1,4 @@
 pub mod Added
-pub mod Files
+pub mod Sources
 pub mod Lists
 pub mod Rendered

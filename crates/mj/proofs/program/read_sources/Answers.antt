@@ -1,7 +1,7 @@
 use Rattle.std.proofs.Common.{rules, ◌≡◌, ◌+◌, List, [], ◌∷◌, ◌++◌, drop, map, string_bytes, sym, subst, ◌∙◌, inr, ap, Some, false}
 use Rattle.mj_words.specs.CommandLine.{Text, files_of, is_input}
 use Rattle.mj.specs.Program.{IsRead, IsUnread, InputStays, named}
-use Rattle.mj.proofs.Files.{Reading, begin_reading, read_next, read_all, read_none}
+use Rattle.mj.proofs.Sources.{Reading, begin_reading, read_next, read_all, read_none}
 use Rattle.mj.proofs.Lists.{next_word, no_word, passed, pushed}
 use Rattle.mj.proofs.program.read_sources.Goals as goal
 

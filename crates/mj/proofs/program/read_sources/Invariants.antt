@@ -2,7 +2,7 @@ use Rattle.std.proofs.Common.{drop, map}
 use Rattle.std.specs.Prelude.{string_bytes}
 use Rattle.mj_words.specs.CommandLine.{files_of}
 use Rattle.mj.specs.Program.{named}
-use Rattle.mj.proofs.Files.{Reading}
+use Rattle.mj.proofs.Sources.{Reading}
 use Rattle.mj.proofs.program.read_sources.Given as goal
 
 -- the files that are left are still to be read

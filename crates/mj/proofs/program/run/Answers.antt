@@ -1,7 +1,7 @@
 use Rattle.std.proofs.Common.{inl, inr, map, string_bytes, refl, subst}
 use Rattle.mj_words.specs.CommandLine.{asked_of}
 use Rattle.mj.specs.Program.{IsFault, input_of, named}
-use Rattle.mj.proofs.Files.{begins_with, no_object_before, is_input, refused_use}
+use Rattle.mj.proofs.Sources.{begins_with, no_object_before, is_input, refused_use}
 use Rattle.mj_words.proofs.Told.{refused_memory}
 use Rattle.mj.proofs.program.run.Goals as goal
 
