@@ -1,6 +1,5 @@
 //! What rows ask of states, and what states answer.
 
-use crate::party::{Left, Rows};
 use crate::renders::{Row, Setup, is_chain, is_left, lists, template_of};
 use std::alloc::Global;
 use std::test::Fail;
@@ -45,14 +44,18 @@ fn decided(alloc: Global, answer: Result<bool, Error>) -> Result<String, Error> 
 }
 
 /// Keeps a value at `k`, and answers what was kept there.
-fn replaced(alloc: Global, state: &mut Left<'_>, value: Value) -> Result<String, Error> {
+fn replaced<P: Parties>(
+    alloc: Global,
+    state: &mut StateOf<'_, P>,
+    value: Value,
+) -> Result<String, Error> {
     text_of(alloc, state.set_temp("k", value)?.as_ref())
 }
 
 /// What a block, a macro, a filter or a test answers to values.
-fn called(
+fn called<P: Parties>(
     alloc: Global,
-    state: &mut Left<'_>,
+    state: &mut StateOf<'_, P>,
     word: &str,
     name: &str,
     args: &[Value],
@@ -67,7 +70,11 @@ fn called(
 }
 
 /// What a state answers to such words.
-fn answer(alloc: Global, state: &mut Left<'_>, words: &str) -> Result<String, Error> {
+fn answer<P: Parties>(
+    alloc: Global,
+    state: &mut StateOf<'_, P>,
+    words: &str,
+) -> Result<String, Error> {
     let (word, rest) = words.split_once(' ').unwrap_or((words, ""));
     match word {
         "keep" => replaced(alloc, state, value_of(alloc, rest)?),
@@ -83,7 +90,7 @@ fn answer(alloc: Global, state: &mut Left<'_>, words: &str) -> Result<String, Er
 
 /// Whether a block, written into a sink that takes so many bytes, leaves this text there, and ends with no fault or with
 /// one of the kind after it.
-fn is_written(alloc: Global, state: &mut Left<'_>, words: &str) -> bool {
+fn is_written<P: Parties>(alloc: Global, state: &mut StateOf<'_, P>, words: &str) -> bool {
     let mut words = words.split(' ');
     let block = words.next().unwrap_or("");
     let room = words.next().unwrap_or("").parse().unwrap_or(0);
@@ -98,7 +105,7 @@ fn is_written(alloc: Global, state: &mut Left<'_>, words: &str) -> bool {
 
 /// Whether the answer to what stands before ` -> ` is the text after it; to what stands before ` ! `, a fault of the kinds
 /// after it; and else whether the state is so.
-fn is_answered(alloc: Global, state: &mut Left<'_>, call: &str) -> bool {
+fn is_answered<P: Parties>(alloc: Global, state: &mut StateOf<'_, P>, call: &str) -> bool {
     if let Some((words, text)) = call.split_once(" -> ") {
         return match answer(alloc, state, words) {
             Ok(found) => found.as_str() == text,
@@ -118,7 +125,7 @@ fn is_answered(alloc: Global, state: &mut Left<'_>, call: &str) -> bool {
 }
 
 /// Whether a state stands in the template that its row names, in no block, with the names that the row exports.
-fn stands(state: &Left<'_>, row: &Row<'_>) -> bool {
+fn stands<P: Parties>(state: &StateOf<'_, P>, row: &Row<'_>) -> bool {
     state.name() == row.text
         && state.current_block().is_none()
         && state.auto_escape() == AutoEscape::None
@@ -126,7 +133,12 @@ fn stands(state: &Left<'_>, row: &Row<'_>) -> bool {
 }
 
 /// Whether a state answers as its row says, so often, and stands after each answer as before.
-fn are_answered(alloc: Global, state: &mut Left<'_>, row: &Row<'_>, times: usize) -> bool {
+fn are_answered<P: Parties>(
+    alloc: Global,
+    state: &mut StateOf<'_, P>,
+    row: &Row<'_>,
+    times: usize,
+) -> bool {
     if !stands(state, row) {
         return false;
     }
@@ -141,9 +153,9 @@ fn are_answered(alloc: Global, state: &mut Left<'_>, row: &Row<'_>, times: usize
 }
 
 /// Asks the state of a render.
-fn is_rendered<'source>(
+fn is_rendered<'source, P: Parties>(
     alloc: Global,
-    environment: &Rows<'source>,
+    environment: &EnvironmentOf<'source, P>,
     setup: &Setup<'_>,
     row: &Row<'source>,
 ) -> Result<bool, Error> {
@@ -155,9 +167,9 @@ fn is_rendered<'source>(
 }
 
 /// Asks the state of a template of which nothing ran.
-fn is_unrun<'source>(
+fn is_unrun<'source, P: Parties>(
     alloc: Global,
-    environment: &Rows<'source>,
+    environment: &EnvironmentOf<'source, P>,
     setup: &Setup<'_>,
     source: &'source str,
     row: &Row<'_>,
@@ -168,9 +180,9 @@ fn is_unrun<'source>(
 }
 
 /// Asks the state of no template.
-fn is_empty(
+fn is_empty<P: Parties>(
     alloc: Global,
-    environment: &Rows<'_>,
+    environment: &EnvironmentOf<'_, P>,
     setup: &Setup<'_>,
     row: &Row<'_>,
 ) -> Result<bool, Error> {
@@ -181,9 +193,9 @@ fn is_empty(
 /// Asks the state of a row: of the render of its source; of a template whose source stands after `+`, of which nothing
 /// ran; or of no template, `-`. After the source come the name of the template that the state stands in, the names
 /// that it exports, and what it is asked, with `; ` between.
-pub(crate) fn expect_state<'source>(
+pub(crate) fn expect_state<'source, P: Parties>(
     alloc: Global,
-    environment: &Rows<'source>,
+    environment: &EnvironmentOf<'source, P>,
     setup: &Setup<'_>,
     row: &Row<'source>,
 ) -> Result<(), Fail> {

@@ -1,5 +1,4 @@
 //! Rows of blocks and of templates that extend others, and blocks that a state is asked for.
-use crate::party::Rows;
 use crate::renders::fault_of;
 use std::alloc::Global;
 use std::test::Fail;
@@ -15,7 +14,7 @@ static LAYOUTS: [&str; 5] = [
 ];
 
 /// Adds them.
-pub(crate) fn add_layouts(environment: &mut Rows<'_>) -> Result<(), Error> {
+pub(crate) fn add_layouts<P: Parties>(environment: &mut EnvironmentOf<'_, P>) -> Result<(), Error> {
     for layout in &LAYOUTS {
         let (name, source) = layout.split_once(' ').unwrap_or((layout, ""));
         environment.add_template(name, source)?;
@@ -186,9 +185,9 @@ pub(crate) const STATES: &str = r#"Blocks that states run.
 const LAST: &str = "t399";
 
 /// Adds 400 templates: t0 is the first source, and each one after extends the one before it, and goes on with the rest.
-fn add_chain(
+fn add_chain<P: Parties>(
     alloc: Global,
-    environment: &mut Rows<'_>,
+    environment: &mut EnvironmentOf<'_, P>,
     first: &str,
     rest: &str,
 ) -> Result<(), Error> {
@@ -203,13 +202,16 @@ fn add_chain(
 }
 
 /// The text of the template of a name.
-pub(crate) fn rendered(environment: &Rows<'_>, name: &str) -> Result<String, Error> {
+pub(crate) fn rendered<P: Parties>(
+    environment: &EnvironmentOf<'_, P>,
+    name: &str,
+) -> Result<String, Error> {
     let template = environment.get_template(name)?;
     template.render(&mut StateIds::new(), Value::undefined())
 }
 
 /// Whether that of the last template is that of the first one.
-fn is_rendered(environment: &Rows<'_>) -> bool {
+fn is_rendered<P: Parties>(environment: &EnvironmentOf<'_, P>) -> bool {
     match rendered(environment, LAST) {
         Ok(text) => text.as_str() == "x",
         Err(_) => false,
@@ -217,7 +219,7 @@ fn is_rendered(environment: &Rows<'_>) -> bool {
 }
 
 /// Whether it lies too deep, after so many blocks.
-fn is_too_deep(environment: &Rows<'_>, blocks: usize) -> bool {
+fn is_too_deep<P: Parties>(environment: &EnvironmentOf<'_, P>, blocks: usize) -> bool {
     match rendered(environment, LAST) {
         Ok(_) => false,
         Err(error) => {
@@ -239,7 +241,10 @@ pub(crate) fn expect(holds: bool, name: &str) -> Result<(), Fail> {
 
 /// Renders long chains of templates, also with a block that runs the next one. Under a limit that is a
 /// fault after as many blocks as there are scopes but those of the root and of the first block.
-pub(crate) fn expect_chains(alloc: Global, environment: &mut Rows<'_>) -> Result<(), Fail> {
+pub(crate) fn expect_chains<P: Parties>(
+    alloc: Global,
+    environment: &mut EnvironmentOf<'_, P>,
+) -> Result<(), Fail> {
     add_chain(alloc, environment, "x", "")?;
     expect(is_rendered(environment), "a chain of parents")?;
     let first = "{% block a %}x{% endblock %}";

@@ -1,9 +1,9 @@
 //! Rows under bounds of fuel, scopes and writers, and long sources.
 
-use crate::party::Rows;
 use crate::renders::{Row, expect_row, usual};
 use std::alloc::{AllocError, Global};
 use std::test::Fail;
+use template_machine::{EnvironmentOf, Parties};
 
 /// Bounds of fuel, scopes and writers. No fuel is set after them.
 pub(crate) const BOUNDS: &str = r#"Bounds of fuel, scopes and writers.
@@ -120,7 +120,10 @@ fn source_of(alloc: Global, long: &Long) -> Result<String, AllocError> {
 }
 
 /// Renders long rows without a bound on the fuel, whose charges are not counted then.
-pub(crate) fn expect_long(alloc: Global, environment: &Rows<'_>) -> Result<(), Fail> {
+pub(crate) fn expect_long<P: Parties>(
+    alloc: Global,
+    environment: &EnvironmentOf<'_, P>,
+) -> Result<(), Fail> {
     for long in LONG {
         let source = source_of(alloc, long)?;
         let mut text = String::new(alloc);

@@ -1,6 +1,6 @@
 //! The calls of environments and templates.
 
-use crate::party::{Page, Party, Rows};
+use crate::party::{Party, Rows};
 use std::alloc::Global;
 use template_machine::*;
 
@@ -14,13 +14,21 @@ fn is_text(found: Result<String, Error>, wanted: &str) -> bool {
     }
 }
 
-fn captured_text(template: &Page<'_, '_>, ids: &mut StateIds) -> Result<String, Error> {
+fn captured_text<P: Parties>(
+    template: &TemplateOf<'_, '_, P>,
+    ids: &mut StateIds,
+) -> Result<String, Error> {
     let captured = template.render_captured(ids, Value::undefined())?;
     Ok(captured.into_output())
 }
 
 /// Whether a template has its source and its name, and renders it.
-fn is_rendered(template: &Page<'_, '_>, ids: &mut StateIds, source: &str, name: &str) -> bool {
+fn is_rendered<P: Parties>(
+    template: &TemplateOf<'_, '_, P>,
+    ids: &mut StateIds,
+    source: &str,
+    name: &str,
+) -> bool {
     template.source() == source
         && template.name() == name
         && is_text(template.render(ids, Value::undefined()), name)
@@ -28,7 +36,7 @@ fn is_rendered(template: &Page<'_, '_>, ids: &mut StateIds, source: &str, name: 
 }
 
 /// Whether a source that writes its name is rendered however its template is made.
-fn renders_each(environment: &Rows<'_>) -> Result<bool, Error> {
+fn renders_each<P: Parties>(environment: &EnvironmentOf<'_, P>) -> Result<bool, Error> {
     let mut ids = StateIds::new();
     let kept = environment.get_template("b")?;
     let unnamed = environment.template_from_str(TITLE)?;
@@ -41,7 +49,7 @@ fn renders_each(environment: &Rows<'_>) -> Result<bool, Error> {
 }
 
 /// Whether such a source is rendered at once, under a name and without one.
-fn renders_at_once(environment: &Rows<'_>) -> bool {
+fn renders_at_once<P: Parties>(environment: &EnvironmentOf<'_, P>) -> bool {
     let mut ids = StateIds::new();
     let unnamed = environment.render_str(&mut ids, TITLE, Value::undefined());
     let named = environment.render_named_str(&mut ids, "n", TITLE, Value::undefined());
@@ -49,7 +57,7 @@ fn renders_at_once(environment: &Rows<'_>) -> bool {
 }
 
 /// Whether the templates of an environment have these names, in this order.
-fn has_templates(environment: &Rows<'_>, wanted: &str) -> bool {
+fn has_templates<P: Parties>(environment: &EnvironmentOf<'_, P>, wanted: &str) -> bool {
     let mut rest = wanted.split_whitespace();
     for (name, template) in environment.templates() {
         if rest.next() != Some(name) || template.name() != name {
@@ -60,7 +68,7 @@ fn has_templates(environment: &Rows<'_>, wanted: &str) -> bool {
 }
 
 /// Whether templates are walked in order, and dropped.
-fn drops_templates(environment: &mut Rows<'_>) -> bool {
+fn drops_templates<P: Parties>(environment: &mut EnvironmentOf<'_, P>) -> bool {
     let is_walked = has_templates(environment, "a b t");
     environment.remove_template("no");
     let is_whole = has_templates(environment, "a b t");
@@ -70,11 +78,19 @@ fn drops_templates(environment: &mut Rows<'_>) -> bool {
     is_walked && is_whole && is_gone && has_templates(environment, "")
 }
 
-pub(crate) fn are_served(alloc: Global, environment: &mut Rows<'_>) -> Result<bool, Error> {
-    environment.add_function("title", Party::Title)?;
+/// Whether they are, where `title` answers the name of the template that runs.
+fn are_rendered<P: Parties>(
+    alloc: Global,
+    environment: &mut EnvironmentOf<'_, P>,
+) -> Result<bool, Error> {
     environment.add_template("t", "t")?;
     environment.add_template("a", "a")?;
     environment.add_template_owned("b", String::from_str(alloc, TITLE)?)?;
     let are_rendered = renders_at_once(environment) && renders_each(environment)?;
     Ok(are_rendered && drops_templates(environment))
+}
+
+pub(crate) fn are_served(alloc: Global, environment: &mut Rows<'_>) -> Result<bool, Error> {
+    environment.add_function("title", Party::Title)?;
+    are_rendered(alloc, environment)
 }

@@ -1,7 +1,6 @@
 //! Expressions and their values.
 
 use crate::blocks::expect;
-use crate::party::Rows;
 use crate::renders::{Row, is_chain, row_of};
 use std::alloc::Global;
 use std::test::Fail;
@@ -31,12 +30,20 @@ fn context(alloc: Global) -> Result<Value, Error> {
     Value::from_map(alloc, map)
 }
 
-fn value_of(alloc: Global, environment: &Rows<'_>, source: &'static str) -> Result<Value, Error> {
+fn value_of<P: Parties>(
+    alloc: Global,
+    environment: &EnvironmentOf<'_, P>,
+    source: &'static str,
+) -> Result<Value, Error> {
     let expression = environment.compile_expression(source)?;
     expression.eval(&mut StateIds::new(), context(alloc)?)
 }
 
-fn is_undefined(alloc: Global, environment: &Rows<'_>, source: &'static str) -> bool {
+fn is_undefined<P: Parties>(
+    alloc: Global,
+    environment: &EnvironmentOf<'_, P>,
+    source: &'static str,
+) -> bool {
     match value_of(alloc, environment, source) {
         Ok(value) => value == Value::undefined(),
         Err(_) => false,
@@ -44,7 +51,12 @@ fn is_undefined(alloc: Global, environment: &Rows<'_>, source: &'static str) -> 
 }
 
 /// Whether these are all names that an expression reads.
-fn reads(environment: &Rows<'_>, source: &'static str, nested: bool, wanted: &str) -> bool {
+fn reads<P: Parties>(
+    environment: &EnvironmentOf<'_, P>,
+    source: &'static str,
+    nested: bool,
+    wanted: &str,
+) -> bool {
     let Ok(expression) = environment.compile_expression(source) else {
         return false;
     };
@@ -62,14 +74,21 @@ fn is_printed(alloc: Global, value: &Value, wanted: &str) -> bool {
 }
 
 /// Whether an expression comes to what its row says.
-fn is_row(alloc: Global, environment: &Rows<'_>, row: &Row<'static>) -> bool {
+fn is_row<P: Parties>(
+    alloc: Global,
+    environment: &EnvironmentOf<'_, P>,
+    row: &Row<'static>,
+) -> bool {
     match value_of(alloc, environment, row.source) {
         Ok(value) => row.end.is_empty() && is_printed(alloc, &value, row.text),
         Err(error) => is_chain(&error, row.end),
     }
 }
 
-pub(crate) fn expect_expressions(alloc: Global, environment: &Rows<'_>) -> Result<(), Fail> {
+pub(crate) fn expect_expressions<P: Parties>(
+    alloc: Global,
+    environment: &EnvironmentOf<'_, P>,
+) -> Result<(), Fail> {
     for line in &ROWS {
         expect(is_row(alloc, environment, &row_of(line)), line)?;
     }

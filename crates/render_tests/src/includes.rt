@@ -1,7 +1,7 @@
 //! Rows of templates that include or import others, and what states of such renders answer.
 
 use crate::blocks::{expect, rendered};
-use crate::party::{Page, Rows, add_objects};
+use crate::party::{Rows, add_objects};
 use crate::settings::expect_table;
 use std::alloc::Global;
 use std::test::Fail;
@@ -306,7 +306,7 @@ fn is_refused(error: &Error, includes: usize) -> bool {
 }
 
 /// Whether the render of a template is refused after so many includes, with nothing written.
-fn is_ended(alloc: Global, template: &Page<'_, '_>, includes: usize) -> bool {
+fn is_ended<P: Parties>(alloc: Global, template: &TemplateOf<'_, '_, P>, includes: usize) -> bool {
     let mut writer = Counted::new(Vec::new(alloc));
     let mut ids = StateIds::new();
     let is_refused = match template.render_captured_to(&mut ids, Value::undefined(), &mut writer) {
@@ -317,7 +317,12 @@ fn is_ended(alloc: Global, template: &Page<'_, '_>, includes: usize) -> bool {
 }
 
 /// Whether that of the template of a name is.
-fn ends(alloc: Global, environment: &Rows<'_>, name: &str, includes: usize) -> bool {
+fn ends<P: Parties>(
+    alloc: Global,
+    environment: &EnvironmentOf<'_, P>,
+    name: &str,
+    includes: usize,
+) -> bool {
     match environment.get_template(name) {
         Ok(template) => is_ended(alloc, &template, includes),
         Err(_) => false,
@@ -325,7 +330,7 @@ fn ends(alloc: Global, environment: &Rows<'_>, name: &str, includes: usize) -> b
 }
 
 /// Whether the template of a name gives `x`.
-fn gives(environment: &Rows<'_>, name: &str) -> bool {
+fn gives<P: Parties>(environment: &EnvironmentOf<'_, P>, name: &str) -> bool {
     match rendered(environment, name) {
         Ok(text) => text.as_str() == "x",
         Err(_) => false,
@@ -333,7 +338,10 @@ fn gives(environment: &Rows<'_>, name: &str) -> bool {
 }
 
 /// Adds 200 templates: c0 is `x`, and each one after includes the one before it.
-fn add_chain(alloc: Global, environment: &mut Rows<'_>) -> Result<(), Error> {
+fn add_chain<P: Parties>(
+    alloc: Global,
+    environment: &mut EnvironmentOf<'_, P>,
+) -> Result<(), Error> {
     environment.add_template("c0", "x")?;
     for number in 1..200_usize {
         let name = format!(in alloc; "c{number}")?;
@@ -345,7 +353,10 @@ fn add_chain(alloc: Global, environment: &mut Rows<'_>) -> Result<(), Error> {
 }
 
 /// Renders templates that lie deep in each other, within the limit and beyond it, and one that includes itself.
-fn expect_chain(alloc: Global, environment: &mut Rows<'_>) -> Result<(), Fail> {
+fn expect_chain<P: Parties>(
+    alloc: Global,
+    environment: &mut EnvironmentOf<'_, P>,
+) -> Result<(), Fail> {
     add_chain(alloc, environment)?;
     expect(gives(environment, "c49"), "49 includes")?;
     expect(ends(alloc, environment, "c50", 49), "50 includes")?;
@@ -359,13 +370,13 @@ fn expect_chain(alloc: Global, environment: &mut Rows<'_>) -> Result<(), Fail> {
     expect(
         ends(alloc, environment, "t", 49),
         "one that includes itself",
-    )?;
-    expect_table(
-        alloc,
-        environment,
-        "Its charges.\n- @short 100 &t\n- @fuel 10000",
     )
 }
+
+/// The charges of the last one.
+const CHARGES: &str = "Its charges.
+- @short 100 &t
+- @fuel 10000";
 
 /// Renders the tables.
 pub(crate) fn expect_includes(alloc: Global, environment: &mut Rows<'_>) -> Result<(), Fail> {
@@ -375,5 +386,6 @@ pub(crate) fn expect_includes(alloc: Global, environment: &mut Rows<'_>) -> Resu
     expect_table(alloc, environment, IMPORTS)?;
     expect_table(alloc, environment, STATES)?;
     expect_chain(alloc, environment)?;
+    expect_table(alloc, environment, CHARGES)?;
     expect_table(alloc, environment, JOINED)
 }

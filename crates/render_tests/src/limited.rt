@@ -1,7 +1,6 @@
 //! Renders into a sink with an end.
 
 use crate::blocks::expect;
-use crate::party::{Parts, Rows};
 use std::alloc::Global;
 use std::test::Fail;
 use template_machine::*;
@@ -88,7 +87,7 @@ static CASES: &[Case] = &[
 ];
 
 /// The kind that a render ends with; none where it is done.
-fn end_of(template: &TemplateOf<'_, '_, Parts>, writer: &mut Bytes) -> Option<ErrorKind> {
+fn end_of<P: Parties>(template: &TemplateOf<'_, '_, P>, writer: &mut Bytes) -> Option<ErrorKind> {
     match template.render_captured_to(&mut StateIds::new(), Value::undefined(), writer) {
         Ok(_captured) => None,
         Err(error) => Some(error.kind()),
@@ -107,7 +106,11 @@ fn took(writer: &Bytes, case: &Case) -> bool {
 }
 
 /// Whether a render comes to what its case says.
-fn ends(alloc: Global, environment: &Rows<'_>, case: &Case) -> Result<bool, Error> {
+fn ends<P: Parties>(
+    alloc: Global,
+    environment: &EnvironmentOf<'_, P>,
+    case: &Case,
+) -> Result<bool, Error> {
     let template = environment.template_from_str(case.source)?;
     let mut writer = Limited::new(Counted::new(Vec::new(alloc)), case.limit);
     let end = end_of(&template, &mut writer);
@@ -119,7 +122,10 @@ fn ends(alloc: Global, environment: &Rows<'_>, case: &Case) -> Result<bool, Erro
 }
 
 /// Each case ends as it says.
-pub(crate) fn expect_ends(alloc: Global, environment: &Rows<'_>) -> Result<(), Fail> {
+pub(crate) fn expect_ends<P: Parties>(
+    alloc: Global,
+    environment: &EnvironmentOf<'_, P>,
+) -> Result<(), Fail> {
     for case in CASES {
         expect(ends(alloc, environment, case)?, case.source)?;
     }

@@ -81,7 +81,12 @@ pub(crate) const MACROS: &str = r#"Macros and call tags.
 - @limit 500"#;
 
 /// Whether a source is InvalidOperation, which nothing caused.
-fn is_refused(environment: &Rows<'_>, ids: &mut StateIds, source: &str, given: Value) -> bool {
+fn is_refused<P: Parties>(
+    environment: &EnvironmentOf<'_, P>,
+    ids: &mut StateIds,
+    source: &str,
+    given: Value,
+) -> bool {
     match environment.render_str(ids, source, given) {
         Ok(_) => false,
         Err(error) => error.kind() == ErrorKind::InvalidOperation && error.cause().is_none(),
@@ -89,7 +94,11 @@ fn is_refused(environment: &Rows<'_>, ids: &mut StateIds, source: &str, given: V
 }
 
 /// The macro `m` of a render's state, at its name.
-fn macro_of(alloc: Global, environment: &Rows<'_>, ids: &mut StateIds) -> Result<Value, Error> {
+fn macro_of<P: Parties>(
+    alloc: Global,
+    environment: &EnvironmentOf<'_, P>,
+    ids: &mut StateIds,
+) -> Result<Value, Error> {
     let template = environment.template_from_str("{% macro m() %}x{% endmacro %}")?;
     let captured = template.render_captured_to(ids, Value::undefined(), &mut NullWriter)?;
     let found = captured.state().lookup("m")?;
@@ -102,7 +111,10 @@ fn macro_of(alloc: Global, environment: &Rows<'_>, ids: &mut StateIds) -> Result
 }
 
 /// Whether a macro can't be called in another render, of the same counter and of one that gives the same numbers.
-fn belong_to_renders(alloc: Global, environment: &Rows<'_>) -> Result<bool, Error> {
+fn belong_to_renders<P: Parties>(
+    alloc: Global,
+    environment: &EnvironmentOf<'_, P>,
+) -> Result<bool, Error> {
     let mut ids = StateIds::new();
     let names = macro_of(alloc, environment, &mut ids)?;
     let source = "{{ m() }}";
@@ -111,7 +123,10 @@ fn belong_to_renders(alloc: Global, environment: &Rows<'_>) -> Result<bool, Erro
 }
 
 /// Whether macros serve the states of their renders alone, and end at the limit.
-pub(crate) fn are_bounded(alloc: Global, environment: &Rows<'_>) -> Result<bool, Error> {
+pub(crate) fn are_bounded<P: Parties>(
+    alloc: Global,
+    environment: &EnvironmentOf<'_, P>,
+) -> Result<bool, Error> {
     let endless = "{% macro m() %}{{ m() }}{% endmacro %}{{ m() }}";
     let mut ids = StateIds::new();
     let is_ended = is_refused(environment, &mut ids, endless, Value::undefined());

@@ -318,16 +318,10 @@ fn block_named(alloc: Global, args: &[Value]) -> CallableAnswer
 }
 
 /// The objects of the rows.
-pub(crate) type Parts = Objects<Party, Method, Style, EscapeSetting<OfT>, Folder>;
+type Parts = Objects<Party, Method, Style, EscapeSetting<OfT>, Folder>;
 
 /// An environment of such objects.
 pub(crate) type Rows<'source> = EnvironmentOf<'source, Parts>;
-
-/// A template of such an environment.
-pub(crate) type Page<'env, 'source> = TemplateOf<'env, 'source, Parts>;
-
-/// The state that its render leaves.
-pub(crate) type Left<'env> = StateOf<'env, Parts>;
 
 // The first one gets the number after those of the language.
 static FUNCTIONS: &[(&str, Party)] = &[

@@ -1,6 +1,6 @@
 //! What rows are: renders of sources, and settings between them.
 
-use crate::party::{Left, Page, Rows, context};
+use crate::party::context;
 use std::alloc::Global;
 use std::io::{self, Write};
 use std::test::Fail;
@@ -118,7 +118,7 @@ pub(crate) fn lists(found: &Result<Vec<&str>, Error>, wanted: &str) -> bool {
 }
 
 /// Whether 1 is kept under a name that leads nowhere, and no name is exported.
-fn keeps_apart(state: &Left<'_>, name: &str) -> Result<bool, Error> {
+fn keeps_apart<P: Parties>(state: &StateOf<'_, P>, name: &str) -> Result<bool, Error> {
     let is_kept = match state.get_temp(name) {
         Some(kept) => *kept == Value::number(1),
         None => false,
@@ -127,7 +127,7 @@ fn keeps_apart(state: &Left<'_>, name: &str) -> Result<bool, Error> {
 }
 
 /// The fuel that is left, where fuel was set.
-fn remains(state: &Left<'_>) -> Option<u64> {
+fn remains<P: Parties>(state: &StateOf<'_, P>) -> Option<u64> {
     match state.fuel_levels() {
         Some((_, remaining)) => Some(remaining),
         None => None,
@@ -135,7 +135,7 @@ fn remains(state: &Left<'_>) -> Option<u64> {
 }
 
 /// Whether the template that a name means to a state has the name after it, or the fault is of that kind.
-fn gets(state: &Left<'_>, wanted: &str) -> bool {
+fn gets<P: Parties>(state: &StateOf<'_, P>, wanted: &str) -> bool {
     let (name, found) = wanted.split_once(' ').unwrap_or((wanted, ""));
     match state.get_template(name) {
         Ok(template) => template.name() == found,
@@ -144,7 +144,7 @@ fn gets(state: &Left<'_>, wanted: &str) -> bool {
 }
 
 /// Whether a state is left as a row asks.
-pub(crate) fn is_left(state: &Left<'_>, wanted: &str) -> bool {
+pub(crate) fn is_left<P: Parties>(state: &StateOf<'_, P>, wanted: &str) -> bool {
     match wanted.split_once(' ') {
         Some(("known", names)) => lists(&state.known_variables(), names),
         Some(("exports", names)) => lists(&state.exports(), names),
@@ -161,7 +161,7 @@ pub(crate) fn is_left(state: &Left<'_>, wanted: &str) -> bool {
 }
 
 /// The charges of a render; 0 where none are counted.
-fn charges(state: &Left<'_>) -> u64 {
+fn charges<P: Parties>(state: &StateOf<'_, P>) -> u64 {
     match state.fuel_levels() {
         Some((consumed, _)) => consumed,
         None => 0,
@@ -200,7 +200,12 @@ pub(crate) fn fault_of(error: &Error) -> (usize, &Error) {
 /// How a render ends: by its charges, and whether its state is left as a row asks; or by an error.
 type End = Result<(u64, bool), Error>;
 
-fn end_of(template: &Page<'_, '_>, given: Value, writer: &mut Counted<Narrow>, left: &str) -> End {
+fn end_of<P: Parties>(
+    template: &TemplateOf<'_, '_, P>,
+    given: Value,
+    writer: &mut Counted<Narrow>,
+    left: &str,
+) -> End {
     match template.render_captured_to(&mut StateIds::new(), given, writer) {
         Ok(captured) => {
             let state = captured.state();
@@ -211,19 +216,19 @@ fn end_of(template: &Page<'_, '_>, given: Value, writer: &mut Counted<Narrow>, l
 }
 
 /// The template of a source under a name, or the one that is kept.
-pub(crate) fn template_of<'env, 'source>(
-    environment: &'env Rows<'source>,
+pub(crate) fn template_of<'env, 'source, P: Parties>(
+    environment: &'env EnvironmentOf<'source, P>,
     name: &'env str,
     source: &'source str,
-) -> Result<Page<'env, 'source>, Error> {
+) -> Result<TemplateOf<'env, 'source, P>, Error> {
     match source.strip_prefix('&') {
         Some(kept) => environment.get_template(kept),
         None => environment.template_from_named_str(name, source),
     }
 }
 
-fn ended<'source>(
-    environment: &Rows<'source>,
+fn ended<'source, P: Parties>(
+    environment: &EnvironmentOf<'source, P>,
     setup: &Setup<'_>,
     source: &'source str,
     left: &str,
@@ -257,9 +262,9 @@ fn is_end(end: &End, wanted: &str) -> bool {
 }
 
 /// Renders the source of a row, and compares what it writes, how it ends and what it leaves.
-pub(crate) fn expect_row(
+pub(crate) fn expect_row<P: Parties>(
     alloc: Global,
-    environment: &Rows<'_>,
+    environment: &EnvironmentOf<'_, P>,
     setup: &Setup<'_>,
     row: &Row<'_>,
 ) -> Result<(), Fail> {

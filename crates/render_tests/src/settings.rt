@@ -37,7 +37,7 @@ fn behavior(name: &str) -> UndefinedBehavior {
 }
 
 /// Whether an environment has this fuel, limit and behavior, and keeps the last line's end or not.
-fn is_set(environment: &Rows<'_>, wanted: &str) -> bool {
+fn is_set<P: Parties>(environment: &EnvironmentOf<'_, P>, wanted: &str) -> bool {
     let mut fields = wanted.split(' ');
     let fuel = fields.next().unwrap_or("").parse().ok();
     let limit = fields.next().unwrap_or("").parse().unwrap_or(0);
@@ -49,7 +49,11 @@ fn is_set(environment: &Rows<'_>, wanted: &str) -> bool {
 }
 
 /// Whether the globals of an environment have these names.
-fn has_globals(alloc: Global, environment: &Rows<'_>, wanted: &str) -> Result<bool, Error> {
+fn has_globals<P: Parties>(
+    alloc: Global,
+    environment: &EnvironmentOf<'_, P>,
+    wanted: &str,
+) -> Result<bool, Error> {
     let mut names = Vec::new(alloc);
     for (name, _) in environment.globals() {
         names.push(name)?;
@@ -58,7 +62,10 @@ fn has_globals(alloc: Global, environment: &Rows<'_>, wanted: &str) -> Result<bo
 }
 
 /// Whether a source that spells no template is refused at the name before it.
-fn is_refused<'source>(environment: &mut Rows<'source>, rest: &'source str) -> bool {
+fn is_refused<'source, P: Parties>(
+    environment: &mut EnvironmentOf<'source, P>,
+    rest: &'source str,
+) -> bool {
     let (name, source) = rest.split_once(' ').unwrap_or((rest, ""));
     match environment.add_template(name, source) {
         Ok(()) => false,
@@ -68,7 +75,10 @@ fn is_refused<'source>(environment: &mut Rows<'source>, rest: &'source str) -> b
 
 /// Whether a source, or the template that is kept after `&`, runs out of each fuel up to the number
 /// before it. That fuel is set after it.
-fn is_short<'source>(environment: &mut Rows<'source>, rest: &'source str) -> bool {
+fn is_short<'source, P: Parties>(
+    environment: &mut EnvironmentOf<'source, P>,
+    rest: &'source str,
+) -> bool {
     let (most, source) = rest.split_once(' ').unwrap_or(("0", rest));
     let most: u64 = most.parse().unwrap_or(0);
     for fuel in 0..=most {
@@ -80,13 +90,19 @@ fn is_short<'source>(environment: &mut Rows<'source>, rest: &'source str) -> boo
     true
 }
 
-fn rendered<'source>(environment: &Rows<'source>, source: &'source str) -> Result<String, Error> {
+fn rendered<'source, P: Parties>(
+    environment: &EnvironmentOf<'source, P>,
+    source: &'source str,
+) -> Result<String, Error> {
     let template = template_of(environment, "<string>", source)?;
     template.render(&mut StateIds::new(), Value::undefined())
 }
 
 /// Whether it does, be it in a block or a template that another one runs.
-fn runs_out<'source>(environment: &Rows<'source>, source: &'source str) -> bool {
+fn runs_out<'source, P: Parties>(
+    environment: &EnvironmentOf<'source, P>,
+    source: &'source str,
+) -> bool {
     match rendered(environment, source) {
         Ok(_) => false,
         Err(error) => fault_of(&error).1.kind() == ErrorKind::OutOfFuel,
@@ -95,26 +111,34 @@ fn runs_out<'source>(environment: &Rows<'source>, source: &'source str) -> bool 
 
 /// Changes a setting of an environment, or asks for them; false where they aren't so, or there is
 /// no such word.
-fn set(environment: &mut Rows<'_>, word: &str, rest: &str) -> bool {
+fn set<P: Parties>(environment: &mut EnvironmentOf<'_, P>, word: &str, rest: &str) -> bool {
     match word {
         "fuel" => environment.set_fuel(rest.parse().ok()),
         "limit" => environment.set_recursion_limit(rest.parse().unwrap_or(0)),
         "undefined" => environment.set_undefined_behavior(behavior(rest)),
         "remove" => environment.remove_global(rest),
-        "methods" => environment.set_unknown_method_callback(method_of(rest)),
-        "formatter" => environment.set_formatter(style_of(rest)),
-        "joins" => environment.set_path_join_callback(folder_of(rest)),
-        "rule" => environment.set_auto_escape_callback(rule_of(rest)),
         "set" => return is_set(environment, rest),
         _ => return false,
     }
     true
 }
 
+/// Gives an environment an object; false where there is no such word.
+fn set_object(environment: &mut Rows<'_>, word: &str, rest: &str) -> bool {
+    match word {
+        "methods" => environment.set_unknown_method_callback(method_of(rest)),
+        "formatter" => environment.set_formatter(style_of(rest)),
+        "joins" => environment.set_path_join_callback(folder_of(rest)),
+        "rule" => environment.set_auto_escape_callback(rule_of(rest)),
+        _ => return false,
+    }
+    true
+}
+
 /// Adds what is named first in the rest to an environment, or sets other delimiters.
-fn add<'source>(
+fn add<'source, P: Parties>(
     alloc: Global,
-    environment: &mut Rows<'source>,
+    environment: &mut EnvironmentOf<'source, P>,
     word: &str,
     rest: &'source str,
 ) -> Result<(), Error> {
@@ -122,7 +146,6 @@ fn add<'source>(
     match word {
         "global" => environment.add_global(name, Value::number(source.parse().unwrap_or(0))),
         "text" => environment.add_global(name, Value::text(alloc, source)?),
-        "second" => environment.add_function(rest, Party::Second),
         "template" => environment.add_template(name, source),
         "owned" => environment.add_template_owned(name, String::from_str(alloc, source)?),
         _ => Ok(environment.set_syntax(angles(alloc)?)),
@@ -137,14 +160,18 @@ fn change<'source>(
     rest: &'source str,
 ) -> Result<bool, Error> {
     match word {
-        "global" | "text" | "second" | "template" | "owned" | "angles" => {
+        "global" | "text" | "template" | "owned" | "angles" => {
             add(alloc, environment, word, rest)?;
+            Ok(true)
+        }
+        "second" => {
+            environment.add_function(rest, Party::Second)?;
             Ok(true)
         }
         "refused" => Ok(is_refused(environment, rest)),
         "short" => Ok(is_short(environment, rest)),
         "globals" => has_globals(alloc, environment, rest),
-        _ => Ok(set(environment, word, rest)),
+        _ => Ok(set_object(environment, word, rest) || set(environment, word, rest)),
     }
 }
 
