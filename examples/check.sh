@@ -6,13 +6,15 @@ set -euo pipefail
 cd "$(dirname "${BASH_SOURCE[0]}")"
 
 # compare_code DOCUMENT TEST..: the rust blocks of the document, in order, must be the marked parts of the tests' files, but for blanks and
-# what only lets one of these files use another.
+# what only lets one of these files use another. Where a test is of any objects, `P: Parties`, which is cheaper to prove, the document has
+# the same of objects in boxes.
 compare_code() {
     local document=$1 shown tested
     shift
-    shown=$(sed -n '/^```rust$/,/^```$/p' "../$document" | sed '/^```/d' | tr -d '[:space:]')
+    shown=$(sed -n '/^```rust$/,/^```$/p' "../$document" | sed '/^```/d' | tr -d '[:space:]' | sed 's/,)/)/g')
     tested=$(cat "${@/#/../crates/}" | sed -n '/example begins here/,/example ends here/p' \
-        | sed '/example begins here/d; /example ends here/d; s/^pub(crate) //' | tr -d '[:space:]')
+        | sed '/example begins here/d; /example ends here/d; s/^pub(crate) //' | tr -d '[:space:]' \
+        | sed -E "s/<P:Parties>//g; s/(Environment|Template|State)Of<('_(,'_)*),P>/\1<\2>/g; s/CapturedOf<State<'_>>/Captured<'_>/g; s/,(\))/\1/g")
     if [[ -z $shown || $shown != "$tested" ]]; then
         echo "the code in $document isn't that of $*" >&2
         exit 1

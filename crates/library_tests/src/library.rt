@@ -111,27 +111,35 @@ fn makes_maps_of_pairs(alloc: Global) -> Result<bool, Error> {
     Ok(is_found && is_one && keywords.is_true() && text.as_str() == "written")
 }
 
-fn keeps_templates(alloc: Global, environment: &mut Environment<'_>) -> Result<bool, Error> {
+fn adds_templates<P: Parties>(
+    alloc: Global,
+    environment: &mut EnvironmentOf<'_, P>,
+) -> Result<bool, Error> {
     environment.add_template("a.txt", "Hello {{ name }}!")?;
     environment.add_template_owned("b.txt", String::from_str(alloc, "{{ 6 * 7 }}")?)?;
-    let text = environment
-        .get_template("b.txt")?
-        .render(&mut StateIds::new(), Value::undefined())?;
-    let is_first = match environment.templates().next() {
+    let template = environment.get_template("b.txt")?;
+    let text = template.render(&mut StateIds::new(), Value::undefined())?;
+    Ok(text.as_str() == "42")
+}
+
+fn lists_templates<P: Parties>(environment: &EnvironmentOf<'_, P>) -> bool {
+    match environment.templates().next() {
         Some((name, template)) => name == "a.txt" && template.source() == "Hello {{ name }}!",
         None => false,
-    };
+    }
+}
+
+fn removes_templates<P: Parties>(environment: &mut EnvironmentOf<'_, P>) -> bool {
     environment.remove_template("a.txt");
     let is_gone = is_fault(
         environment.get_template("a.txt"),
         ErrorKind::TemplateNotFound,
     );
     environment.clear_templates();
-    let is_empty = environment.templates().next().is_none();
-    Ok(text.as_str() == "42" && is_first && is_gone && is_empty)
+    is_gone && environment.templates().next().is_none()
 }
 
-fn renders_sources(environment: &Environment<'_>) -> Result<bool, Error> {
+fn renders_sources<P: Parties>(environment: &EnvironmentOf<'_, P>) -> Result<bool, Error> {
     let mut ids = StateIds::new();
     let sum = environment.render_str(&mut ids, "{{ 1 + 1 }}", Value::undefined())?;
     let page = environment.render_named_str(&mut ids, "a.html", "{{ '<' }}", Value::undefined())?;
@@ -140,7 +148,7 @@ fn renders_sources(environment: &Environment<'_>) -> Result<bool, Error> {
     Ok(sum.as_str() == "2" && page.as_str() == "&lt;" && is_unnamed && ids.next()? == 2)
 }
 
-fn tells_names(environment: &Environment<'_>) -> Result<bool, Error> {
+fn tells_names<P: Parties>(environment: &EnvironmentOf<'_, P>) -> Result<bool, Error> {
     let source = "{% set a = b %}{{ a }}{{ user.name }}";
     let template = environment.template_from_named_str("a.html", source)?;
     let names = template.undeclared_variables(false)?;
@@ -149,7 +157,7 @@ fn tells_names(environment: &Environment<'_>) -> Result<bool, Error> {
     Ok(are_names && nested.contains("user.name") && template.source() == source)
 }
 
-fn follows_settings(environment: &mut Environment<'_>) -> Result<bool, Error> {
+fn follows_settings<P: Parties>(environment: &mut EnvironmentOf<'_, P>) -> Result<bool, Error> {
     let (mut ids, source) = (StateIds::new(), "{{ answer }}");
     environment.add_global("answer", Value::number(42))?;
     environment.set_fuel(Some(2));
@@ -172,7 +180,7 @@ fn follows_settings(environment: &mut Environment<'_>) -> Result<bool, Error> {
     )
 }
 
-fn has_nothing(environment: &Environment<'_>) -> bool {
+fn has_nothing<P: Parties>(environment: &EnvironmentOf<'_, P>) -> bool {
     environment.globals().next().is_none() && environment.templates().next().is_none()
 }
 
@@ -197,7 +205,10 @@ fn own_syntax(alloc: Global) -> Result<SyntaxConfig, Error> {
         .build()
 }
 
-fn follows_syntax(alloc: Global, environment: &mut Environment<'_>) -> Result<bool, Error> {
+fn follows_syntax<P: Parties>(
+    alloc: Global,
+    environment: &mut EnvironmentOf<'_, P>,
+) -> Result<bool, Error> {
     environment.set_syntax(own_syntax(alloc)?);
     let source = "  <% if 1 %>\n${ 6 * 7 }<# done #><% endif %>!\n";
     let text = environment.render_str(&mut StateIds::new(), source, Value::undefined())?;
@@ -206,7 +217,7 @@ fn follows_syntax(alloc: Global, environment: &mut Environment<'_>) -> Result<bo
     Ok(text.as_str() == "42!\n" && is_refused && environment.syntax().keeps_newline())
 }
 
-fn evaluates(alloc: Global, environment: &Environment<'_>) -> Result<bool, Error> {
+fn evaluates<P: Parties>(alloc: Global, environment: &EnvironmentOf<'_, P>) -> Result<bool, Error> {
     let expression = environment.compile_expression("number > 10 and number < 20")?;
     let names = expression.undeclared_variables(false)?;
     let context = named(alloc, "number", Value::number(15))?;
@@ -214,7 +225,10 @@ fn evaluates(alloc: Global, environment: &Environment<'_>) -> Result<bool, Error
     Ok(names.contains("number") && value == Value::boolean(true))
 }
 
-fn evaluates_owned(alloc: Global, environment: &Environment<'_>) -> Result<bool, Error> {
+fn evaluates_owned<P: Parties>(
+    alloc: Global,
+    environment: &EnvironmentOf<'_, P>,
+) -> Result<bool, Error> {
     let source = String::from_str(alloc, "[1, 2][-1]")?;
     let value = environment
         .compile_expression_owned(source)?
@@ -273,24 +287,38 @@ impl Callable for Asking {
 const CALLS: &str =
     "{% macro m() %}M{% endmacro %}{% block b %}B{% endblock %}{{ title() }} {{ 1|yes }} {{ 1 is yes }} {{ by_filter() }} {{ by_macro() }} {{ by_block() }}";
 
-fn add_objects(alloc: Global, environment: &mut Environment<'_>) -> Result<(), Error> {
-    environment.add_function("title", Box::new(alloc, Asking::Title)?)?;
-    environment.add_function("by_filter", Box::new(alloc, Asking::Filter)?)?;
-    environment.add_function("by_macro", Box::new(alloc, Asking::Macro)?)?;
-    environment.add_function("by_block", Box::new(alloc, Asking::Block)?)?;
+fn add_function(
+    alloc: Global,
+    environment: &mut Environment<'_>,
+    name: &str,
+    asking: Asking,
+) -> Result<(), Error> {
+    environment.add_function(name, Box::new(alloc, asking)?)
+}
+
+fn add_yes(alloc: Global, environment: &mut Environment<'_>) -> Result<(), Error> {
     environment.add_filter("yes", Box::new(alloc, Plain::new(Yes))?)?;
     environment.add_test("yes", Box::new(alloc, Plain::new(Yes))?)
 }
 
-fn calls_objects(alloc: Global, environment: &mut Environment<'_>) -> Result<bool, Error> {
-    add_objects(alloc, environment)?;
-    let mut ids = StateIds::new();
-    let text = environment.render_str(&mut ids, CALLS, Value::undefined())?;
+fn add_objects(alloc: Global, environment: &mut Environment<'_>) -> Result<(), Error> {
+    add_function(alloc, environment, "title", Asking::Title)?;
+    add_function(alloc, environment, "by_filter", Asking::Filter)?;
+    add_function(alloc, environment, "by_macro", Asking::Macro)?;
+    add_function(alloc, environment, "by_block", Asking::Block)?;
+    add_yes(alloc, environment)
+}
+
+fn removes_objects(environment: &mut Environment<'_>) -> bool {
     environment.remove_filter("yes");
     environment.remove_test("yes");
-    let unknown = environment.render_str(&mut ids, "{{ 1|yes }}", Value::undefined());
-    let is_gone = is_fault(unknown, ErrorKind::UnknownFilter);
-    Ok(text.as_str() == "B<string> true true true M B" && is_gone)
+    let unknown = environment.render_str(&mut StateIds::new(), "{{ 1|yes }}", Value::undefined());
+    is_fault(unknown, ErrorKind::UnknownFilter)
+}
+
+fn calls_objects<P: Parties>(environment: &EnvironmentOf<'_, P>) -> Result<bool, Error> {
+    let text = environment.render_str(&mut StateIds::new(), CALLS, Value::undefined())?;
+    Ok(text.as_str() == "B<string> true true true M B")
 }
 /// Rules for methods, for what values are written as, for escapes and for names of templates.
 #[derive(Drop)]
@@ -343,22 +371,26 @@ impl PathJoin for OwnRules {
     }
 }
 
-fn asks_rules(alloc: Global, environment: &mut Environment<'_>) -> Result<bool, Error> {
+fn set_rules(alloc: Global, environment: &mut Environment<'_>) -> Result<(), Error> {
     environment.set_unknown_method_callback(Box::new(alloc, OwnRules)?);
     environment.set_formatter(Box::new(alloc, OwnRules)?);
     environment.set_auto_escape_callback(Box::new(alloc, OwnRules)?);
     environment.set_path_join_callback(Box::new(alloc, OwnRules)?);
+    Ok(())
+}
+
+fn asks_rules<P: Parties>(environment: &mut EnvironmentOf<'_, P>) -> Result<bool, Error> {
     environment.add_template("lib/foot", "{{ none }}.")?;
     let source = "{{ x.twice() }}{{ '<' }}{% include 'foot' %}";
     let text = environment.render_str(&mut StateIds::new(), source, Value::undefined())?;
     Ok(text.as_str() == "twice&lt;.")
 }
 /// Keeps a value in a state, and tells whether none was there.
-fn keeps(state: &mut State<'_>) -> Result<bool, Error> {
+fn keeps<P: Parties>(state: &mut StateOf<'_, P>) -> Result<bool, Error> {
     Ok(state.set_temp("seen", Value::boolean(true))?.is_none())
 }
 
-fn tells(state: &State<'_>) -> bool {
+fn tells<P: Parties>(state: &StateOf<'_, P>) -> bool {
     state.name() == "a.html"
         && state.auto_escape() == AutoEscape::Html
         && state.undefined_behavior() == UndefinedBehavior::Lenient
@@ -368,61 +400,76 @@ fn tells(state: &State<'_>) -> bool {
         && state.get_temp("seen").is_some()
 }
 
-fn finds_names(state: &State<'_>) -> Result<bool, Error> {
+fn finds_names<P: Parties>(state: &StateOf<'_, P>) -> Result<bool, Error> {
     let found = state.lookup("_b")?;
     let (exports, known) = (state.exports()?, state.known_variables()?);
     Ok(found == Some(Value::number(2)) && exports.len() == 1 && known.len() == 5)
 }
 
-fn leaves_a_state(environment: &mut Environment<'_>) -> Result<bool, Error> {
+fn tells_all<P: Parties>(captured: &mut CapturedOf<StateOf<'_, P>>) -> Result<bool, Error> {
+    let is_kept = captured.with_state_mut(|state| keeps(state))?;
+    let is_told = tells(captured.state()) && finds_names(captured.state())?;
+    Ok(is_kept && is_told && captured.output() == "x")
+}
+
+fn leaves_a_state<P: Parties>(environment: &mut EnvironmentOf<'_, P>) -> Result<bool, Error> {
     environment.set_fuel(Some(100));
     let source = "{% set a = 1 %}{% set _b = 2 %}x";
     let template = environment.template_from_named_str("a.html", source)?;
     let mut captured = template.render_captured(&mut StateIds::new(), Value::undefined())?;
-    let is_kept = captured.with_state_mut(|state| keeps(state))? && captured.output() == "x";
-    let is_told = tells(captured.state()) && finds_names(captured.state())?;
-    let output = captured.into_output();
-    Ok(is_kept && is_told && output.as_str() == "x")
+    Ok(tells_all(&mut captured)? && captured.into_output().as_str() == "x")
 }
 
 const PARTS: &str = "{% macro m(a) %}[{{ a }}]{% endmacro %}{% block b %}B{% endblock %}";
 
-fn runs_parts(alloc: Global, state: &mut State<'_>) -> Result<bool, Error> {
+fn calls_a_macro<P: Parties>(alloc: Global, state: &mut StateOf<'_, P>) -> Result<bool, Error> {
     let mut args = Vec::new(alloc);
     args.push(Value::number(5))?;
-    let called = state.call_macro("m", &args)?;
+    Ok(state.call_macro("m", &args)?.as_str() == "[5]")
+}
+
+fn runs_blocks<P: Parties>(alloc: Global, state: &mut StateOf<'_, P>) -> Result<bool, Error> {
     let block = state.render_block("b")?;
     let mut writer = Counted::new(Vec::new(alloc));
     state.render_block_to_write("b", &mut writer)?;
-    let is_written = writer.inner().as_slice() == "B".as_bytes();
-    Ok(called.as_str() == "[5]" && block.as_str() == "B" && is_written)
+    Ok(block.as_str() == "B" && writer.inner().as_slice() == "B".as_bytes())
 }
 
-fn asks_objects(state: &mut State<'_>) -> Result<bool, Error> {
+fn asks_objects<P: Parties>(state: &mut StateOf<'_, P>) -> Result<bool, Error> {
     let filtered = state.apply_filter("yes", &[])?;
     let holds = state.perform_test("yes", &[])?;
     let is_refused = is_fault(state.apply_filter("kept", &[]), ErrorKind::MissingArgument);
     Ok(filtered.is_true() && holds && is_refused && state.get_temp("k").is_some())
 }
 
-fn formats(state: &State<'_>) -> Result<bool, Error> {
+fn formats<P: Parties>(state: &StateOf<'_, P>) -> Result<bool, Error> {
     let text = state.format(&Value::number(42))?;
     let template = state.get_template("parts")?;
     Ok(text.as_str() == "42" && template.source() == PARTS)
 }
 
-fn serves_states(alloc: Global, environment: &mut Environment<'_>) -> Result<bool, Error> {
+fn is_served<P: Parties>(alloc: Global, state: &mut StateOf<'_, P>) -> Result<bool, Error> {
+    let are_run = calls_a_macro(alloc, state)? && runs_blocks(alloc, state)?;
+    Ok(are_run && asks_objects(state)? && formats(state)?)
+}
+
+fn add_parts(alloc: Global, environment: &mut Environment<'_>) -> Result<(), Error> {
     add_objects(alloc, environment)?;
     environment.add_filter("kept", Box::new(alloc, Asking::Kept)?)?;
-    environment.add_template("parts", PARTS)?;
+    environment.add_template("parts", PARTS)
+}
+
+fn serves_states<P: Parties>(
+    alloc: Global,
+    environment: &EnvironmentOf<'_, P>,
+) -> Result<bool, Error> {
     let template = environment.get_template("parts")?;
     let captured = template.render_captured(&mut StateIds::new(), Value::undefined())?;
     let (output, mut state) = captured.into_parts();
-    let are_run = runs_parts(alloc, &mut state)? && asks_objects(&mut state)?;
-    Ok(output.as_str() == "B" && are_run && formats(&state)?)
+    Ok(is_served(alloc, &mut state)? && output.as_str() == "B")
 }
 
-fn makes_states(environment: &Environment<'_>) -> Result<bool, Error> {
+fn makes_states<P: Parties>(environment: &EnvironmentOf<'_, P>) -> Result<bool, Error> {
     let mut ids = StateIds::new();
     let template = environment.template_from_str("{% block b %}B{% endblock %}")?;
     let block = template.new_state(&mut ids)?.render_block("b")?;
@@ -431,7 +478,7 @@ fn makes_states(environment: &Environment<'_>) -> Result<bool, Error> {
     Ok(block.as_str() == "B" && empty.name() == "<unknown>" && range == Some(Value::function(0)))
 }
 
-fn writes(alloc: Global, template: &Template<'_, '_>) -> Result<bool, Error> {
+fn writes<P: Parties>(alloc: Global, template: &TemplateOf<'_, '_, P>) -> Result<bool, Error> {
     let mut ids = StateIds::new();
     let mut writer = Counted::new(Vec::new(alloc));
     let captured = template.render_captured_to(&mut ids, Value::undefined(), &mut writer)?;
@@ -442,7 +489,7 @@ fn writes(alloc: Global, template: &Template<'_, '_>) -> Result<bool, Error> {
     Ok(is_whole && has_none && bytes.as_slice() == "Hello".as_bytes())
 }
 
-fn stops_at_a_limit(alloc: Global, template: &Template<'_, '_>) -> bool {
+fn stops_at_a_limit<P: Parties>(alloc: Global, template: &TemplateOf<'_, '_, P>) -> bool {
     let mut limited = Limited::new(Counted::new(Vec::new(alloc)), 3);
     let cut = template.render_captured_to(&mut StateIds::new(), Value::undefined(), &mut limited);
     let is_cut = is_fault(cut, ErrorKind::WriteFailure) && limited.left() == 0;
@@ -453,7 +500,10 @@ fn stops_at_a_limit(alloc: Global, template: &Template<'_, '_>) -> bool {
 // example ends here
 
 /// Whether a template is written to both writers.
-fn writes_hello(alloc: Global, environment: &Environment<'_>) -> Result<bool, Error> {
+fn writes_hello<P: Parties>(
+    alloc: Global,
+    environment: &EnvironmentOf<'_, P>,
+) -> Result<bool, Error> {
     let template = environment.template_from_str("Hello")?;
     Ok(writes(alloc, &template)? && stops_at_a_limit(alloc, &template))
 }
@@ -489,11 +539,14 @@ fn environments_serve(rt: HostRuntime) -> Result<(), Fail> {
 fn environments_change(rt: HostRuntime) -> Result<(), Fail> {
     let alloc = rt.alloc();
     let mut environment = Environment::new(alloc)?;
-    assert!(rt; keeps_templates(alloc, &mut environment)?);
+    assert!(rt; adds_templates(alloc, &mut environment)?);
+    assert!(rt; lists_templates(&environment) && removes_templates(&mut environment));
     assert!(rt; leaves_a_state(&mut environment)?);
-    assert!(rt; serves_states(alloc, &mut environment)?);
-    assert!(rt; calls_objects(alloc, &mut environment)?);
-    assert!(rt; asks_rules(alloc, &mut environment)?);
+    add_parts(alloc, &mut environment)?;
+    assert!(rt; serves_states(alloc, &environment)?);
+    assert!(rt; calls_objects(&environment)? && removes_objects(&mut environment));
+    set_rules(alloc, &mut environment)?;
+    assert!(rt; asks_rules(&mut environment)?);
     assert!(rt; follows_syntax(alloc, &mut environment)?);
     Ok(())
 }

@@ -55,7 +55,10 @@ fn charges_code(alloc: Global) -> Result<bool, Error> {
     Ok(fuel.initial() == 10 && fuel.consumed() == 2 && fuel.remaining() == 8)
 }
 
-pub(crate) fn compiles(alloc: Global, environment: &Environment<'_>) -> Result<bool, Error> {
+pub(crate) fn compiles<P: Parties>(
+    alloc: Global,
+    environment: &EnvironmentOf<'_, P>,
+) -> Result<bool, Error> {
     let mut config = TemplateConfig::default();
     config.default_auto_escape = EscapeSetting::Own(OwnRules);
     let compiled = CompiledTemplate::new(alloc, "a.txt", Source::Lent("{{ '<' }}"), &config)?;
