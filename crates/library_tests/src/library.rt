@@ -519,14 +519,21 @@ fn values_are_told(rt: HostRuntime) -> Result<(), Fail> {
 }
 
 #[test]
-fn environments_serve(rt: HostRuntime) -> Result<(), Fail> {
+fn sources_serve(rt: HostRuntime) -> Result<(), Fail> {
     let alloc = rt.alloc();
-    let mut environment = Environment::new(alloc)?;
+    let environment = Environment::new(alloc)?;
     assert!(rt; renders_sources(&environment)?);
     assert!(rt; tells_names(&environment)?);
     assert!(rt; evaluates(alloc, &environment)?);
     assert!(rt; evaluates_owned(alloc, &environment)?);
     assert!(rt; makes_states(&environment)?);
+    Ok(())
+}
+
+#[test]
+fn settings_serve(rt: HostRuntime) -> Result<(), Fail> {
+    let alloc = rt.alloc();
+    let mut environment = Environment::new(alloc)?;
     assert!(rt; writes_hello(alloc, &environment)?);
     assert!(rt; compiles(alloc, &environment)?);
     assert!(rt; follows_settings(&mut environment)?);
@@ -534,17 +541,30 @@ fn environments_serve(rt: HostRuntime) -> Result<(), Fail> {
     Ok(())
 }
 
-// Fuel that an example sets counts for those after it.
 #[test]
-fn environments_change(rt: HostRuntime) -> Result<(), Fail> {
+fn templates_change(rt: HostRuntime) -> Result<(), Fail> {
     let alloc = rt.alloc();
     let mut environment = Environment::new(alloc)?;
     assert!(rt; adds_templates(alloc, &mut environment)?);
     assert!(rt; lists_templates(&environment) && removes_templates(&mut environment));
     assert!(rt; leaves_a_state(&mut environment)?);
+    Ok(())
+}
+
+#[test]
+fn objects_change(rt: HostRuntime) -> Result<(), Fail> {
+    let alloc = rt.alloc();
+    let mut environment = Environment::new(alloc)?;
     add_parts(alloc, &mut environment)?;
     assert!(rt; serves_states(alloc, &environment)?);
     assert!(rt; calls_objects(&environment)? && removes_objects(&mut environment));
+    Ok(())
+}
+
+#[test]
+fn rules_change(rt: HostRuntime) -> Result<(), Fail> {
+    let alloc = rt.alloc();
+    let mut environment = Environment::new(alloc)?;
     set_rules(alloc, &mut environment)?;
     assert!(rt; asks_rules(&mut environment)?);
     assert!(rt; follows_syntax(alloc, &mut environment)?);

@@ -13,17 +13,27 @@ use crate::states::expect_states;
 use std::test::Fail;
 
 #[test]
-fn rows_hold(rt: HostRuntime) -> Result<(), Fail> {
+fn parts_hold(rt: HostRuntime) -> Result<(), Fail> {
     let alloc = rt.alloc();
     let mut environment = Rows::new(alloc)?;
     expect_expressions(alloc, &environment)?;
     expect_ends(alloc, &environment)?;
-    expect_states(alloc, &mut environment)?;
-    environment = Rows::new(alloc)?;
+    expect_states(alloc, &mut environment)
+}
+
+#[test]
+fn calls_hold(rt: HostRuntime) -> Result<(), Fail> {
+    let alloc = rt.alloc();
+    let mut environment = Rows::new(alloc)?;
     expect(are_served(alloc, &mut environment)?, "calls")?;
     environment = Rows::new(alloc)?;
-    expect(all_answer(alloc, &mut environment)?, "many filters")?;
-    environment = Rows::new(alloc)?;
+    expect(all_answer(alloc, &mut environment)?, "many filters")
+}
+
+#[test]
+fn rows_hold(rt: HostRuntime) -> Result<(), Fail> {
+    let alloc = rt.alloc();
+    let mut environment = Rows::new(alloc)?;
     expect_includes(alloc, &mut environment)?;
     environment = Rows::new(alloc)?;
     expect_tables(alloc, &mut environment)?;

@@ -18,6 +18,7 @@ pub enum Saved {
 }
 
 /// What a block's run replaces.
+#[derive(Drop)]
 pub struct SavedBlock {
     /// The stream that ran.
     pub stream: StreamId,
@@ -29,19 +30,6 @@ pub struct SavedBlock {
     pub scopes: usize,
     /// The depth at which the outermost scope stood.
     pub outer: usize,
-}
-
-// By hand: one call for each owner, in place of a drop of each part.
-impl Drop for SavedBlock {
-    fn drop(self) {
-        let SavedBlock {
-            stream: _stream,
-            block: _block,
-            escape: _escape,
-            scopes: _scopes,
-            outer: _outer,
-        } = self;
-    }
 }
 
 /// What the run of a `super()` replaces.
@@ -90,6 +78,7 @@ impl Drop for SavedMacro {
 }
 
 /// What an include's run replaces, which stands in the scopes that stood.
+#[derive(Drop)]
 pub struct SavedInclude {
     /// What a block's run replaces.
     pub replaced: SavedBlock,
@@ -97,15 +86,4 @@ pub struct SavedInclude {
     pub closure: Option<usize>,
     /// The lists of blocks, their places and the loaded names.
     pub lists: Lists,
-}
-
-// By hand: one call for each owner, in place of a drop of each part.
-impl Drop for SavedInclude {
-    fn drop(self) {
-        let SavedInclude {
-            replaced: _replaced,
-            closure: _closure,
-            lists: _lists,
-        } = self;
-    }
 }

@@ -93,11 +93,31 @@ impl fmt::Display for ErrorKind {
 }
 
 /// An error. A contract sees it as its chain of kinds: its own, and then the kind of each cause.
-#[derive(Debug, Drop)]
+#[derive(Debug)]
 #[cycle(error)]
 pub struct Error {
     kind: ErrorKind,
     more: Option<Box<More>>,
+}
+
+// A loop, so that a long chain of causes takes no deep stack.
+impl Drop for Error {
+    fn drop(mut self) {
+        loop {
+            let Error { kind: _kind, more } = self;
+            let Some(more) = more else {
+                return;
+            };
+            let More {
+                detail: _detail,
+                cause,
+            } = Box::into_inner(more);
+            let Some(cause) = cause else {
+                return;
+            };
+            self = cause;
+        }
+    }
 }
 
 // What few errors have; it stands apart, so that an error is small.

@@ -68,6 +68,7 @@ impl Return {
 /// What is a run's own: its stream and the place in it, its operands, the escapes that its open `autoescape`s
 /// replaced, for each loop that it has open where that goes on if it was called, how many captures stood
 /// when it or the innermost called loop began, the parent that waits, and its caches.
+#[derive(Drop)]
 pub(crate) struct Activation {
     pub(crate) stream: StreamId,
     pub(crate) place: usize,
@@ -78,23 +79,6 @@ pub(crate) struct Activation {
     parent: Option<TemplateId>,
     filters: Caches,
     tests: Caches,
-}
-
-// By hand: one call for each owner, in place of a drop of each part.
-impl Drop for Activation {
-    fn drop(self) {
-        let Activation {
-            stream: _stream,
-            place: _place,
-            operands: _operands,
-            escapes: _escapes,
-            loops: _loops,
-            floor: _floor,
-            parent: _parent,
-            filters: _filters,
-            tests: _tests,
-        } = self;
-    }
 }
 
 impl Model for Activation {
