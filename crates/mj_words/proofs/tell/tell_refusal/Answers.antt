@@ -15,6 +15,6 @@ returns-in-Usage-clause-told g c =
 
 pub returns-in-OutOfMemory-clause-told : goal.returns-in-OutOfMemory-clause-told
 returns-in-OutOfMemory-clause-told g c =
-    let t = c.tell_error-in-OutOfMemory.ensures.told in
-    subst (λ x. IsTold g.E.Write.contents c.args.err.now c.tell_error-in-OutOfMemory.new.err x)
+    let t = c.tell_error.ensures.told in
+    subst (λ x. IsTold g.E.Write.contents c.args.err.now c.tell_error.new.err x)
     (same_message c.from.result t.0 kind.OutOfMemory t.1 [] t.2 c.from.ensures ∙ sym (ap refusal_message c.in-OutOfMemory.is)) t.3
