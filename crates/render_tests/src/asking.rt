@@ -69,6 +69,30 @@ fn called<P: Parties>(
     }
 }
 
+/// The text of what a name means.
+fn meant<P: Parties>(alloc: Global, state: &StateOf<'_, P>, name: &str) -> Result<String, Error> {
+    text_of(alloc, state.lookup(name)?.as_ref())
+}
+
+fn formatted<P: Parties>(
+    alloc: Global,
+    state: &StateOf<'_, P>,
+    word: &str,
+) -> Result<String, Error> {
+    state.format(&value_of(alloc, word)?)
+}
+
+/// What is answered to a name and values after it.
+fn called_so<P: Parties>(
+    alloc: Global,
+    state: &mut StateOf<'_, P>,
+    word: &str,
+    rest: &str,
+) -> Result<String, Error> {
+    let (name, args) = rest.split_once(' ').unwrap_or((rest, ""));
+    called(alloc, state, word, name, &values_of(alloc, args)?)
+}
+
 /// What a state answers to such words.
 fn answer<P: Parties>(
     alloc: Global,
@@ -79,12 +103,9 @@ fn answer<P: Parties>(
     match word {
         "keep" => replaced(alloc, state, value_of(alloc, rest)?),
         "kept" => text_of(alloc, state.get_temp("k")),
-        "find" => text_of(alloc, state.lookup(rest)?.as_ref()),
-        "format" => state.format(&value_of(alloc, rest)?),
-        _ => {
-            let (name, args) = rest.split_once(' ').unwrap_or((rest, ""));
-            called(alloc, state, word, name, &values_of(alloc, args)?)
-        }
+        "find" => meant(alloc, state, rest),
+        "format" => formatted(alloc, state, rest),
+        _ => called_so(alloc, state, word, rest),
     }
 }
 

@@ -38,14 +38,11 @@ fn is_rendered<P: Parties>(
 /// Whether a source that writes its name is rendered however its template is made.
 fn renders_each<P: Parties>(environment: &EnvironmentOf<'_, P>) -> Result<bool, Error> {
     let mut ids = StateIds::new();
-    let kept = environment.get_template("b")?;
-    let unnamed = environment.template_from_str(TITLE)?;
-    let named = environment.template_from_named_str("n", TITLE)?;
-    Ok(
-        is_rendered(&kept, &mut ids, TITLE, "b")
-            && is_rendered(&unnamed, &mut ids, TITLE, "<string>")
-            && is_rendered(&named, &mut ids, TITLE, "n"),
-    )
+    let kept = is_rendered(&environment.get_template("b")?, &mut ids, TITLE, "b");
+    let template = environment.template_from_str(TITLE)?;
+    let unnamed = is_rendered(&template, &mut ids, TITLE, "<string>");
+    let template = environment.template_from_named_str("n", TITLE)?;
+    Ok(kept && unnamed && is_rendered(&template, &mut ids, TITLE, "n"))
 }
 
 /// Whether such a source is rendered at once, under a name and without one.

@@ -126,11 +126,23 @@ fn keeps_apart<P: Parties>(state: &StateOf<'_, P>, name: &str) -> Result<bool, E
     Ok(is_kept && state.lookup(name)?.is_none() && state.exports()?.is_empty())
 }
 
-/// The fuel that is left, where fuel was set.
-fn remains<P: Parties>(state: &StateOf<'_, P>) -> Option<u64> {
+fn keeps<P: Parties>(state: &StateOf<'_, P>, name: &str) -> bool {
+    keeps_apart(state, name).unwrap_or(false)
+}
+
+fn knows<P: Parties>(state: &StateOf<'_, P>, names: &str) -> bool {
+    lists(&state.known_variables(), names)
+}
+
+fn exports<P: Parties>(state: &StateOf<'_, P>, names: &str) -> bool {
+    lists(&state.exports(), names)
+}
+
+/// Whether so much fuel is left.
+fn remains<P: Parties>(state: &StateOf<'_, P>, fuel: &str) -> bool {
     match state.fuel_levels() {
-        Some((_, remaining)) => Some(remaining),
-        None => None,
+        Some((_, remaining)) => fuel.parse() == Ok(remaining),
+        None => false,
     }
 }
 
@@ -143,19 +155,24 @@ fn gets<P: Parties>(state: &StateOf<'_, P>, wanted: &str) -> bool {
     }
 }
 
+/// Whether a name means the first function of the environment.
+fn is_first<P: Parties>(state: &StateOf<'_, P>, name: &str) -> bool {
+    match state.lookup(name) {
+        Ok(found) => found == Some(Value::function(3)),
+        Err(_) => false,
+    }
+}
+
 /// Whether a state is left as a row asks.
 pub(crate) fn is_left<P: Parties>(state: &StateOf<'_, P>, wanted: &str) -> bool {
     match wanted.split_once(' ') {
-        Some(("known", names)) => lists(&state.known_variables(), names),
-        Some(("exports", names)) => lists(&state.exports(), names),
-        Some(("keeps", name)) => keeps_apart(state, name).unwrap_or(false),
-        Some(("fuel", fuel)) => remains(state) == fuel.parse().ok(),
+        Some(("known", names)) => knows(state, names),
+        Some(("exports", names)) => exports(state, names),
+        Some(("keeps", name)) => keeps(state, name),
+        Some(("fuel", fuel)) => remains(state, fuel),
         Some(("gets", found)) => gets(state, found),
         Some(("name", name)) => state.name() == name && state.auto_escape() == AutoEscape::None,
-        Some(("first", name)) => match state.lookup(name) {
-            Ok(found) => found == Some(Value::function(3)),
-            Err(_) => false,
-        },
+        Some(("first", name)) => is_first(state, name),
         _ => wanted.is_empty(),
     }
 }

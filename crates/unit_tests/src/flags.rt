@@ -107,10 +107,12 @@ fn shares_raw_texts(alloc: Global, syntax: &SyntaxConfig, source: &str) -> Resul
     Ok(RcStr::strong_count(&source) - 1 == raw_texts.count())
 }
 
+static SHARED: [&str; 3] = ["", "a{{ b }} c {% raw %} d {% endraw %}", "{ {{- a -}} }\n"];
+
 #[test]
 fn raw_texts_share_the_source(rt: HostRuntime) -> Result<(), Fail> {
     let syntax = syntax::usual(rt.alloc())?;
-    for source in ["", "a{{ b }} c {% raw %} d {% endraw %}", "{ {{- a -}} }\n"] {
+    for source in &SHARED {
         expect(shares_raw_texts(rt.alloc(), &*syntax, source)?, source)?;
     }
     Ok(())

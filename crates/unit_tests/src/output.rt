@@ -63,13 +63,13 @@ fn take_both<T: Target>(target: &mut T, first: &str, second: &str) -> Result<(),
     target.take_text(second)
 }
 
-/// What comes of texts that a writer is given: the answer, the bytes, the calls and the failures.
-type Told = (Result<(), TargetFailed>, &'static [u8], u64, u64);
+/// What comes of texts that a writer is given: the answer, the text, the calls and the failures.
+type Told = (Result<(), TargetFailed>, &'static str, u64, u64);
 
 fn is_told(answer: Result<(), TargetFailed>, writer: &Counted<Fake>, told: Told) -> bool {
     let fake = writer.inner();
     answer == told.0
-        && fake.bytes.as_slice() == told.1
+        && fake.bytes.as_slice() == told.1.as_bytes()
         && fake.calls == told.2
         && writer.failures() == told.3
 }
@@ -88,23 +88,46 @@ fn spells(fake: Fake, text: &str, told: Told) -> bool {
     is_told(answer, &writer, told)
 }
 
+/// How many bytes a fake takes in a call and in all, its error, and what comes of `Hello!`.
+type Failing = (usize, usize, Option<io::ErrorKind>, Told);
+
+static FAILING: [Failing; 4] = [
+    (
+        3,
+        3,
+        Some(io::ErrorKind::BrokenPipe),
+        (Err(TargetFailed), "Hel", 2, 1),
+    ),
+    (9, 0, None, (Err(TargetFailed), "", 1, 1)),
+    (
+        9,
+        0,
+        Some(io::ErrorKind::Interrupted),
+        (Err(TargetFailed), "", 1, 1),
+    ),
+    (
+        1,
+        9,
+        Some(io::ErrorKind::BrokenPipe),
+        (Ok(()), "Hello!", 6, 0),
+    ),
+];
+
+fn fails(alloc: Global, failing: &Failing) -> bool {
+    let (step, room, error, told) = *failing;
+    tells(Fake::new(alloc, step, room, error), ("Hello", "!"), told)
+}
+
 #[test]
 fn failing_writers(rt: HostRuntime) {
     let alloc = rt.alloc();
-    let failed = Err(TargetFailed);
-    let broken = Some(io::ErrorKind::BrokenPipe);
-    let interrupted = Some(io::ErrorKind::Interrupted);
-    for (step, room, error, told) in [
-        (3, 3, broken, (failed, b"Hel".as_slice(), 2, 1)),
-        (9, 0, None, (failed, b"".as_slice(), 1, 1)),
-        (9, 0, interrupted, (failed, b"".as_slice(), 1, 1)),
-        (1, 9, broken, (Ok(()), b"Hello!".as_slice(), 6, 0)),
-    ] {
-        assert!(rt; tells(Fake::new(alloc, step, room, error), ("Hello", "!"), told));
+    for failing in &FAILING {
+        assert!(rt; fails(alloc, failing));
     }
-    let nothing = (Ok(()), b"".as_slice(), 0, 0);
+    let nothing = (Ok(()), "", 0, 0);
+    let broken = Some(io::ErrorKind::BrokenPipe);
     assert!(rt; tells(Fake::new(alloc, 9, 0, broken), ("", ""), nothing));
-    let beginning = (failed, b"a&lt;b".as_slice(), 7, 1);
+    let beginning = (Err(TargetFailed), "a&lt;b", 7, 1);
     assert!(rt; spells(Fake::new(alloc, 1, 6, None), "a<b>", beginning));
 }
 
@@ -136,7 +159,7 @@ fn a_flush_is_no_write(rt: HostRuntime) {
     assert!(rt; flush_refused(&mut writer).is_none());
     assert!(rt; write_text(&mut writer, b"a").is_ok());
     assert!(rt; flush_refused(&mut writer) == full);
-    assert!(rt; is_told(Ok(()), &writer, (Ok(()), b"a", 1, 0)));
+    assert!(rt; is_told(Ok(()), &writer, (Ok(()), "a", 1, 0)));
 }
 
 /// The error of a text to a writer that takes nothing, or fails with this error.
