@@ -249,7 +249,7 @@ impl Answering for Yes {
 
 /// Tells the template's name, keeps a value before a fault, or asks for a further call.
 #[derive(Clone, Copy)]
-enum Asking {
+pub(crate) enum Asking {
     Title,
     Kept,
     Filter,
@@ -287,7 +287,7 @@ impl Callable for Asking {
 const CALLS: &str =
     "{% macro m() %}M{% endmacro %}{% block b %}B{% endblock %}{{ title() }} {{ 1|yes }} {{ 1 is yes }} {{ by_filter() }} {{ by_macro() }} {{ by_block() }}";
 
-fn add_function(
+pub(crate) fn add_function(
     alloc: Global,
     environment: &mut Environment<'_>,
     name: &str,

@@ -12,8 +12,6 @@ mod caches;
 #[cfg(test)]
 mod callbacks;
 #[cfg(test)]
-mod calls;
-#[cfg(test)]
 mod expressions;
 #[cfg(test)]
 mod includes;

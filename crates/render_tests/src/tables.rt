@@ -3,7 +3,6 @@
 use crate::blocks::expect;
 use crate::bounds::expect_long;
 use crate::caches::all_answer;
-use crate::calls::are_served;
 use crate::expressions::expect_expressions;
 use crate::includes::expect_includes;
 use crate::limited::expect_ends;
@@ -22,11 +21,9 @@ fn parts_hold(rt: HostRuntime) -> Result<(), Fail> {
 }
 
 #[test]
-fn calls_hold(rt: HostRuntime) -> Result<(), Fail> {
+fn filters_answer(rt: HostRuntime) -> Result<(), Fail> {
     let alloc = rt.alloc();
     let mut environment = Rows::new(alloc)?;
-    expect(are_served(alloc, &mut environment)?, "calls")?;
-    environment = Rows::new(alloc)?;
     expect(all_answer(alloc, &mut environment)?, "many filters")
 }
 

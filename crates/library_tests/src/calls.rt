@@ -1,7 +1,8 @@
-//! The calls of environments and templates.
+//! The calls of environments and templates, beside those of the examples.
 
-use crate::party::{Party, Rows};
+use crate::library::{Asking, add_function};
 use std::alloc::Global;
+use std::test::Fail;
 use template_machine::*;
 
 /// Writes the name of the template that runs.
@@ -87,7 +88,11 @@ fn are_rendered<P: Parties>(
     Ok(are_rendered && drops_templates(environment))
 }
 
-pub(crate) fn are_served(alloc: Global, environment: &mut Rows<'_>) -> Result<bool, Error> {
-    environment.add_function("title", Party::Title)?;
-    are_rendered(alloc, environment)
+#[test]
+fn calls_serve(rt: HostRuntime) -> Result<(), Fail> {
+    let alloc = rt.alloc();
+    let mut environment = Environment::new(alloc)?;
+    add_function(alloc, &mut environment, "title", Asking::Title)?;
+    assert!(rt; are_rendered(alloc, &mut environment)?);
+    Ok(())
 }
