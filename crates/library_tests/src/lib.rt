@@ -1,4 +1,4 @@
-//! Tests of the code in docs/LIBRARY.md.
+//! Tests of the code in docs/LIBRARY.md, and of the calls of environments and templates.
 #![tactic(auto)]
 
 #[cfg(test)]
