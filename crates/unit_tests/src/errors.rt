@@ -44,6 +44,21 @@ fn is_spelled_out(alloc: Global) -> Result<bool, Error> {
 const SPELLED_OUT: &str =
     r#"Error { kind: BadInclude, more: Some(More { detail: Some("in \"page\""), cause: Some(Error { kind: OutOfFuel, more: None }) }) }"#;
 
+// An error with as many causes, each the one before.
+fn with_causes(alloc: Global, causes: usize) -> Result<Error, Error> {
+    let mut error = Error::from(ErrorKind::OutOfFuel);
+    for _ in 0..causes {
+        error = Error::from(ErrorKind::BadInclude).with_source(alloc, error)?;
+    }
+    Ok(error)
+}
+
+// A long chain of causes takes no deep stack where it is dropped.
+fn drops_a_long_chain(alloc: Global) -> Result<bool, Error> {
+    let error = with_causes(alloc, 1_000_000)?;
+    Ok(is_caused_by(&error, ErrorKind::BadInclude))
+}
+
 fn is_bare(error: &Error) -> bool {
     is_bad_include(error) && error.cause().is_none()
 }
@@ -54,5 +69,6 @@ fn errors_have_a_kind_a_detail_and_a_cause(rt: HostRuntime) -> Result<(), Fail> 
     assert!(rt; is_bare(&bad_include(alloc)));
     assert!(rt; takes_a_cause(alloc, bad_include(alloc))?);
     assert!(rt; is_spelled_out(alloc)?);
+    assert!(rt; drops_a_long_chain(alloc)?);
     Ok(())
 }
