@@ -1,7 +1,6 @@
 -- What the tests' method objects, formatters, escape rules and what joins names state.
 use Rattle.std.specs.Prelude.{ℕ, List, [], ◌∷◌, ◌++◌, Ok, Err, None, false, codes, pos, if◌then◌else◌}
-use Rattle.std.specs.Ordering.{is_eq}
-use Rattle.tm_values.specs.Order.{val_cmp}
+use Rattle.tm_values.specs.Equality.{same_value}
 use Rattle.tm_values.specs.Val.{Val, undefined, none, number, text}
 use Rattle.tm_values.specs.Answer.{Answer}
 use Rattle.tm_values.specs.declared.error.ErrorKind.{ErrorKind}
@@ -31,11 +30,11 @@ marked v view = Ok (codes "F")
 
 -- a fault for 0
 abbrev pub no_zero : Format
-no_zero v view = if is_eq (val_cmp v (number (pos 0))) then Err (MissingArgument ∷ []) else formatted None v view
+no_zero v view = if same_value v (number (pos 0)) then Err (MissingArgument ∷ []) else formatted None v view
 
 -- none as an undefined value
 abbrev pub swapped : Format
-swapped v view = if is_eq (val_cmp v none) then formatted None (undefined false) view else formatted None v view
+swapped v view = if same_value v none then formatted None (undefined false) view else formatted None v view
 
 -- this escape for the template t alone
 abbrev pub escape_of_t : AutoEscape → List ℕ → AutoEscape

@@ -100,7 +100,7 @@ pub(crate) const FILTERS: &str = r#"Filters and tests of the caller.
 - {{ 1|f. }} =>  => SyntaxError
 - {{ 1|in }} =>  => SyntaxError
 - {{ 1 is }} =>  => SyntaxError
-- {{ 1 is not not }} =>  => SyntaxError
+- {{ 1 is not not }} =>  => UnknownTest
 - {{ 1 is in in [1] }} => true => 6"#;
 
 /// Filters of what bodies write.

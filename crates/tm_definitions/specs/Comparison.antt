@@ -6,6 +6,7 @@ use Rattle.tm_values.specs.Defined.{refusal_of, unless}
 use Rattle.tm_definitions.specs.declared.comparison.ComparisonOperator.{ComparisonOperator}
 use Rattle.tm_definitions.specs.declared.comparison.ComparisonOperator.TheVariants.{Equal, NotEqual, Less, LessOrEqual, Greater, GreaterOrEqual}
 use Rattle.tm_values.specs.Answer.{Answer}
+use Rattle.tm_values.specs.Equality.{same_value}
 use Rattle.tm_values.specs.Order.{val_cmp}
 use Rattle.tm_values.specs.Val.{Val}
 use Rattle.tm_values.specs.declared.undefined.UndefinedBehavior.{UndefinedBehavior}
@@ -20,8 +21,14 @@ is_met LessOrEqual o = not (is_gt o)
 is_met Greater o = is_gt o
 is_met GreaterOrEqual o = not (is_lt o)
 
+-- whether the values compare so: `==` and `!=` go by equality, the others by the order
+abbrev pub holds_of : ComparisonOperator → Val → Val → Bool
+holds_of Equal l r = same_value l r
+holds_of NotEqual l r = not (same_value l r)
+holds_of c l r = is_met c (val_cmp l r)
+
 -- both sides are asked for being undefined, the left one first
 abbrev pub compared : ComparisonOperator → UndefinedBehavior → Val → Val → Answer Bool
 compared c b l r =
     unless (refusal_of b use_of.Comparison l)
-    (unless (refusal_of b use_of.Comparison r) (Ok (is_met c (val_cmp l r))))
+    (unless (refusal_of b use_of.Comparison r) (Ok (holds_of c l r)))

@@ -1,11 +1,10 @@
 -- What `in` finds.
 use Rattle.std.specs.Prelude.{ℕ, Bool, true, false, eqb, ◌||◌, ◌&&◌, List, [], ◌∷◌, Option, None, Some, Ok, is_some}
 use Rattle.std.specs.List.{list_any}
-use Rattle.std.specs.Ordering.{eq_by_cmp}
 use Rattle.tm_values.specs.Defined.{refusal_of, unless}
 use Rattle.tm_values.specs.Answer.{Answer, invalid}
+use Rattle.tm_values.specs.Equality.{same_value}
 use Rattle.tm_values.specs.Map.{find}
-use Rattle.tm_values.specs.Order.{val_cmp}
 use Rattle.tm_values.specs.Records.{RecordData, namespace_at}
 use Rattle.tm_values.specs.Val.{Val, undefined, text, list, map, keywords, exports, namespace, list_of, entries_of, text_in}
 use Rattle.tm_values.specs.declared.undefined.UndefinedBehavior.{UndefinedBehavior}
@@ -33,11 +32,11 @@ abbrev pub namespace_contains : Option (List (Val × Val)) → Val → Answer Bo
 namespace_contains None k = invalid
 namespace_contains (Some ps) k = Ok (has_key k ps)
 
--- a part of a text, an item of a list, or a key of a map, keyword map, module or namespace
+-- a part of a text, what an item of a list is equal to, or a key of a map, keyword map, module or namespace
 abbrev pub found_in : RecordData → Val → Val → Answer Bool
 found_in r (undefined silent) v = Ok false
 found_in r (text s safe) v = text_contains s (text_in v)
-found_in r (list vs) v = Ok (list_any (λ x. eq_by_cmp val_cmp x v) (list_of vs))
+found_in r (list vs) v = Ok (list_any (λ x. same_value x v) (list_of vs))
 found_in r (map ps) v = Ok (has_key v (entries_of ps))
 found_in r (keywords ps) v = Ok (has_key v (entries_of ps))
 found_in r (exports ps s) v = Ok (has_key v (entries_of ps))

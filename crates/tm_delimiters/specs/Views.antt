@@ -1,7 +1,8 @@
 -- What functions return, as bytes.
-use Rattle.std.specs.Prelude.{◌≡◌, ℕ, List, [], ◌∷◌, ◌++◌, ◌<◌, length, Option, Some, None, IfSome, encode_utf8}
+use Rattle.std.specs.Prelude.{◌≡◌, ◌≢◌, ◌⊎◌, ℕ, List, [], ◌∷◌, ◌++◌, ◌<◌, length, Option, Some, None, IfSome, encode_utf8}
 use Rattle.std.specs.Borrow.{Bor}
 use Rattle.std.specs.Str.{chars}
+use Rattle.tm_delimiters.specs.Whitespace.{to_end}
 
 -- a character and the text after it, or no text
 abbrev pub IsFirst : Option (ℕ × Bor (List ℕ)) → List ℕ → Type 0
@@ -28,3 +29,22 @@ Shortens r cs = IfSome r (λ x. length x.1.now < length cs)
 abbrev pub parts_of : {A : Type 0} → Option (Bor (List ℕ) × A × Bor (List ℕ)) → Option (List ℕ × (A × List ℕ))
 parts_of None = None
 parts_of (Some x) = Some (x.0.now, (x.1, x.2.now))
+
+-- The bytes end in this.
+abbrev pub IsRest : List ℕ → List ℕ → Type 0
+IsRest rest cs = (gone : List ℕ) × (cs ≡ gone ++ rest)
+
+-- The bytes end in this mark, and the front is what stands before it.
+abbrev pub EndsIn : ℕ → List ℕ → List ℕ → Type 0
+EndsIn mark cs front = cs ≡ front ++ mark ∷ []
+
+-- The front is what stands before a mark at the end, `-` or `+`, or all where none stands there.
+abbrev pub IsBeforeMark : List ℕ → List ℕ → Type 0
+IsBeforeMark cs front =
+    EndsIn 45 cs front
+    ⊎ (EndsIn 43 cs front
+    ⊎ ((cs ≡ front) × ((f : List ℕ) → cs ≢ f ++ 45 ∷ []) × ((f : List ℕ) → cs ≢ f ++ 43 ∷ [])))
+
+-- This is what is left at the first place of an end delimiter, unless the bytes begin after that.
+abbrev pub IsKnown : List ℕ → List ℕ → List ℕ → Type 0
+IsKnown end cs known = (length cs < length known) ⊎ (known ≡ (to_end end cs).1)

@@ -1,10 +1,10 @@
 -- The marks `-` and `+` beside delimiters.
-use Rattle.std.specs.Prelude.{ℕ, List, [], ◌∷◌, nat_eq, Option, option_map, codes, if◌then◌else◌, ◌==◌}
+use Rattle.std.specs.Prelude.{ℕ, List, [], ◌∷◌, Bool, nat_eq, Option, is_some, option_map, codes, if◌then◌else◌, ◌==◌}
 use Rattle.std.specs.Option.{option_or}
 use Rattle.std.specs.List.{ends_with}
 use Rattle.tm_delimiters.specs.declared.whitespace.Whitespace.{Whitespace}
 use Rattle.tm_delimiters.specs.declared.whitespace.Whitespace.TheVariants as whitespace
-use Rattle.tm_delimiters.specs.Front.{after, first_of}
+use Rattle.tm_delimiters.specs.Front.{after, first_of, is_blank, until}
 
 -- the mark at the front, and what is left after it
 abbrev pub whitespace_at : List ℕ → Whitespace × List ℕ
@@ -20,6 +20,19 @@ abbrev pub ending : List ℕ → List ℕ → Option (Whitespace × List ℕ)
 ending end cs =
     option_or (ended_by whitespace.Default end cs)
     (option_or (ended_by whitespace.Remove (45 ∷ end) cs) (ended_by whitespace.Preserve (43 ∷ end) cs))
+
+abbrev pub ends_here : List ℕ → List ℕ → Bool
+ends_here end cs = is_some (ending end cs)
+
+-- what stands before the first place of an end delimiter, with a mark before it or none, and what is left there
+abbrev pub to_end : List ℕ → List ℕ → List ℕ × List ℕ
+to_end end cs = until (ends_here end) cs
+
+-- what is left after the blanks before an end delimiter
+abbrev pub past_blanks_to : List ℕ → List ℕ → List ℕ
+past_blanks_to end [] = []
+past_blanks_to end (c ∷ cs) =
+    if is_blank c then (if ends_here end (c ∷ cs) then c ∷ cs else past_blanks_to end cs) else c ∷ cs
 
 -- the mark that bytes end in
 abbrev pub last_whitespace : List ℕ → Whitespace

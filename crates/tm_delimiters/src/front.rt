@@ -84,6 +84,14 @@ fn decoded(text: &str) -> Option<(char, &str)>
     }
 }
 
+/// Whether the byte is a blank.
+#[inline(always)]
+pub(crate) fn is_blank(byte: u8) -> bool
+    ensures { result ≡ spec.is_blank byte }
+{
+    matches!(byte, b' ' | b'\t' | b'\n' | b'\r' | b'\x0c')
+}
+
 /// What is left after the blanks at the front.
 pub fn past_blanks(text: &str) -> &str
     ensures value { result.now ≡ spec.past_blanks text.now }
@@ -91,7 +99,7 @@ pub fn past_blanks(text: &str) -> &str
 {
     let mut rest = text;
     while let Some((byte, after)) = ascii(rest) {
-        if !matches!(byte, b' ' | b'\t' | b'\n' | b'\r' | b'\x0c') {
+        if !is_blank(byte) {
             break;
         }
         rest = after;

@@ -13,4 +13,6 @@ pub use builder::SyntaxConfigBuilder;
 pub use starts::{next_start, next_tag};
 pub use syntax::{Kind, SyntaxConfig};
 pub use trimming::{Part, Side, trimmed};
-pub use whitespace::{Whitespace, comment_end, ending, whitespace_at};
+pub use whitespace::{
+    Whitespace, comment_end, ending, next_end, past_blanks_to, to_end, whitespace_at,
+};

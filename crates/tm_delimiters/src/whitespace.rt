@@ -1,9 +1,9 @@
 //! The marks `-` and `+` beside delimiters.
 ghost use Rattle.std.specs.Prelude.{◌≡◌, ◌≤◌, ◌<◌, length, IfSome, None};
-ghost use Rattle.tm_delimiters.specs.Views.{Shortens, step_of};
+ghost use Rattle.tm_delimiters.specs.Views.{IsBeforeMark, IsKnown, step_of};
 ghost use Rattle.tm_delimiters.specs.Whitespace as spec;
 
-use crate::front::{ascii, cut, strip};
+use crate::front::{ascii, cut, is_blank, strip};
 
 /// What the mark beside a delimiter, or none there, means for the raw text on that side.
 #[derive(Clone, Copy)]
@@ -42,6 +42,60 @@ pub fn ending<'t>(end: &str, text: &'t str) -> Option<(Whitespace, &'t str)>
         Some((b'+', rest)) => Some((Whitespace::Preserve, strip(rest, end)?)),
         _ => None,
     }
+}
+
+/// The text without a mark at its end.
+fn before_mark(text: &str) -> &str
+    ensures { IsBeforeMark text.now result.now }
+{
+    if let Some(front) = text.strip_suffix("-") {
+        return front;
+    }
+    match text.strip_suffix("+") {
+        Some(front) => front,
+        None => text,
+    }
+}
+
+/// What stands before the first place of an end delimiter, with a mark before it or none, and what
+/// is left there.
+pub fn to_end<'t>(end: &str, text: &'t str) -> (&'t str, &'t str)
+    ensures { (result.0.now, result.1.now) ≡ spec.to_end end.now text.now }
+{
+    match text.split_once(end) {
+        Some((inside, _)) => text.split_at(before_mark(inside).len()),
+        None => (text, ""),
+    }
+}
+
+/// The same, where `known` may be what is left at that place, from a search that began before the
+/// text: a source is searched once, however many tokens it has.
+pub fn next_end<'t>(end: &str, text: &'t str, known: &str) -> (&'t str, &'t str)
+    requires { IsKnown end.now text.now known.now }
+    ensures { (result.0.now, result.1.now) ≡ spec.to_end end.now text.now }
+{
+    if text.len() < known.len() {
+        return to_end(end, text);
+    }
+    text.split_at(text.len() - known.len())
+}
+
+/// What is left after the blanks before an end delimiter.
+pub fn past_blanks_to<'t>(end: &str, text: &'t str) -> &'t str
+    ensures value { result.now ≡ spec.past_blanks_to end.now text.now }
+    ensures no_longer { length result.now ≤ length text.now }
+{
+    let mut rest = text;
+    while let Some((byte, after)) = ascii(rest) {
+        if !is_blank(byte) {
+            break;
+        }
+        if ending(end, rest).is_some() {
+            break;
+        }
+        rest = after;
+    }
+    rest
 }
 
 /// The mark that the text ends in.

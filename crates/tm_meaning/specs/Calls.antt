@@ -1,7 +1,6 @@
 -- What a call comes to, up to the run that it needs: the meaning and the machine share it. Neither trees nor instructions stand here.
 use Rattle.std.specs.Prelude.{ℕ, zero, suc, ◌+◌, ◌-◌, ◌%◌, drop, List, [], ◌∷◌, length, map as each, Option, Some, None, Ok, Bool, true, false}
 use Rattle.std.specs.Prelude.{not, nat_eq, nat_lt, is_none, is_some, ◌&&◌, ◌||◌, slice_get, codes, if◌then◌else◌}
-use Rattle.std.specs.Ordering.{is_eq}
 use Rattle.tm_definitions.specs.Maps.{dict_of, namespace_of, keywords_of, plain_of}
 use Rattle.tm_definitions.specs.Iteration.{items_or}
 use Rattle.tm_definitions.specs.Ranges.{range_of}
@@ -9,10 +8,10 @@ use Rattle.tm_definitions.specs.Members.{macro_member, or_undefined}
 use Rattle.tm_values.specs.Truth.{is_true}
 use Rattle.tm_definitions.specs.Emitted.{text_answer}
 use Rattle.tm_values.specs.Answer.{Answer}
-use Rattle.tm_values.specs.Order.{val_cmp}
+use Rattle.tm_values.specs.Equality.{same_values}
 use Rattle.tm_values.specs.Records.{RecordData}
 use Rattle.tm_values.specs.Map.{find as find_key}
-use Rattle.tm_values.specs.Val.{MacroData, Val, undefined, boolean, text, list, map, function, macro, loop, pairs_of, vals_of, text_in}
+use Rattle.tm_values.specs.Val.{MacroData, Val, undefined, boolean, text, map, function, macro, loop, pairs_of, vals_of, text_in}
 use Rattle.tm_values.specs.declared.error.ErrorKind.{ErrorKind}
 use Rattle.tm_values.specs.declared.error.ErrorKind.TheVariants.{InvalidOperation, UnknownFilter, UnknownTest, UnknownFunction}
 use Rattle.tm_values.specs.declared.error.ErrorKind.TheVariants.{UnknownMethod, UnknownBlock, TooManyArguments, TemplateNotFound}
@@ -345,7 +344,7 @@ call_callee host (v ∷ args) w = call_value host v args w
 -- whether these arguments differ from those that were kept last
 abbrev pub is_changed : Option (List Val) → List Val → Bool
 is_changed None args = true
-is_changed (Some before) args = not (is_eq (val_cmp (list (vals_of before)) (list (vals_of args))))
+is_changed (Some before) args = not (same_values (vals_of before) (vals_of args))
 
 abbrev pub keeping : List Val → Loop → Loop
 keeping args l = if is_changed l.kept args then record l { kept = Some args } else l

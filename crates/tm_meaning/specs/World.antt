@@ -6,8 +6,7 @@ pub use Rattle.tm_syntax.specs.Named.{Named, same_name, find, put, put_each}
 use Rattle.tm_values.specs.Answer.{Answer, invalid}
 use Rattle.tm_values.specs.Map.{member}
 use Rattle.tm_values.specs.Map as maps
-use Rattle.std.specs.Ordering.{is_eq}
-use Rattle.tm_values.specs.Order.{val_cmp}
+use Rattle.tm_values.specs.Equality.{same_value}
 use Rattle.tm_values.specs.Records.{RecordData, LoopData, namespace_at}
 use Rattle.tm_values.specs.Val.{Val, undefined, boolean, text, exports, macro, namespace, loop, pairs_of}
 use Rattle.tm_values.specs.declared.error.ErrorKind.{ErrorKind}
@@ -552,7 +551,7 @@ switched_on first = first
 -- switches it off.
 abbrev pub escape_for : AutoEscape → Val → Answer AutoEscape
 escape_for first (text name safe) = escape_named name
-escape_for first v = Ok (if is_eq (val_cmp v (boolean true)) then switched_on first else escapes.None)
+escape_for first v = Ok (if same_value v (boolean true) then switched_on first else escapes.None)
 
 abbrev pub with_escape : AutoEscape → World → World
 with_escape e w = record w { escape = e }

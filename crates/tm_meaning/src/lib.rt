@@ -70,8 +70,10 @@ pub fn text_grows()
 {}
 
 /// A look-up answers by what has the name first: from the innermost scope outward its locals, its
-/// loop, its closure and its context value, and then the globals.
+/// loop, its closure and its context value, and then the globals; and what it answers is so found.
 pub fn look_up_order()
-    ensures { (view : View) (x : List ℕ) (a : Answer (Option Val)) →
+    ensures answers { (view : View) (x : List ℕ) (a : Answer (Option Val)) →
         Finds view x view.frames a → find_name view x ≡ a }
+    ensures found { (view : View) (x : List ℕ) (a : Answer (Option Val)) →
+        find_name view x ≡ a → Finds view x view.frames a }
 {}

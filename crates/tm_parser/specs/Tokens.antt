@@ -125,10 +125,11 @@ ends_part (tokens.Sign sign.Colon) = true
 ends_part (tokens.Sign sign.CloseSquare) = true
 ends_part _ = false
 
--- the reserved words that name a test: all but `not`
+-- the reserved words as names of tests
 abbrev pub test_word : Sign → Option (List ℕ)
 test_word sign.And = Some (codes "and")
 test_word sign.Or = Some (codes "or")
+test_word sign.Not = Some (codes "not")
 test_word sign.If = Some (codes "if")
 test_word sign.Else = Some (codes "else")
 test_word sign.In = Some (codes "in")

@@ -298,7 +298,7 @@ pub fn constant_of(sign: Sign) -> Option<Value>
     })
 }
 
-/// The reserved word that names a test, `not` aside.
+/// The reserved word as the name of a test.
 pub fn test_word(sign: Sign) -> Option<&'static str>
     ensures { MatchOption result (tokens.test_word sign ≡ None)
         (λ word. tokens.test_word sign ≡ Some word.now) }
@@ -306,6 +306,7 @@ pub fn test_word(sign: Sign) -> Option<&'static str>
     Some(match sign {
         Sign::And => "and",
         Sign::Or => "or",
+        Sign::Not => "not",
         Sign::If => "if",
         Sign::Else => "else",
         Sign::In => "in",
@@ -340,8 +341,7 @@ pub fn test_word(sign: Sign) -> Option<&'static str>
         | Sign::Slash
         | Sign::DoubleSlash
         | Sign::Percent
-        | Sign::DoubleStar
-        | Sign::Not => return None,
+        | Sign::DoubleStar => return None,
     })
 }
 

@@ -2,7 +2,6 @@
 ghost use Rattle.std.specs.Prelude.{◌≡◌};
 ghost use Rattle.tm_meaning.specs.World as spec;
 
-use std::cmp::Ordering;
 use tm_values::{AutoEscape, Error, ErrorKind, Value};
 
 /// The escape of a name; InvalidOperation where there is none of it.
@@ -36,8 +35,9 @@ pub fn escape_for(first: AutoEscape, value: &Value) -> Result<AutoEscape, Error>
     if let Some(name) = value.as_str() {
         return named(name);
     }
-    match value.compare(&Value::boolean(true)) {
-        Ordering::Equal => Ok(switched_on(first)),
-        _ => Ok(AutoEscape::None),
+    if *value == Value::boolean(true) {
+        Ok(switched_on(first))
+    } else {
+        Ok(AutoEscape::None)
     }
 }

@@ -3,6 +3,7 @@ pub mod Parts
 pub mod Pools
 pub mod Steps
 pub mod Runs
+pub mod Rests
 pub mod Refusals
 pub mod Literals
 pub mod Raws

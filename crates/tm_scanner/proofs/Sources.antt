@@ -14,20 +14,34 @@ use Rattle.tm_delimiters.specs.Syntax.{Syntax}
 use Rattle.tm_scanner.specs.Tokens.{Content}
 use Rattle.tm_delimiters.specs.Trimming.{trimmed}
 use Rattle.tm_delimiters.specs.Starts.{tag_start}
+use Rattle.tm_delimiters.specs.Whitespace.{to_end}
 use Rattle.tm_scanner.specs.Pieces.{raw, past_word, tag_word, IsBlockTag, IsBlockAfter, IsBlock, IsEmission, IsTag, SourcePlace, IsPiece}
 use Rattle.tm_scanner.specs.Spells.{read_of, SpellsTokens}
 use Rattle.tm_scanner.proofs.Steps.{OneStep, NoStep, joined_last, same_some, same_result, steps_last, one_end}
 use Rattle.tm_scanner.proofs.Contents.{End, one_content}
 
 -- where no content stands after the word, there is no block tag
-pub no_block : (by cs after : List ℕ) (t : Tag) → Some (t, after) ≡ tag_word cs →
-    ((ts : List Token) (e : End) → Content by after ts e → ⊥) → (ts : List Token) (e : End) → IsBlockTag by cs ts e → ⊥
-no_block by cs after t e none ts end h =
-    let same : h.0 ≡ (t, after) = same_some h.0 (t, after) (sym (e ∙ h.1)) in
-    none h.2 end (subst (λ (w : Tag × List ℕ). Content by w.1 h.2 end) same h.3)
+pub no_block : (by cs left rest : List ℕ) (t : Tag) → Some (t, left) ≡ tag_word (to_end by cs).0 → rest ≡ left ++ (to_end by cs).1 →
+    ((ts : List Token) (e : End) → Content by rest ts e → ⊥) → (ts : List Token) (e : End) → IsBlockTag by cs ts e → ⊥
+no_block by cs left rest t e same none ts end h =
+    let word : h.0 ≡ (t, left) = same_some h.0 (t, left) (sym (e ∙ h.1)) in
+    none h.2 end (subst (λ (w : List ℕ). Content by w h.2 end)
+    (ap (λ (w : Tag × List ℕ). w.1 ++ (to_end by cs).1) word ∙ sym same) h.3)
+
+pub a_block : (by cs left rest : List ℕ) (t : Tag) (inside old some more all : List Token) (e : End) →
+    Some (t, left) ≡ tag_word (to_end by cs).0 → rest ≡ left ++ (to_end by cs).1 → Content by rest inside e →
+    some ≡ old ++ tokens.Tag t ∷ [] → more ≡ some ++ inside → all ≡ more ++ tokens.Sign sign.BlockEnd ∷ [] →
+    (ts : List Token) × IsBlockTag by cs ts e × (all ≡ old ++ ts)
+a_block by cs left rest t inside old some more all e word same content begun added ended =
+    let last : List Token = tokens.Sign sign.BlockEnd ∷ [] in (
+      tokens.Tag t ∷ (inside ++ last),
+      ((t, left), sym word, inside, subst (λ (w : List ℕ). Content by w inside e) same content, refl),
+      ended ∙ ap (λ w. w ++ last) (added ∙ ap (λ w. w ++ inside) begun) ∙ append_assoc (old ++ tokens.Tag t ∷ []) inside last
+          ∙ append_assoc old (tokens.Tag t ∷ []) (inside ++ last),
+    )
 
 -- where no block stands after what the word `raw` leaves, there is none
-pub no_block_after : (s : Syntax) (cs : List ℕ) (o : Option (List ℕ)) → o ≡ past_word (codes "raw") cs →
+pub no_block_after : (s : Syntax) (cs : List ℕ) (o : Option (List ℕ)) → o ≡ past_word s.block_end (codes "raw") cs →
     ((ts : List Token) (e : End) → IsBlockAfter s o cs ts e → ⊥) → (ts : List Token) (e : End) → IsBlock s cs ts e → ⊥
 no_block_after s cs o same none ts e h = none ts e (subst (λ (w : Option (List ℕ)). IsBlockAfter s w cs ts e) (sym same) h)
 
@@ -39,7 +53,8 @@ one_emission by cs ts us r t h k =
 one_block_tag : (by cs : List ℕ) (ts us : List Token) (r t : End) → IsBlockTag by cs ts r → IsBlockTag by cs us t → (ts ≡ us) × (r ≡ t)
 one_block_tag by cs ts us r t h k =
     let word : k.0 ≡ h.0 = same_some k.0 h.0 (sym k.1 ∙ h.1) in
-    let same = one_content by h.0.1 h.2 k.2 r t h.3 (subst (λ (w : Tag × List ℕ). Content by w.1 k.2 t) word k.3) in (
+    let same = one_content by (h.0.1 ++ (to_end by cs).1) h.2 k.2 r t h.3
+    (subst (λ (w : Tag × List ℕ). Content by (w.1 ++ (to_end by cs).1) k.2 t) word k.3) in (
       h.4 ∙ ap (λ (w : List Token). tokens.Tag h.0.0 ∷ (w ++ tokens.Sign sign.BlockEnd ∷ [])) same.0
           ∙ ap (λ (w : Tag × List ℕ). tokens.Tag w.0 ∷ (k.2 ++ tokens.Sign sign.BlockEnd ∷ [])) (sym word) ∙ sym k.4,
       same.1,
@@ -54,7 +69,7 @@ one_block_after s (Some rest) cs ts us r t h k =
 
 one_tag : (s : Syntax) (x : Kind) (cs : List ℕ) (ts us : List Token) (r t : End) → IsTag s x cs ts r → IsTag s x cs us t →
     (ts ≡ us) × (r ≡ t)
-one_tag s kind.Block cs ts us r t h k = one_block_after s (past_word (codes "raw") cs) cs ts us r t h k
+one_tag s kind.Block cs ts us r t h k = one_block_after s (past_word s.block_end (codes "raw") cs) cs ts us r t h k
 one_tag s kind.Variable cs ts us r t h k = one_emission s.variable_end cs ts us r t h k
 one_tag s kind.Comment cs ts us r t h k = (h.0 ∙ sym k.0, same_some r t (sym h.1 ∙ k.1))
 

@@ -1,5 +1,5 @@
 -- The pieces of a source: each a raw text and the tag after it.
-use Rattle.std.specs.Prelude.{◌≡◌, ℕ, List, [], ◌∷◌, ◌++◌, Option, Some, None, codes, if◌then◌else◌}
+use Rattle.std.specs.Prelude.{◌≡◌, ℕ, List, [], ◌∷◌, ◌++◌, Option, Some, None, nat_eq, ◌||◌, codes, if◌then◌else◌}
 use Rattle.std.specs.Str.{chars}
 use Rattle.tm_syntax.specs.declared.token.Token.{Token}
 use Rattle.tm_syntax.specs.declared.token.Token.TheVariants as tokens
@@ -9,10 +9,10 @@ use Rattle.tm_delimiters.specs.declared.syntax.Kind.{Kind}
 use Rattle.tm_delimiters.specs.declared.syntax.Kind.TheVariants as kind
 use Rattle.tm_delimiters.specs.declared.whitespace.Whitespace.{Whitespace}
 use Rattle.tm_delimiters.specs.declared.trimming.Side.{Side}
-use Rattle.tm_delimiters.specs.Front.{◌>>=◌, after, first_of, past_blanks}
+use Rattle.tm_delimiters.specs.Front.{◌>>=◌, after, ascii, first_of, past_blanks}
 use Rattle.tm_scanner.specs.Names.{leaves_name, name_at, tag_of}
 use Rattle.tm_delimiters.specs.Syntax.{Syntax}
-use Rattle.tm_delimiters.specs.Whitespace.{whitespace_at, ending, comment_end}
+use Rattle.tm_delimiters.specs.Whitespace.{whitespace_at, ending, ends_here, to_end, past_blanks_to, comment_end}
 use Rattle.tm_delimiters.specs.Trimming.{trimmed}
 use Rattle.tm_delimiters.specs.Starts.{tag_start}
 use Rattle.tm_scanner.specs.Tokens.{Content}
@@ -22,16 +22,25 @@ abbrev pub raw : List ℕ → List Token
 raw [] = []
 raw (c ∷ cs) = tokens.Raw (c ∷ cs) ∷ []
 
--- what is left after blanks and a word with which no longer name begins
-abbrev pub past_word : List ℕ → List ℕ → Option (List ℕ)
-past_word word cs = after word (past_blanks cs) >>= (λ rest. if leaves_name (chars rest) then Some rest else None)
+-- what is left after letters, at none of which a tag ends
+abbrev pub past_letters : List ℕ → List ℕ → List ℕ → Option (List ℕ)
+past_letters by [] cs = Some cs
+past_letters by (w ∷ ws) cs = do
+  x ← ascii cs
+  if nat_eq x.0 w then (if ends_here by cs then None else past_letters by ws x.1) else None
+
+-- what is left after blanks and a word, where the tag or the name ends
+abbrev pub past_word : List ℕ → List ℕ → List ℕ → Option (List ℕ)
+past_word by word cs =
+    past_letters by word (past_blanks_to by cs)
+    >>= (λ rest. if ends_here by rest || leaves_name (chars rest) then Some rest else None)
 
 -- an `endraw` tag at the front: the mark at its start, the mark at its end, and what is left
 abbrev pub endraw : Syntax → List ℕ → Option (Whitespace × (Whitespace × List ℕ))
 endraw s cs = do
   inside ← after s.block_start cs
-  rest ← past_word (codes "endraw") (whitespace_at inside).1
-  end ← ending s.block_end (past_blanks rest)
+  rest ← past_word s.block_end (codes "endraw") (whitespace_at inside).1
+  end ← ending s.block_end (past_blanks_to s.block_end rest)
   Some ((whitespace_at inside).0, end)
 
 -- one side of a block tag
@@ -41,7 +50,7 @@ block_side w = Some (record { kind = kind.Block; whitespace = w })
 -- After the word `raw`, what is left of the text up to the first `endraw` tag, and how that tag ends.
 abbrev pub raw_block : Syntax → List ℕ → Option (List ℕ × (Whitespace × List ℕ))
 raw_block s cs = do
-  opened ← ending s.block_end (past_blanks cs)
+  opened ← ending s.block_end (past_blanks_to s.block_end cs)
   closed ← first_of (endraw s) opened.1
   Some (trimmed s (block_side opened.0) (block_side closed.1.0) closed.0, closed.1.1)
 
@@ -57,7 +66,8 @@ tag_word cs = do
 
 abbrev pub IsBlockTag : List ℕ → List ℕ → List Token → Whitespace × List ℕ → Type 0
 IsBlockTag by cs ts end =
-    (word : Tag × List ℕ) × (tag_word cs ≡ Some word) × (inside : List Token) × Content by word.1 inside end
+    (word : Tag × List ℕ) × (tag_word (to_end by cs).0 ≡ Some word) × (inside : List Token)
+    × Content by (word.1 ++ (to_end by cs).1) inside end
     × (ts ≡ tokens.Tag word.0 ∷ (inside ++ tokens.Sign sign.BlockEnd ∷ []))
 
 -- A block begins with the word `raw` or is a block tag.
@@ -66,7 +76,7 @@ IsBlockAfter s None cs ts end = IsBlockTag s.block_end cs ts end
 IsBlockAfter s (Some rest) cs ts end = IsRawBlock s rest ts end
 
 abbrev pub IsBlock : Syntax → List ℕ → List Token → Whitespace × List ℕ → Type 0
-IsBlock s cs ts end = IsBlockAfter s (past_word (codes "raw") cs) cs ts end
+IsBlock s cs ts end = IsBlockAfter s (past_word s.block_end (codes "raw") cs) cs ts end
 
 abbrev pub IsEmission : List ℕ → List ℕ → List Token → Whitespace × List ℕ → Type 0
 IsEmission by cs ts end =

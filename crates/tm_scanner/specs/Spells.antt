@@ -38,7 +38,7 @@ SpellsTokens s source ts =
 pub record Reads (rest : List ℕ) (t : Token) (left : List ℕ) : Type 0 where
   pub goes_on : rest ≡ [] → ⊥
   pub next : List ℕ
-  pub token : IsToken rest t next
+  pub token : IsToken (rest, []) t next
   pub blanks : left ≡ past_blanks next
 
 -- An expression's source is tokens up to its end, with blanks around them.

@@ -1,5 +1,5 @@
 -- The tokens of a tag's content.
-use Rattle.std.specs.Prelude.{◌≡◌, ℕ, zero, suc, ◌-◌, nat_lt, pos, List, [], ◌∷◌, Option, Some, None, option_map, if◌then◌else◌, codes}
+use Rattle.std.specs.Prelude.{◌≡◌, ℕ, zero, suc, ◌-◌, nat_lt, pos, List, [], ◌∷◌, ◌++◌, Option, Some, None, option_map, if◌then◌else◌, codes}
 use Rattle.std.specs.Option.{option_or, unwrap_or}
 use Rattle.tm_values.specs.Val as val
 use Rattle.tm_syntax.specs.declared.token.Token.{Token}
@@ -9,7 +9,7 @@ use Rattle.tm_syntax.specs.declared.token.Sign.TheVariants as sign
 use Rattle.tm_scanner.specs.declared.texts.Quote.{Quote}
 use Rattle.tm_delimiters.specs.declared.whitespace.Whitespace.{Whitespace}
 use Rattle.tm_delimiters.specs.Front.{after, past_blanks}
-use Rattle.tm_delimiters.specs.Whitespace.{ending}
+use Rattle.tm_delimiters.specs.Whitespace.{ending, to_end, past_blanks_to}
 use Rattle.tm_scanner.specs.Steps.{Steps}
 use Rattle.tm_scanner.specs.Names.{name_at, reserved}
 use Rattle.tm_scanner.specs.Numbers.{number, starts_number}
@@ -53,13 +53,13 @@ plain cs =
     then option_map (λ x. (tokens.Literal (val.number (pos x.0)), x.1)) (number cs)
     else option_or (option_map (λ x. (tokens.Sign x.0, x.1)) (mark cs)) (word cs)
 
-abbrev pub IsTokenAfter : Option (Quote × List ℕ) → List ℕ → Token → List ℕ → Type 0
-IsTokenAfter None cs t rest = plain cs ≡ Some (t, rest)
-IsTokenAfter (Some x) cs t rest = (v : val.Val) × IsLiteral x.0 x.1 v rest × (t ≡ tokens.Literal v)
+abbrev pub IsTokenAfter : Option (Quote × List ℕ) → List ℕ × List ℕ → Token → List ℕ → Type 0
+IsTokenAfter None x t rest = (left : List ℕ) × (plain x.0 ≡ Some (t, left)) × (rest ≡ left ++ x.1)
+IsTokenAfter (Some q) x t rest = (v : val.Val) × IsLiteral q.0 q.1 v rest × (t ≡ tokens.Literal v)
 
--- the token at the front, and what is left after it
-abbrev pub IsToken : List ℕ → Token → List ℕ → Type 0
-IsToken cs t rest = IsTokenAfter (quote_at cs) cs t rest
+-- The token at the front of two parts, and what is left after it. Only a text goes on into the second part.
+abbrev pub IsToken : List ℕ × List ℕ → Token → List ℕ → Type 0
+IsToken x t rest = IsTokenAfter (quote_at (x.0 ++ x.1)) x t rest
 
 -- one bracket more, up to 150
 abbrev pub deeper : ℕ → Option ℕ
@@ -85,16 +85,26 @@ abbrev pub past_end : List ℕ → List ℕ → ℕ → Option (Whitespace × Li
 past_end by rest zero = ending by rest
 past_end by rest (suc depth) = None
 
+-- What stands before the first place where the tag's end stands and no bracket is open, and what is left there.
+abbrev pub split_at_end : List ℕ → ℕ → List ℕ → List ℕ × List ℕ
+split_at_end by zero cs = to_end by cs
+split_at_end by (suc depth) cs = (cs, [])
+
+-- what is left after blanks before that place
+abbrev pub past_blanks_at : List ℕ → ℕ → List ℕ → List ℕ
+past_blanks_at by zero cs = past_blanks_to by cs
+past_blanks_at by (suc depth) cs = past_blanks cs
+
 -- a token, where the content doesn't end, and the blanks after it
 pub record Passes (by : List ℕ) (s : ContentPlace) (t : Token) (u : ContentPlace) : Type 0 where
   pub goes_on : past_end by s.rest s.depth ≡ None
   pub next : List ℕ
-  pub token : IsToken s.rest t next
+  pub token : IsToken (split_at_end by s.depth s.rest) t next
   pub depth : depth_after t s.depth ≡ Some u.depth
-  pub rest : u.rest ≡ past_blanks next
+  pub rest : u.rest ≡ past_blanks_at by u.depth next
 
 -- The content of a tag is these tokens, up to its end: the mark there, and what is left after it.
 abbrev pub Content : List ℕ → List ℕ → List Token → Whitespace × List ℕ → Type 0
 Content by cs ts end =
-    (at_end : ContentPlace) × Steps (Passes by) (record { rest = past_blanks cs; depth = 0 }) ts at_end
+    (at_end : ContentPlace) × Steps (Passes by) (record { rest = past_blanks_to by cs; depth = 0 }) ts at_end
     × (past_end by at_end.rest at_end.depth ≡ Some end)

@@ -21,7 +21,7 @@ pub fn scan_expr(alloc: Global, source: &str) -> Result<Vec<Token>, Error>
     let mut tokens = Vec::new(alloc);
     let mut rest = past_blanks(source);
     while !rest.is_empty() {
-        let (token, after) = token(alloc, &mut names, rest)?;
+        let (token, after) = token(alloc, &mut names, rest, rest, "")?;
         tokens.push(token)?;
         rest = past_blanks(after);
     }

@@ -3,7 +3,7 @@ ghost use Rattle.std.specs.Prelude.{◌≡◌, ◌<◌, ◌≤◌, ◌++◌, ℕ
 ghost use Rattle.tm_scanner.specs.Pieces as spec;
 ghost use Rattle.tm_scanner.specs.Refuses.{Refuses};
 ghost use Rattle.tm_delimiters.specs.Syntax.{HasAll};
-ghost use Rattle.tm_delimiters.specs.Views.{Shortens, step_of, place_of};
+ghost use Rattle.tm_delimiters.specs.Views.{IsRest, step_of, place_of};
 ghost use Rattle.tm_scanner.specs.Views.{Adds, IsNoLonger};
 ghost use Rattle.tm_values.specs.declared.error.ErrorKind.TheVariants.{OutOfMemory};
 
@@ -11,10 +11,10 @@ use crate::name_pool::NamePool;
 use crate::names::{name_at, tag_of};
 use crate::raw::{past_word, raw_block};
 use crate::shared_source::SharedSource;
-use crate::tokens::content;
+use crate::tokens::{content, last_parts};
 use std::alloc::Global;
 use tm_delimiters::front::past_blanks;
-use tm_delimiters::{Kind, Part, SyntaxConfig, Whitespace, comment_end};
+use tm_delimiters::{Kind, Part, SyntaxConfig, Whitespace, comment_end, to_end};
 use tm_syntax::{Sign, Tag, Token};
 use tm_values::{Error, ErrorKind};
 
@@ -53,7 +53,8 @@ fn emission<'s>(
     ensures refused { Refuses result (spec.IsEmission by.now text.now) }
 {
     tokens.push(Token::Sign(Sign::VariableStart))?;
-    let end = content(alloc, names, by, text, tokens)?;
+    let (_, back) = to_end(by, text);
+    let end = content(alloc, names, by, text, back, tokens)?;
     tokens.push(Token::Sign(Sign::VariableEnd))?;
     Ok(end)
 }
@@ -61,7 +62,7 @@ fn emission<'s>(
 /// The word of a block tag, and what is left after it.
 fn tag_word(text: &str) -> Option<(Tag, &str)>
     ensures value { step_of result ≡ spec.tag_word text.now }
-    ensures shorter { Shortens result text.now }
+    ensures rest { IfSome result (λ x. IsRest x.1.now text.now) }
 {
     let (name, rest) = name_at(past_blanks(text))?;
     Some((tag_of(name)?, rest))
@@ -83,11 +84,12 @@ fn block_tag<'s>(
     ensures no_longer { IsNoLonger result text.now }
     ensures refused { Refuses result (spec.IsBlockTag by.now text.now) }
 {
-    let Some((tag, rest)) = tag_word(text) else {
+    let (front, back) = to_end(by, text);
+    let Some((tag, left)) = tag_word(front) else {
         return Err(Error::from(ErrorKind::SyntaxError));
     };
     tokens.push(Token::Tag(tag))?;
-    let end = content(alloc, names, by, rest, tokens)?;
+    let end = content(alloc, names, by, last_parts(text, left, back), back, tokens)?;
     tokens.push(Token::Sign(Sign::BlockEnd))?;
     Ok(end)
 }
@@ -132,9 +134,10 @@ fn block<'s>(
     ensures no_longer { IsNoLonger result text.now }
     ensures refused { Refuses result (spec.IsBlock syntax.now text.now) }
 {
-    match past_word("raw", text) {
+    let by = syntax.end(Kind::Block);
+    match past_word(by, "raw", text) {
         Some(rest) => raw_text(alloc, syntax, source, rest, tokens),
-        None => block_tag(alloc, names, syntax.end(Kind::Block), text, tokens),
+        None => block_tag(alloc, names, by, text, tokens),
     }
 }
 

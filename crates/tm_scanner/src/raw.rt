@@ -8,18 +8,39 @@ ghost use Rattle.tm_scanner.specs.Views.{closing_of, closed_of, block_of};
 
 use crate::names::leaves_name;
 use crate::shared_source::SharedSource;
-use tm_delimiters::front::{past_blanks, strip};
+use tm_delimiters::front::{ascii, strip};
 use tm_delimiters::{
-    Kind, Part, Side, SyntaxConfig, Whitespace, ending, next_start, trimmed, whitespace_at,
+    Kind, Part, Side, SyntaxConfig, Whitespace, ending, next_start, past_blanks_to, trimmed,
+    whitespace_at,
 };
 
-/// What is left after blanks and a word with which no longer name begins.
-pub(crate) fn past_word<'t>(word: &str, text: &'t str) -> Option<&'t str>
-    ensures value { place_of result ≡ spec.past_word word.now text.now }
+/// What is left after letters, at none of which a tag ends.
+fn past_letters<'t>(by: &str, letters: &[u8], text: &'t str) -> Option<&'t str>
+    ensures value { place_of result ≡ spec.past_letters by.now letters.now text.now }
     ensures no_longer { IfSome result (λ rest. length rest.now ≤ length text.now) }
 {
-    let rest = strip(past_blanks(text), word)?;
-    if leaves_name(rest) { Some(rest) } else { None }
+    let mut rest = text;
+    for letter in letters {
+        let (byte, after) = ascii(rest)?;
+        if byte != *letter || ending(by, rest).is_some() {
+            return None;
+        }
+        rest = after;
+    }
+    Some(rest)
+}
+
+/// What is left after blanks and a word, where the tag or the name ends.
+pub(crate) fn past_word<'t>(by: &str, word: &str, text: &'t str) -> Option<&'t str>
+    ensures value { place_of result ≡ spec.past_word by.now word.now text.now }
+    ensures no_longer { IfSome result (λ rest. length rest.now ≤ length text.now) }
+{
+    let rest = past_letters(by, word.as_bytes(), past_blanks_to(by, text))?;
+    if ending(by, rest).is_some() || leaves_name(rest) {
+        Some(rest)
+    } else {
+        None
+    }
 }
 
 /// An `endraw` tag at the front: the mark at its start, and its end.
@@ -29,8 +50,9 @@ fn endraw<'s>(syntax: &SyntaxConfig, text: &'s str) -> Option<(Whitespace, (Whit
 {
     let after = strip(text, syntax.start(Kind::Block))?;
     let (whitespace, inside) = whitespace_at(after);
-    let rest = past_word("endraw", inside)?;
-    let end = ending(syntax.end(Kind::Block), past_blanks(rest))?;
+    let by = syntax.end(Kind::Block);
+    let rest = past_word(by, "endraw", inside)?;
+    let end = ending(by, past_blanks_to(by, rest))?;
     Some((whitespace, end))
 }
 
@@ -68,7 +90,8 @@ pub(crate) fn raw_block<'s>(
     ensures no_longer { IfSome result (λ x. length x.2.now ≤ length text.now) }
 {
     let kind = Kind::Block;
-    let (opened, body) = ending(syntax.end(kind), past_blanks(text))?;
+    let by = syntax.end(kind);
+    let (opened, body) = ending(by, past_blanks_to(by, text))?;
     let (inside, (closed, (end, rest))) = to_endraw(syntax, body)?;
     let before = Some(Side {
         kind,

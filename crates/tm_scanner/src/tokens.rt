@@ -1,9 +1,9 @@
 //! The tokens of a tag's content.
-ghost use Rattle.std.specs.Prelude.{◌≡◌, ◌<◌, ◌≤◌, ℕ, List, length, IfOk, IfErr, IfSome, None, Some};
+ghost use Rattle.std.specs.Prelude.{◌≡◌, ◌<◌, ◌≤◌, ◌++◌, ℕ, List, length, IfOk, IfErr, IfSome, None, Some};
 ghost use Rattle.tm_scanner.specs.Refuses.{Refuses};
 ghost use Rattle.tm_values.specs.Answer.{Refused};
 ghost use Rattle.tm_scanner.specs.Tokens as spec;
-ghost use Rattle.tm_delimiters.specs.Views.{Shortens, step_of, place_of};
+ghost use Rattle.tm_delimiters.specs.Views.{IsKnown, IsRest, Shortens, step_of, place_of};
 ghost use Rattle.tm_scanner.specs.Views.{Adds, IsNoLonger};
 
 use crate::name_pool::NamePool;
@@ -12,7 +12,7 @@ use crate::numbers::{number, starts_number};
 use crate::texts::{literal, quote_at};
 use std::alloc::Global;
 use tm_delimiters::front::{ascii, past_blanks, strip};
-use tm_delimiters::{Whitespace, ending};
+use tm_delimiters::{Whitespace, ending, next_end, past_blanks_to};
 use tm_syntax::{Sign, Token};
 use tm_values::{Error, ErrorKind, Value};
 
@@ -99,24 +99,41 @@ fn plain<'t>(alloc: Global, names: &mut NamePool, text: &'t str) -> Result<(Toke
     }
 }
 
-/// The token at the front, and what is left after it.
+/// A text's last two parts, found by their lengths.
+#[inline(always)]
+pub(crate) fn last_parts<'t>(text: &'t str, left: &str, back: &str) -> &'t str
+    requires { IsRest (left.now ++ back.now) text.now }
+    ensures { result.now ≡ left.now ++ back.now }
+{
+    &text[text.len() - (left.len() + back.len())..]
+}
+
+/// The token at the front of a text of two parts, and what is left after it. Only a text in quotes
+/// goes on into the second part.
 ///
 /// SyntaxError where none stands there, OutOfMemory.
 pub(crate) fn token<'t>(
     alloc: Global,
     names: &mut NamePool,
     text: &'t str,
+    front: &str,
+    back: &str,
 ) -> Result<(Token, &'t str), Error>
-    ensures found { IfOk result (λ x. spec.IsToken text.now x.0 x.1.now) }
+    requires { text.now ≡ front.now ++ back.now }
+    ensures found { IfOk result (λ x. spec.IsToken (front.now, back.now) x.0 x.1.now) }
+    ensures rest { IfOk result (λ x. IsRest x.1.now text.now) }
     ensures shorter { IfOk result (λ x. length x.1.now < length text.now) }
-    ensures refused { Refuses result (spec.IsToken text.now) }
+    ensures refused { Refuses result (spec.IsToken (front.now, back.now)) }
 {
     match quote_at(text) {
         Some((quote, after)) => {
             let (value, rest) = literal(alloc, quote, after)?;
             Ok((Token::Literal(value), rest))
         }
-        None => plain(alloc, names, text),
+        None => {
+            let (token, left) = plain(alloc, names, front)?;
+            Ok((token, last_parts(text, left, back)))
+        }
     }
 }
 
@@ -184,7 +201,41 @@ fn past_end<'t>(by: &str, depth: usize, rest: &'t str) -> Option<(Whitespace, &'
     if depth == 0 { ending(by, rest) } else { None }
 }
 
-/// Adds the tokens of a tag's content; the tag's end.
+/// What stands before the first place where the tag's end stands and no bracket is open, what is
+/// left there, and what is known of the tag's end from then on.
+fn split_at_end<'t>(
+    by: &str,
+    depth: usize,
+    rest: &'t str,
+    known: &'t str,
+) -> (&'t str, &'t str, &'t str)
+    requires { IsKnown by.now rest.now known.now }
+    ensures value { (result.0.now, result.1.now) ≡ spec.split_at_end by.now depth rest.now }
+    ensures parts { rest.now ≡ result.0.now ++ result.1.now }
+    ensures known { IsKnown by.now rest.now result.2.now }
+{
+    if depth == 0 {
+        let (front, back) = next_end(by, rest, known);
+        (front, back, back)
+    } else {
+        (rest, "", known)
+    }
+}
+
+/// What is left after the blanks before that place.
+fn past_blanks_at<'t>(by: &str, depth: usize, text: &'t str) -> &'t str
+    ensures value { result.now ≡ spec.past_blanks_at by.now depth text.now }
+    ensures rest { IsRest result.now text.now }
+    ensures no_longer { length result.now ≤ length text.now }
+{
+    if depth == 0 {
+        past_blanks_to(by, text)
+    } else {
+        past_blanks(text)
+    }
+}
+
+/// Adds the tokens of a tag's content, of whose end something may be known; the tag's end.
 ///
 /// SyntaxError where the content has something that is no token, or no end; OutOfMemory.
 pub(crate) fn content<'t>(
@@ -192,24 +243,29 @@ pub(crate) fn content<'t>(
     names: &mut NamePool,
     by: &str,
     text: &'t str,
+    known: &'t str,
     tokens: &mut Vec<Token>,
 ) -> Result<(Whitespace, &'t str), Error>
+    requires { IsKnown by.now text.now known.now }
     ensures found { Adds result tokens.old.items tokens.new.items (spec.Content by.now text.now) }
     ensures no_longer { IsNoLonger result text.now }
     ensures refused { Refuses result (spec.Content by.now text.now) }
 {
     let mut depth = 0;
-    let mut rest = past_blanks(text);
+    let mut known = known;
+    let mut rest = past_blanks_at(by, depth, text);
     'next: loop {
         if let Some(end) = past_end(by, depth, rest) {
             return Ok(end);
         }
-        let (token, after) = token(alloc, names, rest)?;
+        let (front, back, end) = split_at_end(by, depth, rest, known);
+        let (token, after) = token(alloc, names, rest, front, back)?;
         let Some(deeper) = depth_after(&token, depth) else {
             return Err(Error::from(ErrorKind::SyntaxError));
         };
         tokens.push(token)?;
         depth = deeper;
-        rest = past_blanks(after);
+        known = end;
+        rest = past_blanks_at(by, depth, after);
     }
 }

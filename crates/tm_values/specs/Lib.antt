@@ -4,8 +4,10 @@ pub mod Name
 pub mod Val
 pub mod Plain
 pub mod Order
+pub mod Equality
 pub mod Comparing
 pub mod Total
+pub mod Agreement
 pub mod Map
 pub mod Code
 pub mod MacroView

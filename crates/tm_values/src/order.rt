@@ -2,8 +2,9 @@
 ghost use Rattle.std.specs.Cmp.{IsTotalOrder};
 ghost use Rattle.std.specs.Prelude.{◌≡◌, Bool, false};
 ghost use Rattle.tm_values.specs.Order.{val_cmp, vals_cmp, pairs_cmp, macro_against, record_cmp, function_in, state_in, record_in};
-ghost use Rattle.std.specs.Ordering.{eq_by_cmp, is_eq};
-ghost use Rattle.tm_values.specs.Val.{Val, text, list, boolean, number, whole_of, vals_of, pairs_of};
+ghost use Rattle.std.specs.Ordering.{is_eq};
+ghost use Rattle.tm_values.specs.Equality.{same_value, same_values};
+ghost use Rattle.tm_values.specs.Val.{Val, text, boolean, number, whole_of, vals_of, pairs_of};
 
 use crate::comparing::compare_by_list;
 use crate::macros::Macro;
@@ -111,7 +112,7 @@ pub(crate) fn compare_macro(left: &Macro, right: &Value) -> Ordering
 
 /// Whether there are as many values on both sides, each equal to the other side's.
 pub fn same_items(left: &[Value], right: &[Value]) -> bool
-    ensures { result ≡ is_eq (val_cmp (list (vals_of left.now)) (list (vals_of right.now))) }
+    ensures { result ≡ same_values (vals_of left.now) (vals_of right.now) }
 {
     compare_items(left, right, NATIVE_LEVELS) == Ordering::Equal
 }
@@ -162,15 +163,12 @@ fn compare_pairs(left: &[(Value, Value)], right: &[(Value, Value)], levels: usiz
 }
 
 impl PartialEq for Value {
-    ghost use Rattle.std.specs.Ordering.{eq_by_cmp};
-    ghost use Rattle.std.specs.Cmp.{partial_equiv_from_equiv};
-    ghost use Rattle.std.proofs.lemmas.Cmp.{eq_by_cmp_equiv};
-    ghost use Rattle.tm_values.specs.Order.{val_cmp};
-    ghost use Rattle.tm_values.specs.Total.{val_cmp_total};
+    ghost use Rattle.tm_values.specs.Agreement.{same_value_partial};
+    ghost use Rattle.tm_values.specs.Equality.{same_value};
 
-    ghost eq = { eq_by_cmp val_cmp };
+    ghost eq = { same_value };
 
-    ghost laws = { partial_equiv_from_equiv (eq_by_cmp_equiv val_cmp_total) };
+    ghost laws = { same_value_partial };
 
     fn eq(&self, other: &Value) -> bool {
         self.compare(other) == Ordering::Equal
@@ -178,22 +176,19 @@ impl PartialEq for Value {
 }
 
 impl Eq for Value {
-    ghost use Rattle.std.proofs.lemmas.Cmp.{eq_by_cmp_equiv};
-    ghost use Rattle.tm_values.specs.Total.{val_cmp_total};
+    ghost use Rattle.tm_values.specs.Agreement.{same_value_equiv};
 
-    ghost laws = { eq_by_cmp_equiv val_cmp_total };
+    ghost laws = { same_value_equiv };
 }
 
 impl PartialOrd for Value {
-    ghost use Rattle.std.proofs.Common.{refl};
-    ghost use Rattle.std.specs.Cmp.{partial_order_from_agreeing_total};
     ghost use Rattle.std.specs.Ordering.{as_partial_cmp};
+    ghost use Rattle.tm_values.specs.Agreement.{val_cmp_partial};
     ghost use Rattle.tm_values.specs.Order.{val_cmp};
-    ghost use Rattle.tm_values.specs.Total.{val_cmp_total};
 
     ghost partial_cmp = { as_partial_cmp val_cmp };
 
-    ghost laws = { partial_order_from_agreeing_total val_cmp val_cmp_total (λ x y. refl) (λ x y. refl) };
+    ghost laws = { val_cmp_partial };
 
     fn partial_cmp(&self, other: &Value) -> Option<Ordering> {
         Some(self.compare(other))
@@ -202,6 +197,7 @@ impl PartialOrd for Value {
 
 impl Ord for Value {
     ghost use Rattle.std.proofs.Common.{refl};
+    ghost use Rattle.tm_values.specs.Agreement.{values_agree};
     ghost use Rattle.tm_values.specs.Order.{val_cmp};
     ghost use Rattle.tm_values.specs.Total.{val_cmp_total};
 
@@ -211,17 +207,17 @@ impl Ord for Value {
 
     ghost matches_partial_cmp = { λ x y. refl };
 
-    ghost matches_eq = { λ x y. refl };
+    ghost matches_eq = { values_agree };
 
     fn cmp(&self, other: &Value) -> Ordering {
         self.compare(other)
     }
 }
 
-/// The order of values is total, it agrees with equality, and truth values stand in it as 0 and 1.
+/// The order of values is total, equality agrees with it, and truth values stand in it as 0 and 1.
 pub fn order_law()
     ensures total { IsTotalOrder val_cmp }
-    ensures equality { (a b : Val) → eq_by_cmp val_cmp a b ≡ is_eq (val_cmp a b) }
+    ensures equality { (a b : Val) → same_value a b ≡ is_eq (val_cmp a b) }
     ensures truth { (b : Bool) (v : Val) → val_cmp (boolean b) v ≡ val_cmp (number (whole_of b)) v }
     ensures truth_after { (b : Bool) (v : Val)
         → val_cmp v (boolean b) ≡ val_cmp v (number (whole_of b)) }

@@ -8,7 +8,7 @@ use tm_compiler::{SyntaxConfig, Tree, parse};
 use tm_values::{Error, ErrorKind};
 
 /// What a source is compiled to.
-static EXPRESSIONS_AND_STATEMENTS: [&str; 118] = [
+static EXPRESSIONS_AND_STATEMENTS: [&str; 122] = [
     "{# c #} =>",
     "{{ \"}}\" }}\n => #}} emit",
     "{{ a == none }} => $a #none == emit",
@@ -32,6 +32,10 @@ static EXPRESSIONS_AND_STATEMENTS: [&str; 118] = [
     "{{ a.b.m(1, k=c)[0] }} => $a .b #1 #k $c named:1 method:m3 #0 item emit",
     "{{ a|f(b)|g|f is f }} => $a $b filter:f2@0 filter:g1@1 filter:f1@0 test:f1@0 emit",
     "{{ a is not f is g is f }} => $a test:f1@0 not test:g1@1 test:f1@0 emit",
+    "{{ 1 is in }}{{ 1 is not in }} => #1 test:in1@0 emit #1 test:in1@0 not emit",
+    "{{ 1 is not not }} => #1 test:not1@0 not emit",
+    "{{ 1 is not not 3 }} => #1 #3 test:not2@0 not emit",
+    "{{ 1 is not not not in a is not not }} => #1 test:not1@0 not $a test:not1@0 not in not emit",
     "{{ a|f|g }}{% block x %}{{ a|g }}{% endblock %} => $a filter:f1@0 filter:g1@1 emit block:x | x $a filter:g1@0 emit",
     "{% do a.m(1) %} => $a #1 method:m2 drop",
     "{{ f(b=1,) }} => #b #1 named:1 call:f1 emit",
@@ -209,7 +213,7 @@ fn sources_have_their_code(rt: HostRuntime) -> Result<(), Fail> {
 }
 
 /// What spells no template.
-static REFUSED: [&str; 163] = [
+static REFUSED: [&str; 166] = [
     "a{#",
     "{{ \"a }}",
     "{{ 1.5 }}",
@@ -298,6 +302,9 @@ static REFUSED: [&str; 163] = [
     "{{ a if b else c else d }}",
     "{{ if a }}",
     "{{ not in }}",
+    "{{ 1 is not }}",
+    "{{ a %}}",
+    "{{ 1 is not not not }}",
     "{{ - }}",
     "{{ { a } }}",
     "{{ }}",

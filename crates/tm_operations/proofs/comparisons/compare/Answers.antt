@@ -1,4 +1,5 @@
 use Rattle.std.proofs.Common.{rules}
+use Rattle.tm_definitions.proofs.ByOrder.{met-by_order}
 use Rattle.tm_operations.proofs.comparisons.compare.Goals as goal
 
 pub returns-in_err-check_defined : goal.returns-in_err-check_defined
@@ -8,4 +9,4 @@ pub returns-in_err-check_defined-2 : goal.returns-in_err-check_defined-2
 returns-in_err-check_defined-2 c = search rules
 
 pub returns : goal.returns
-returns c = search rules
+returns c = rw (met-by_order c.args.comparison c.args.left.now c.args.right.now) (search rules)

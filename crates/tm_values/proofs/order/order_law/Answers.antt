@@ -1,4 +1,5 @@
 use Rattle.std.proofs.Common.{◌≡◌, Bool, refl}
+use Rattle.tm_values.specs.Agreement.{values_agree}
 use Rattle.tm_values.specs.Order.{val_cmp}
 use Rattle.tm_values.specs.Total.{val_cmp_total}
 use Rattle.tm_values.specs.Val.{Val, undefined, none, boolean, number, text, list, map, keywords, exports, function, macro, loop, namespace}
@@ -21,4 +22,4 @@ as_whole b (loop i n) = refl
 as_whole b (namespace i n) = refl
 
 pub returns : goal.returns
-returns c = record { total = val_cmp_total; equality = λ a b. refl; truth = λ b v. refl; truth_after = as_whole }
+returns c = record { total = val_cmp_total; equality = values_agree; truth = λ b v. refl; truth_after = as_whole }
