@@ -1,7 +1,7 @@
 #!/usr/bin/env bash
 # Renders each example by ./mj, with the JSON file, the names and the other templates that it has (.json, .names, .others), and compares the
-# output with its .expected file. Each row of command must hold. The code in README.md and in docs/LIBRARY.md must be that of their tests. No
-# nesting may take more of the stack than bench/stack says.
+# output with its .expected file. Each row that command reads must hold. The code in README.md and in docs/LIBRARY.md must be that of their
+# tests. No nesting may take more of the stack than bench/stack says.
 set -euo pipefail
 cd "$(dirname "${BASH_SOURCE[0]}")"
 
@@ -26,7 +26,7 @@ compare_code docs/LIBRARY.md library_tests/src/library.rt library_tests/src/libr
 
 passed=0
 failed=0
-for input in hello.txt mail.txt server.conf page.html notice.txt table.html menu.html about.html shop.html letter.txt; do
+for input in hello.txt mail.txt server.conf page.html notice.txt table.html menu.html about.html shop.html letter.txt parcel.txt; do
     base=${input%.*}
     words=()
     if [[ -f $base.json ]]; then

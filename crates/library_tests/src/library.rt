@@ -160,10 +160,10 @@ fn tells_names<P: Parties>(environment: &EnvironmentOf<'_, P>) -> Result<bool, E
 fn follows_settings<P: Parties>(environment: &mut EnvironmentOf<'_, P>) -> Result<bool, Error> {
     let (mut ids, source) = (StateIds::new(), "{{ answer }}");
     environment.add_global("answer", Value::number(42))?;
-    environment.set_fuel(Some(2));
+    environment.set_fuel(Some(1));
     let spent = environment.render_str(&mut ids, source, Value::undefined());
     let is_spent = is_fault(spent, ErrorKind::OutOfFuel);
-    environment.set_fuel(Some(3));
+    environment.set_fuel(Some(2));
     let text = environment.render_str(&mut ids, source, Value::undefined())?;
     environment.remove_global("answer");
     environment.set_undefined_behavior(UndefinedBehavior::Strict);
@@ -174,7 +174,7 @@ fn follows_settings<P: Parties>(environment: &mut EnvironmentOf<'_, P>) -> Resul
         text.as_str() == "42"
             && is_spent
             && is_refused
-            && environment.fuel() == Some(3)
+            && environment.fuel() == Some(2)
             && environment.undefined_behavior() == UndefinedBehavior::Strict
             && environment.recursion_limit() == 500,
     )

@@ -60,10 +60,11 @@ pub(crate) fn compiles<P: Parties>(
     environment: &EnvironmentOf<'_, P>,
 ) -> Result<bool, Error> {
     let mut config = TemplateConfig::default();
-    config.default_auto_escape = EscapeSetting::Own(OwnRules);
+    let usual = CompiledTemplate::new(alloc, "a.html", Source::Lent("{{ 1 }}"), &config)?;
+    config.default_auto_escape = EscapeSetting::Own(Box::new(alloc, OwnRules)?);
     let compiled = CompiledTemplate::new(alloc, "a.txt", Source::Lent("{{ '<' }}"), &config)?;
     let is_named = compiled.name() == "a.txt" && compiled.source() == "{{ '<' }}";
-    let is_escaped = compiled.escape() == AutoEscape::Html;
+    let is_escaped = compiled.escape() == AutoEscape::Html && usual.escape() == AutoEscape::Html;
     let reads_nothing = compiled.undeclared_variables(alloc, false)?.is_empty();
     let template = environment.template_from_compiled(compiled)?;
     let text = template.render(&mut StateIds::new(), Value::undefined())?;

@@ -4,7 +4,7 @@ use Rattle.std.proofs.lemmas.List.{append-nil}
 use Rattle.std.specs.Prelude.{Bool, true, false, if◌then◌else◌}
 use Rattle.tm_values.specs.Val.{Val}
 use Rattle.tm_output.specs.Counts.{Tally}
-use Rattle.mj_words.specs.CommandLine.{Text, are_files, asked, is_option, is_input as is_input_file}
+use Rattle.mj_words.specs.CommandLine.{Text, are_files, asked, is_input as is_input_file}
 use Rattle.mj_words.specs.Told.{IsTold, refusal_message, refusal_status, usage}
 use Rattle.mj_words.specs.declared.arguments.Refusal.{Refusal}
 use Rattle.mj_words.specs.declared.arguments.Refusal.TheVariants.{Usage, OutOfMemory}
@@ -30,21 +30,19 @@ module _ {T : Type 0} (of_file : T → Text → Option Text → Type 0) (old new
   is_input of_input words input asks read members = (asks, read, members_before input.asked.json input.members members)
 
 -- what is read where standard input may still be read only as long as it was not named
-read_by : {A B C D : Type 0} (option is_named named : Bool) (rest : List Text) →
-    (if option then false else if is_named then (if named then false else are_files true rest) else are_files named rest) ≡ true →
+read_by : {A B C D : Type 0} (is_named named : Bool) (rest : List Text) →
+    (if is_named then (if named then false else are_files true rest) else are_files named rest) ≡ true →
     (named ≡ false → A → C) → (B → D) → either is_named A B → either is_named C D
-read_by true is_named named rest files f g x = absurd (cc)
-read_by false true true rest files f g x = absurd (cc)
-read_by false true false rest files f g x = f refl x
-read_by false false named rest files f g x = g x
+read_by true true rest files f g x = absurd (cc)
+read_by true false rest files f g x = f refl x
+read_by false named rest files f g x = g x
 
-left_by : {X Y : Type 0} (option is_named named : Bool) (rest : List Text) →
-    (if option then false else if is_named then (if named then false else are_files true rest) else are_files named rest) ≡ true →
+left_by : {X Y : Type 0} (is_named named : Bool) (rest : List Text) →
+    (if is_named then (if named then false else are_files true rest) else are_files named rest) ≡ true →
     (named ≡ false → X) → (is_named ≡ false → X → Y) → (now : Bool) × (are_files now rest ≡ true) × (now ≡ false → Y)
-left_by true is_named named rest files left step = absurd (cc)
-left_by false true true rest files left step = absurd (cc)
-left_by false true false rest files left step = (true, files, λ no. absurd (cc))
-left_by false false named rest files left step = (named, files, λ no. step refl (left no))
+left_by true true rest files left step = absurd (cc)
+left_by true false rest files left step = (true, files, λ no. absurd (cc))
+left_by false named rest files left step = (named, files, λ no. step refl (left no))
 
 pub begins_with : {T : Type 0} (of_file : T → Text → Option Text → Type 0) (of_input : T → Option Text → Type 0) (texts : T) (file : Text)
     (files : List Text) (sources : List (Text × Text)) →
@@ -78,7 +76,7 @@ module _ {T : Type 0} (of_file : T → Text → Option Text → Type 0) (of_inpu
       Reading files (file ∷ left) old now done → (read : Option Text) →
       IsRead of_file of_input now file read → IsRead of_file of_input old file read
   read_before files left file old now done r read is =
-      read_by (is_option file) (is_input_file file) r.named left r.are (λ no. r.unread_input no read) (r.stay file read) is
+      read_by (is_input_file file) r.named left r.are (λ no. r.unread_input no read) (r.stay file read) is
 
   pub read_next : (files left : List Text) (file source : Text) (old now new : T) (done : List (Text × Text)) →
       Reading files (file ∷ left) old now done →
@@ -86,7 +84,7 @@ module _ {T : Type 0} (of_file : T → Text → Option Text → Type 0) (of_inpu
       (is_input_file file ≡ false → InputStays of_input now new) → Reading files left old new (done ++ (file, source) ∷ [])
   read_next files left file source old now new done r is stay untouched =
       let more : (named : Bool) × (are_files named left ≡ true) × (named ≡ false → InputStays of_input old new) =
-      left_by (is_option file) (is_input_file file) r.named left r.are r.unread_input
+      left_by (is_input_file file) r.named left r.are r.unread_input
       (λ no before read is. before read (untouched no read is)) in record {
         named = more.0;
         are = more.1;

@@ -3,6 +3,8 @@
 
 mod program;
 mod render;
+#[cfg(test)]
+mod rows;
 
 use crate::program::{Texts, run};
 use mj_words::{Refusal, tell_refusal};

@@ -20,7 +20,7 @@ pub record ArgumentsValue : Type 0 where
   pub file : Text
   pub others : List Text
 
--- a word that begins with `-`, and is not `-` alone
+-- before the first file, a word that begins with `-` and is not `-` alone
 abbrev pub is_option : Text → Bool
 is_option word = nat_lt 1 (length word) && (slice_index word 0 == 45)
 
@@ -28,12 +28,11 @@ is_option word = nat_lt 1 (length word) && (slice_index word 0 == 45)
 abbrev pub is_input : Text → Bool
 is_input word = bytes_eq word (codes "-")
 
--- no word is an option, and standard input is named once at most, counting whether it was named before them
+-- standard input is named once at most among files, counting whether it was named before them
 abbrev pub are_files : Bool → List Text → Bool
 are_files named [] = true
 are_files named (word ∷ words) =
-    if is_option word then false
-    else if is_input word then (if named then false else are_files true words)
+    if is_input word then (if named then false else are_files true words)
     else are_files named words
 
 -- a word that begins with `-D`
@@ -60,7 +59,8 @@ abbrev pub with_text : Option (Text × Text) → (Text × Text → Option Argume
 with_text None go_on = None
 with_text (Some p) go_on = go_on p
 
--- what words ask for, after others that gave these texts, this JSON file, this fuel and this limit: options, and then files
+-- what words ask for, after others that gave these texts, this JSON file, this fuel and this limit: options, and then files, as which each
+-- word counts from the first on that is no option
 abbrev mutual
   pub asked : List (Text × Text) → Option Text → Option ℕ → Option ℕ → List Text → Option ArgumentsValue
   asked texts json fuel limit [] = None

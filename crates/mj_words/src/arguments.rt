@@ -20,7 +20,7 @@ pub struct Arguments<'a> {
     pub limit: Option<u64>,
     /// The file of the template that is rendered; `-` is standard input.
     pub file: &'a str,
-    /// The files of other templates.
+    /// The files of other templates, whatever their names begin with.
     pub others: &'a [String],
 }
 
@@ -69,8 +69,10 @@ impl<T: Drop> From<AllocFailed<T>> for Refusal {
     }
 }
 
-/// Reads the words after the program's name: options, and then files, among which standard input is
-/// named once at most.
+/// Reads the words after the program's name: options, and then files. From the first file on each
+/// word is one, also where it begins with `-`. Usage where an option is unknown or lacks its word,
+/// where no file follows, and where standard input is named twice; OutOfMemory where no memory is
+/// found.
 pub fn parse(alloc: Global, words: &[String]) -> Result<Arguments<'_>, Refusal>
     ensures asked { let asked = spec.asked [] None None None (map string_bytes words.now) in
         MatchResult result
@@ -102,6 +104,8 @@ pub fn parse(alloc: Global, words: &[String]) -> Result<Arguments<'_>, Refusal>
 }
 
 /// Takes an option, with its word where it has one, into the arguments; gives the words after it.
+/// Usage where the option is unknown or its word is none for it, OutOfMemory where no memory is
+/// found.
 fn take_option<'a>(
     arguments: &mut Arguments<'a>,
     option: &'a str,
@@ -150,15 +154,12 @@ fn first(words: &[String]) -> Option<(&str, &[String])>
     }
 }
 
-/// Whether no word is an option, and standard input is named once at most.
+/// Whether standard input is named once at most among files.
 fn are_files(words: &[String]) -> bool
     ensures { result ≡ spec.are_files false (map string_bytes words.now) }
 {
     let mut named = false;
     for word in words {
-        if is_option(word) {
-            return false;
-        }
         if word.as_str() == "-" {
             if named {
                 return false;
@@ -169,7 +170,7 @@ fn are_files(words: &[String]) -> bool
     true
 }
 
-/// Whether a word is no file.
+/// Whether a word before the first file is an option: it begins with `-`, and is not `-` alone.
 fn is_option(word: &str) -> bool
     ensures { result ≡ spec.is_option word.now }
 {

@@ -7,18 +7,19 @@ use template_machine::{EnvironmentOf, Parties};
 
 /// Bounds of fuel, scopes and writers. No fuel is set after them.
 pub(crate) const BOUNDS: &str = r#"Bounds of fuel, scopes and writers.
-- @fuel 5
-- Hello {{ w }}! => Hello World! => 4 => fuel 1
-- {{ w }}{{ t }} => Worldtrue => 4
 - @fuel 4
-- {{ w }}{{ t }} => World => OutOfFuel
+- Hello {{ w }}! => Hello World! => 4 => fuel 0
+- {{ w }}{{ t }} => Worldtrue => 4
 - @fuel 3
+- Hello {{ w }}! => Hello World => OutOfFuel
 - {{ w }}{{ t }} => World => OutOfFuel
 - @fuel 2
+- {{ w }}{{ t }} => World => OutOfFuel
+- @fuel 1
 - {{ w }}{{ t }} =>  => OutOfFuel
 - @fuel 0
 -  =>  => 0
-- @fuel 9
+- @fuel 8
 - @room 0
 -  =>  => 0
 - Hello! =>  => WriteFailure
@@ -36,11 +37,11 @@ pub(crate) const BOUNDS: &str = r#"Bounds of fuel, scopes and writers.
 - @limit 1
 - {% block b %}x{{ a }}{% endblock %}y =>  => InvalidOperation
 - @limit 500
-- @fuel 3
+- @fuel 2
 - {% block b %}x{{ a }}{% endblock %}y => x => OutOfFuel
-- @fuel 29
+- @fuel 28
 - {% for x in [1,2] if x > 1 %}{{ x }}{% endfor %} => 2 => OutOfFuel
-- @fuel 30
+- @fuel 29
 - {% for x in [1,2] if x > 1 %}{{ x }}{% endfor %} => 2 => 29
 - @fuel none
 - {% set ns = namespace(v=[]) %}{% for i in range(100000) %}{% set ns.v = [ns.v] %}{% endfor %} =>  => ok

@@ -1,6 +1,7 @@
 //! Rows of templates that include or import others, and what states of such renders answer.
 
 use crate::blocks::{expect, rendered};
+use crate::guards::{ESCAPES, INHERITANCE, SCOPES};
 use crate::party::{Rows, add_objects};
 use crate::settings::expect_table;
 use std::alloc::Global;
@@ -17,24 +18,29 @@ const INCLUDES: &str = r#"Templates that others include.
 - @template base B{% block a %}x{% endblock %}
 - @template child {% extends "base" %}{% block a %}c{% endblock %}
 - @template u {{ x }}
-- @short 5 {% include "i" %}
-- @fuel 6
-- {% include "i" %} => ab1 => 5 => fuel 1
-- @fuel 4
+- @short 4 {% include "i" %}
+- @fuel 5
+- {% include "i" %} => ab1 => 5 => fuel 0
+- @fuel 3
 - {% include "i" %} => ab => BadInclude>OutOfFuel
 - @fuel 10000
-- @limit 11
+- @limit 12
 - {% include "i" %} => ab1 => 5
-- @limit 10
+- @limit 11
 - {% include "i" %} =>  => InvalidOperation
+- @template within {% include "i" %}
+- @limit 23
+- {% include "within" %} => ab1 => 7
+- @limit 22
+- {% include "within" %} =>  => BadInclude>InvalidOperation
 - @limit 500
 - {% include ["no", "i"] %} => ab1 => 7
 - {% include {"i": 1} %} => ab1 => 7
-- @short 2 {% include "no" %}
-- @fuel 3
+- @short 1 {% include "no" %}
+- @fuel 2
 - {% include "no" %} =>  => TemplateNotFound
-- @short 4 {% include ["no", "no2"] %}
-- @fuel 5
+- @short 3 {% include ["no", "no2"] %}
+- @fuel 4
 - {% include ["no", "no2"] %} =>  => TemplateNotFound
 - @fuel 10000
 - {% include "no" ignore missing %} =>  => 2
@@ -42,21 +48,21 @@ const INCLUDES: &str = r#"Templates that others include.
 - {% include [] %} =>  => 2
 - {% include [] ignore missing %} =>  => 2
 - {% include {} %} =>  => 2
-- @short 2 {% include 1 %}
-- @fuel 3
+- @short 1 {% include 1 %}
+- @fuel 2
 - {% include 1 %} =>  => InvalidOperation
 - {% include x %} =>  => InvalidOperation
-- @short 2 {% include x %}
-- @short 2 {% include 1 ignore missing %}
-- @fuel 3
+- @short 1 {% include x %}
+- @short 1 {% include 1 ignore missing %}
+- @fuel 2
 - {% include 1 ignore missing %} =>  => InvalidOperation
 - {% include x ignore missing %} =>  => InvalidOperation
-- @short 2 {% include x ignore missing %}
-- @short 4 {% include ["no", 1] %}
-- @fuel 5
+- @short 1 {% include x ignore missing %}
+- @short 3 {% include ["no", 1] %}
+- @fuel 4
 - {% include ["no", 1] %} =>  => InvalidOperation
-- @short 4 {% include ["no", 1] ignore missing %}
-- @fuel 5
+- @short 3 {% include ["no", 1] ignore missing %}
+- @fuel 4
 - {% include ["no", 1] ignore missing %} =>  => InvalidOperation
 - @fuel 10000
 - {% include none %} =>  => InvalidOperation
@@ -74,15 +80,23 @@ const INCLUDES: &str = r#"Templates that others include.
 - {% include x ignore missing %} =>  => InvalidOperation
 - {% include [x] ignore missing %} =>  => InvalidOperation
 - @undefined lenient
-- @short 5 {% include "bad" %}
-- @fuel 6
+- @short 4 {% include "bad" %}
+- @fuel 5
 - {% include "bad" %} => a => BadInclude>UndefinedError
-- @short 5 {% include "bad" ignore missing %}
-- @fuel 6
+- @short 4 {% include "bad" ignore missing %}
+- @fuel 5
 - {% include "bad" ignore missing %} => a => BadInclude>UndefinedError
 - @fuel 10000
-- {% include "i2" %}{{ q }} => 7 => 6 => exports q
-- {% with %}{% include "i2" %}{{ q }}{% endwith %}[{{ q }}] => 7[] => 10
+- {% include "i2" %}{{ q }} =>  => 6 => exports
+- {% with %}{% include "i2" %}{{ q }}{% endwith %}[{{ q }}] => [] => 10
+- @template sets {{ x }}{% set x = 2 %}{{ x }}
+- {% set x = 1 %}{% include "sets" %}{{ x }} => 121 => ok => exports x
+- @template encloses {% set j = 2 %}{% macro k() %}{{ j }}{% endmacro %}{{ k() }}
+- {% macro m() %}{{ j }}{% endmacro %}{% set j = 1 %}{% include "encloses" %}{{ m() }} => 21 => ok => exports j m
+- {% macro m() %}{{ j }}{% endmacro %}{% set j = 1 %}{% include "encloses" %}{% set j = 3 %}{{ m() }} => 23 => ok
+- {% include "encloses" %}{{ k() }} => 2 => UnknownFunction
+- @template round {{ loop.index }}{{ x }}
+- {% for x in [1] %}{% include "round" %}{% endfor %} => 11 => ok
 - {% for x in [1,2] %}{% include "u" %}{% endfor %} => 12 => 18
 - {% macro m(x) %}{% include "u" %}{% endmacro %}{{ m(4) }} => 4 => 12
 - {% macro m() %}{% include "u" %}{% endmacro %}{% set x = 1 %}{{ m() }} =>  => 12
@@ -95,15 +109,15 @@ const INCLUDES: &str = r#"Templates that others include.
 - @remove x
 - @template b2 B{% include "k" %}
 - @template k {% extends "b2" %}
-- @short 5 {% extends "b2" %}
-- @fuel 6
+- @short 4 {% extends "b2" %}
+- @fuel 5
 - {% extends "b2" %} => B => BadInclude>InvalidOperation
 - @template s {{ super() }}
 - @template l {{ loop([]) }}
 - @fuel 10000
 - {% block a %}{% include "s" %}{% endblock %} =>  => BadInclude>InvalidOperation
-- @short 8 {% for x in [1] recursive %}{% include "l" %}{% endfor %}
-- @fuel 9
+- @short 7 {% for x in [1] recursive %}{% include "l" %}{% endfor %}
+- @fuel 8
 - {% for x in [1] recursive %}{% include "l" %}{% endfor %} =>  => BadInclude>InvalidOperation
 - @fuel 10000
 - @template t {% if l %}<{{ l([5]) }}>{% else %}{% for x in [1] recursive %}({{ x }}){% if x == 1 %}{% set l = loop %}{% include "t" %}{% endif %}{% endfor %}{% endif %}
@@ -127,7 +141,7 @@ const INCLUDES: &str = r#"Templates that others include.
 - {% include "child" %}{% extends "base" %} => BcBx => 11 => name base
 - {% extends "base" %}{% block a %}{% include "child" %}{% endblock %} => B => BadInclude>InvalidOperation
 - @template z {% set z = 2 %}{% macro g() %}{{ z }}{% endmacro %}{{ g() }}
-- {% macro f() %}{{ z }}{% endmacro %}{% set z = 1 %}{% include "z" %}{{ z }}{{ f() }}{% set z = 3 %}{{ f() }}{{ g() }} => 22132 => ok
+- {% macro f() %}{{ z }}{% endmacro %}{% set z = 1 %}{% include "z" %}{{ z }}{{ f() }}{% set z = 3 %}{{ f() }}{{ g() }} => 2113 => UnknownFunction
 - {% set s %}[{% include "i" %}]{% endset %}{{ s }}{{ s }} => [ab1][ab1] => 13
 - a{% set s %}b{% include "bad" %}{% endset %} => a => BadInclude>UndefinedError
 - {% filter upper %}{% include "i" %}{% endfilter %} => AB1 => 8
@@ -148,14 +162,14 @@ const INCLUDES: &str = r#"Templates that others include.
 - {% include f() %} =>  => InvalidOperation
 - {% set n = namespace(no=1, i=2) %}{% include n %} => ab1 => ok
 - {% set n = namespace() %}{% include n %} =>  => ok
-- @limit 16
-- {% macro m() %}{% include "i" %}{% endmacro %}{{ m() }} =>  => InvalidOperation
 - @limit 17
+- {% macro m() %}{% include "i" %}{% endmacro %}{{ m() }} =>  => InvalidOperation
+- @limit 18
 - {% macro m() %}{% include "i" %}{% endmacro %}{{ m() }} => ab1 => ok
 - @template w {% with %}{{ 1 }}{% endwith %}
-- @limit 11
-- {% include "w" %} =>  => BadInclude>InvalidOperation
 - @limit 12
+- {% include "w" %} =>  => BadInclude>InvalidOperation
+- @limit 13
 - {% include "w" %} => 1 => 4
 - {% include "w" %}{% with %}{% with %}{% with %}{{ 2 }}{% endwith %}{% endwith %}{% endwith %} => 12 => 6
 - @limit 500
@@ -178,8 +192,8 @@ const IMPORTS: &str = r#"Templates that others import.
 - {% import "f" as m %}{{ m }} =>  => BadSerialization
 - @name <string>
 - {% import "f" as m %}{% for k in m %}{{ k }} {% endfor %}{{ m == m }}{{ "q" in m }}{{ m["q"] }} => f q truetrue2 => 39
-- @short 4 {% import "e" as m %}
-- @fuel 5
+- @short 3 {% import "e" as m %}
+- @fuel 4
 - {% import "e" as m %} =>  => 4
 - @fuel 10000
 - @limit 12
@@ -196,13 +210,13 @@ const IMPORTS: &str = r#"Templates that others import.
 - {% from "f" import %} =>  => SyntaxError
 - @template d {% set q = 1 %}{% block a %}{{ x.y }}{% endblock %}
 - {% from "d" import q %}[{{ q }}] => [1] => 12
-- @short 7 {% import "d" as m %}
-- @fuel 8
+- @short 6 {% import "d" as m %}
+- @fuel 7
 - {% import "d" as m %} =>  => BadInclude>UndefinedError
 - @fuel 10000
 - {% import ["no","f"] as m %}{{ m.q }} => 2 => 18
-- @short 14 {% import "f" as n.m %}
-- @fuel 15
+- @short 13 {% import "f" as n.m %}
+- @fuel 14
 - {% import "f" as n.m %} =>  => InvalidOperation
 - @fuel 10000
 - {% set n = namespace() %}{% import "f" as n.m %}{{ n.m.q }} => 2 => 20
@@ -274,7 +288,17 @@ const JOINED: &str = r#"What templates include and import where an object joins 
 - @name t
 - {% include "i" %} => (t/i/j) => ok => gets i/j t/i/j
 - {% import "i" as m %}{{ m }} => (t/i/j) => ok => name t
-- {% extends "base" %}{% block a %}{% include "j" %}{% endblock %} => [TJ] => ok => gets j t/base/j"#;
+- {% extends "base" %}{% block a %}{% include "j" %}{% endblock %} => [TJ] => ok => gets j t/base/j
+- @template t/e {% extends "b" %}
+- @template t/e/b E
+- @template t/m {% macro m() %}{% include "j" %}{% endmacro %}
+- @template t/m/j M
+- @template t/n {% import "o" as o %}{{ o }}
+- @template t/n/o N
+- {% include "i" %}{% include "j" %} => (t/i/j)T => ok => name t
+- {% include "e" %} => E => ok => name t
+- {% include "n" %} => N => ok => name t
+- {% from "m" import m %}{{ m() }}{% include "j" %} => MT => ok => name t"#;
 
 /// What states of renders run that include or import others, and macros that they call by names of imports.
 const STATES: &str = r#"States of renders that include or import others.
@@ -287,7 +311,7 @@ const STATES: &str = r#"States of renders that include or import others.
 - ?{% if false %}{% block b %}{% include "deep" %}{% endblock %}{% block c %}{{ "<" }}{% endblock %}{% endif %} => <string> =>  => block c -> <; block b ! BadInclude>UndefinedError; block c -> <; block b ! BadInclude>UndefinedError
 - ?{% if false %}{% block b %}{% for x in [1] recursive %}{% include "looped" %}{% endfor %}{% endblock %}{% endif %} => <string> =>  => block b ! BadInclude>UndefinedError; block b ! BadInclude>UndefinedError
 - ?{% if false %}{% block a %}r{% include "child" %}{{ self.b() }}{% endblock %}{% block b %}s{% endblock %}{% endif %} => <string> =>  => block a -> rBcs; block b -> s; block a -> rBcs
-- ?{% include "i2" %}{% if false %}{% block b %}{{ q }}{% endblock %}{% endif %} => <string> => q => block b -> 7; block b -> 7
+- ?{% include "i2" %}{% if false %}{% block b %}{{ q }}{% endblock %}{% endif %} => <string> =>  => block b -> ; block b -> 
 - ?{% import "f" as m %}{% if false %}{% block b %}{{ m.f(1) }}{% endblock %}{% endif %} => <string> => m => block b -> <1>; block b -> <1>
 - ?{% if false %}{% block b %}{% include "no" %}{% endblock %}{% block c %}{% include 1 ignore missing %}{% endblock %}{% block d %}{% import "deep" as m %}{% endblock %}{% endif %} => <string> =>  => block b ! TemplateNotFound; block c ! InvalidOperation; block d ! BadInclude>UndefinedError; block b ! TemplateNotFound
 - ?{% extends "base" %}{% block b %}{% include "child" %}{% endblock %}{% block c %}{% include "n" %}{% endblock %} => base =>  => block c -> n; block b ! BadInclude>InvalidOperation; block c -> n
@@ -358,24 +382,24 @@ fn expect_chain<P: Parties>(
     environment: &mut EnvironmentOf<'_, P>,
 ) -> Result<(), Fail> {
     add_chain(alloc, environment)?;
-    expect(gives(environment, "c49"), "49 includes")?;
-    expect(ends(alloc, environment, "c50", 49), "50 includes")?;
-    expect(ends(alloc, environment, "c199", 49), "199 includes")?;
-    environment.set_recursion_limit(91);
+    expect(gives(environment, "c45"), "45 includes")?;
+    expect(ends(alloc, environment, "c46", 45), "46 includes")?;
+    expect(ends(alloc, environment, "c199", 45), "199 includes")?;
+    environment.set_recursion_limit(100);
     expect(gives(environment, "c9"), "9 includes")?;
     expect(ends(alloc, environment, "c10", 9), "10 includes")?;
     environment.set_recursion_limit(500);
     environment.add_template("t", "{% include 't' %}")?;
-    environment.set_fuel(Some(101));
+    environment.set_fuel(Some(92));
     expect(
-        ends(alloc, environment, "t", 49),
+        ends(alloc, environment, "t", 45),
         "one that includes itself",
     )
 }
 
 /// The charges of the last one.
 const CHARGES: &str = "Its charges.
-- @short 100 &t
+- @short 91 &t
 - @fuel 10000";
 
 /// Renders the tables.
@@ -387,5 +411,8 @@ pub(crate) fn expect_includes(alloc: Global, environment: &mut Rows<'_>) -> Resu
     expect_table(alloc, environment, STATES)?;
     expect_chain(alloc, environment)?;
     expect_table(alloc, environment, CHARGES)?;
+    expect_table(alloc, environment, INHERITANCE)?;
+    expect_table(alloc, environment, ESCAPES)?;
+    expect_table(alloc, environment, SCOPES)?;
     expect_table(alloc, environment, JOINED)
 }

@@ -14,6 +14,8 @@ mod callbacks;
 #[cfg(test)]
 mod expressions;
 #[cfg(test)]
+mod guards;
+#[cfg(test)]
 mod includes;
 #[cfg(test)]
 mod limited;

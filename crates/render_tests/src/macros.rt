@@ -6,9 +6,9 @@ use template_machine::*;
 /// Macros and call tags.
 pub(crate) const MACROS: &str = r#"Macros and call tags.
 - @undefined-names
-- @short 7 {% macro m() %}x{% endmacro %}{{ m() }}
-- @fuel 8
-- {% macro m() %}x{% endmacro %}{{ m() }} => x => 7 => fuel 1
+- @short 6 {% macro m() %}x{% endmacro %}{{ m() }}
+- @fuel 7
+- {% macro m() %}x{% endmacro %}{{ m() }} => x => 7 => fuel 0
 - @fuel 10000
 - @limit 7
 - {% macro m() %}x{% endmacro %}{{ m() }} => x => 7
@@ -27,8 +27,8 @@ pub(crate) const MACROS: &str = r#"Macros and call tags.
 - {% macro m(a=1, b) %}{{ a }}{{ b }}{% endmacro %}{{ m(b=2) }} => 12 => 18
 - {% macro m(a=1) %}{{ a }}{% endmacro %}{{ m(x) }}{{ m(none) }} => 1none => 21
 - {% macro m(caller) %}{{ caller }}{% endmacro %}{{ m(caller=1) }} => 1 => 12
-- @short 6 {% macro m() %}{{ caller() }}{% endmacro %}{{ m() }}
-- @fuel 7
+- @short 5 {% macro m() %}{{ caller() }}{% endmacro %}{{ m() }}
+- @fuel 6
 - {% macro m() %}{{ caller() }}{% endmacro %}{{ m() }} =>  => InvalidOperation
 - @fuel 10000
 - {% macro m() %}[{{ caller(2) }}]{% endmacro %}{% call(n) m() %}{{ n + 1 }}{% endcall %} => [3] => 21
@@ -40,29 +40,29 @@ pub(crate) const MACROS: &str = r#"Macros and call tags.
 - {% macro m(n) %}{{ n }}{% if n > 0 %}{{ m(n - 1) }}{% endif %}{% endmacro %}{{ m(3) }} => 3210 => 51
 - {% macro a() %}{{ b() }}{% endmacro %}{% macro b() %}B{% endmacro %}{{ a() }} => B => 14
 - {% macro o() %}{% macro i() %}{{ z }}{% endmacro %}{% set z = 5 %}{{ i() }}{% endmacro %}{{ o() }} => 5 => 18
-- @short 89 {% macro m() %}{{ m() }}{% endmacro %}{{ m() }}
-- @fuel 90
+- @short 88 {% macro m() %}{{ m() }}{% endmacro %}{{ m() }}
+- @fuel 89
 - {% macro m() %}{{ m() }}{% endmacro %}{{ m() }} =>  => InvalidOperation
 - @fuel 10000
 - {% macro m(a) %}{% endmacro %}{{ m }} {{ m.arguments }} {{ m.caller }} {{ m.name }} {{ m.x }} => <macro m> ["a"] false m  => 22
 - {% macro m() %}x{% endmacro %}{% set n = {"f": m} %}{{ n.f() }} {{ n["f"]() }} => x x => 19
 - {% macro m() %}x{% endmacro %}{{ m.name() }} =>  => InvalidOperation
 - {% macro m() %}x{% endmacro %}{{ m.zz() }} =>  => UnknownMethod
-- @short 6 {% call m() %}{% endcall %}
-- @fuel 7
+- @short 5 {% call m() %}{% endcall %}
+- @fuel 6
 - {% call m() %}{% endcall %} =>  => UnknownFunction
 - @fuel 10000
 - {% macro m() %}{% endmacro %}{% call m() %}x{% endcall %} =>  => TooManyArguments
 - {% call(a) dict(b=1) %}{{ a }}{% endcall %} => {"b": 1, "caller": <macro caller>} => 9
-- @short 10 a{% macro m() %}b{{ y.z }}{% endmacro %}{{ m() }}
-- @fuel 11
+- @short 9 a{% macro m() %}b{{ y.z }}{% endmacro %}{{ m() }}
+- @fuel 10
 - a{% macro m() %}b{{ y.z }}{% endmacro %}{{ m() }} => a => UndefinedError
 - @fuel 10000
 - {% for x in [7] recursive %}{{ x }}{% macro m(a) %}{{ "" ~ loop(a) }}{% endmacro %}{% if x == 7 %}{{ m([8]) }}{% endif %}{% endfor %} => 78 => 42
 - {% for x in [1,2] %}{% macro m() %}{{ loop.index }}{% endmacro %}{{ m() }}{% endfor %} => 12 => 30
 - @undefined strict
-- @short 8 {% macro m(a) %}{{ a }}{% endmacro %}{{ m() }}
-- @fuel 9
+- @short 7 {% macro m(a) %}{{ a }}{% endmacro %}{{ m() }}
+- @fuel 8
 - {% macro m(a) %}{{ a }}{% endmacro %}{{ m() }} =>  => UndefinedError
 - @fuel 10000
 - @undefined lenient

@@ -165,14 +165,14 @@ fn is_first<P: Parties>(state: &StateOf<'_, P>, name: &str) -> bool {
 
 /// Whether a state is left as a row asks.
 pub(crate) fn is_left<P: Parties>(state: &StateOf<'_, P>, wanted: &str) -> bool {
-    match wanted.split_once(' ') {
-        Some(("known", names)) => knows(state, names),
-        Some(("exports", names)) => exports(state, names),
-        Some(("keeps", name)) => keeps(state, name),
-        Some(("fuel", fuel)) => remains(state, fuel),
-        Some(("gets", found)) => gets(state, found),
-        Some(("name", name)) => state.name() == name && state.auto_escape() == AutoEscape::None,
-        Some(("first", name)) => is_first(state, name),
+    match wanted.split_once(' ').unwrap_or((wanted, "")) {
+        ("known", names) => knows(state, names),
+        ("exports", names) => exports(state, names),
+        ("keeps", name) => keeps(state, name),
+        ("fuel", fuel) => remains(state, fuel),
+        ("gets", found) => gets(state, found),
+        ("name", name) => state.name() == name && state.auto_escape() == AutoEscape::None,
+        ("first", name) => is_first(state, name),
         _ => wanted.is_empty(),
     }
 }

@@ -22,8 +22,8 @@ const SERVED: &str = r#"What states serve.
 - @name <string>
 - ?- => <unknown> =>  => call range 2 -> [0, 1]; format 42 -> 42; gets t t; call no ! UnknownFunction; block no ! UnknownBlock; filter no ! UnknownFilter; test no ! UnknownTest; gets no TemplateNotFound; filter kept ! MissingArgument; kept -> 1
 - ?{% macro m(a, b=2) %}{{ a }}{{ b }}{% endmacro %}{% macro bad(p) %}{% set q = 1 %}{% with r = 2 %}{% autoescape "html" %}{{ x.y }}{% endautoescape %}{% endwith %}{% endmacro %} => <string> => bad m => call m 1 -> 12; known bad dict m namespace range; call no ! UnknownFunction; known bad dict m namespace range; call bad ! UndefinedError; known bad dict m namespace range; keep 3 -> nothing; call bad ! UndefinedError; kept -> 3; call m 1 -> 12; known bad dict m namespace range
-- @fuel 3
-- {% block b %}x{% endblock %} => x => 2 => fuel 1
+- @fuel 2
+- {% block b %}x{% endblock %} => x => 2 => fuel 0
 - ?{% block b %}x{% endblock %} => <string> =>  => block b ! OutOfFuel; known dict namespace range; fuel 0
 - @fuel none
 - @undefined strict

@@ -9,18 +9,20 @@ use Rattle.tm_values.specs.Val.{Val, boolean, undefined}
 use Rattle.tm_values.specs.declared.error.ErrorKind.{ErrorKind}
 use Rattle.tm_values.specs.declared.error.ErrorKind.TheVariants.{InvalidOperation, WriteFailure}
 use Rattle.tm_syntax.specs.Named.{put}
-use Rattle.tm_definitions.specs.Emitted.{text_answer}
-use Rattle.tm_definitions.specs.Mapped.{with_maps}
-use Rattle.tm_meaning.specs.World.{World, Res, Good, Bad, HostValue, answered, bind, records_of}
-use Rattle.tm_meaning.specs.Calls.{Asked, has, refused, runs, recurs, Callee, by_depths, named_call}
+use Rattle.tm_meaning.specs.World.{World, Res, Good, Bad, answered}
+use Rattle.tm_meaning.specs.Calls.{Asked, has, refused, runs, Callee}
 use Rattle.tm_tables.specs.Stated.{StatedObjects}
 use Rattle.tm_meaning.specs.declared.stream.StreamId.{StreamId}
 use Rattle.tm_meaning.specs.declared.stream.TemplateId.TheVariants.{Own}
 use Rattle.tm_meaning.specs.Machine.{Capture, new_capture, put_in, put_out}
-use Rattle.tm_meaning.specs.Meaning.{Ending, fault, Outcome, value_after}
+use Rattle.tm_meaning.specs.Meaning.{Ending, fault, Outcome}
 use Rattle.tm_meaning.specs.Runs.{evaluated, first_world, nests_of, rendered, rendered_block}
+pub use Rattle.tm_simulation.specs.Called.{as_text, call_by_name, called, maps_in}
 use Rattle.tm_state.specs.Answers.{HasOneMore}
-use Rattle.tm_state.specs.State.{runs_block, saved_of}
+use Rattle.tm_state.specs.State.{runs_block, saved_of, saved_scopes}
+use Rattle.tm_state.specs.declared.saved.Saved.TheVariants as saved
+use Rattle.tm_state.specs.declared.calls.CallResult.{CallResult}
+use Rattle.tm_state.specs.declared.calls.CallResult.TheVariants as outcome
 use Rattle.tm_state.specs.declared.saved.SavedBlock.{SavedBlock}
 use Rattle.tm_output.specs.Counts.{saturating_increment, AppendsBeginning}
 use Rattle.tm_parts.specs.declared.halt.Halt.{Halt}
@@ -72,21 +74,9 @@ meaning stated t id context = meaning_from stated t (first stated t id context)
 abbrev pub callee_run : {O : Type 0} → (O → StatedObjects) → TemplateValue O → Callee → World → Outcome
 callee_run stated t k w = let host = host_of stated t in nests_of host (trees t) (host.limit + 1) k true [] w
 
--- What a call comes to where no template runs, as a value: the run that it needs is in a capture, and what that replaced is put back after
--- it, also where it ended in a fault.
+-- what a call comes to where no template runs, as a value
 abbrev pub called_value : {O : Type 0} → (O → StatedObjects) → TemplateValue O → Asked → Res Val
-called_value stated t (has v w) = Good v w
-called_value stated t (refused chain w) = Bad chain w
-called_value stated t (runs c w) = let o = callee_run stated t c.callee w in value_after o.ending c o
-called_value stated t (recurs n items w) = Bad (InvalidOperation ∷ []) w
-
--- what the value of a name gives for these arguments, called as a function
-abbrev pub call_by_name : HostValue → List ℕ → List Val → World → Asked
-call_by_name host x args w = named_call (by_depths host w) 0 host x args w
-
--- The value of a call as its text, or why it has none.
-abbrev pub as_text : Res Val → Res (List ℕ)
-as_text called = bind called (λ v w. answered (text_answer (records_of w) v) w)
+called_value stated t asked = called (host_of stated t) (trees t) asked
 
 abbrev pub answer_by : Ending → World → Answer World
 answer_by (fault chain) w = Err chain
@@ -228,10 +218,6 @@ pub data BlockWritten (m : Outcome) (result : Result (Unit {0}) (List ErrorKind)
       BlockWritten m result left told now failures count
 
 -- ---------------------------------------------------------------- expressions
--- a value with its namespaces as maps, in the world that is left
-abbrev pub maps_in : Res Val → Res Val
-maps_in m = bind m (λ v w. answered (with_maps (records_of w) v) w)
-
 -- What an expression means, evaluated as the state of this number over this context value.
 abbrev pub value_meant : {O : Type 0} → (O → StatedObjects) → TemplateValue O → World → Res Val
 value_meant stated t w = maps_in (evaluated (host_of stated t) (trees t) w)
@@ -245,3 +231,13 @@ IsValue (Err chain) m = (w : World) × (m ≡ Bad chain w)
 pub data Evaluated (m : Res Val) (result : Result Val (List ErrorKind)) : Type 0 where
   value_as_meant : IsValue result m → Evaluated m result
   value_by_memory : IsMemory result → Evaluated m result
+
+-- ---------------------------------------------------------------- lists
+-- The lists of blocks and the loaded names are those from before.
+abbrev pub SameLists : World → World → Type 0
+SameLists old new = (new.blocks ≡ old.blocks) × (new.loaded ≡ old.loaded)
+
+-- They are, or are put back after the run that is needed, which is a macro's.
+abbrev pub KeepsLists : CallResult → World → World → Type 0
+KeepsLists (outcome.Run e) before w = e.value.saved ≡ saved.Macro (saved_scopes before)
+KeepsLists _ before w = SameLists before w

@@ -6,6 +6,7 @@ mod environment;
 mod expression;
 mod formatting;
 mod ids;
+pub mod machinery;
 mod rendering;
 mod sources;
 mod state;
@@ -23,20 +24,22 @@ pub use tm_compiler::{
     Imported, Instruction, Keyword, Macro, Name, NameMap, Pair, Parameter, RawText, Step, Stmt,
     Streams, SyntaxConfig, SyntaxConfigBuilder, Tree, UnaryOperator, generate, parse, parse_expr,
 };
+pub use tm_items::Items;
 pub use tm_meaning::{Call, GlobalFunction, Reply};
+pub use tm_names::undeclared;
 pub use tm_operations as operations;
 pub use tm_output::{Target, TargetFailed};
 pub use tm_parts::{Counted, Limited, NullWriter, Output, Sink, WriteWrapper, write_text};
 pub use tm_printing as printing;
 pub use tm_syntax::{Assignment, AssignmentTarget, CaptureMode, CaptureUse, Code};
 pub use tm_tables::{
-    Answering, Callable, CallableAnswer, Called, EscapeRule, Formatter, FuelTracker,
+    Answering, BlockStack, Callable, CallableAnswer, Called, EscapeRule, Formatter, FuelTracker,
     MethodFallback, Objects, Parties, PathJoin, Plain, View,
 };
 pub use tm_templates::{
     CompiledTemplate, EscapeSetting, Source, TemplateConfig, default_auto_escape_callback,
 };
 pub use tm_values::{
-    AutoEscape, Error, ErrorKind, LoopPosition, NoRecords, Records, SharedText, UndefinedBehavior,
-    UndefinedUse, Value, ValueMap, check_defined,
+    AutoEscape, Error, ErrorKind, LoopPosition, NoRecords, Node, Records, SharedText,
+    UndefinedBehavior, UndefinedUse, Value, ValueMap, check_defined,
 };

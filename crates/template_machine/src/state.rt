@@ -12,6 +12,10 @@ ghost use Rattle.tm_state.specs.Answers.{Becomes, CallDeeper, CallLies, IsEmitte
 ghost use Rattle.tm_state.specs.State.{callee_of, exported};
 ghost use Rattle.template_machine.specs.Environment.{host_of, named_template};
 ghost use Rattle.template_machine.specs.Renders.{as_text, block_meaning, call_by_name, called_value, callee_run, with_temp, with_world};
+ghost use Rattle.template_machine.specs.Renders.{KeepsLists, SameLists};
+ghost use Rattle.tm_values.specs.Val.{macro};
+ghost use Rattle.tm_state.specs.State.{saved_scopes};
+ghost use Rattle.tm_state.specs.declared.saved.Saved.TheVariants as saved;
 ghost use Rattle.template_machine.specs.Renders.{BlockWritten, IsMacroCall, IsCapturedRun, IsEntered, IsFresh, IsTested, Ran, RanApart};
 ghost use Rattle.tm_meaning.specs.Machine.{new_capture};
 ghost use Rattle.tm_vm.specs.Answers.{NoFewer};
@@ -198,6 +202,7 @@ impl<'env, O: Parties> StateOf<'env, O> {
     /// there is none, InvalidOperation where its value can't be called, where a macro isn't of this state or its run
     /// stands too deep, or where the answer can't be printed, and the fault of what is called; OutOfMemory. However
     /// it ends, the state stands where it stood, and what the call kept is kept.
+    #[tactic(auto, using(crate::proofs::MacroLists::macro_keeps))]
     pub fn call_macro(&mut self, name: &str, args: &[Value]) -> Result<String, Error>
         ensures called { IsEmitted result (as_text (called_value O.stated self.old.template
             (call_by_name (host_of O.stated self.old.template) name.now args.now self.old.world)))
@@ -205,6 +210,8 @@ impl<'env, O: Parties> StateOf<'env, O> {
         ensures template { self.new.template ≡ self.old.template }
         ensures stays { StaysInPlace self.old.world self.new.world }
         ensures kept { KeepsFixed self.old.world self.new.world }
+        ensures lists { (m : _) → find_name (view_of (host_of O.stated self.old.template)
+            self.old.world) name.now ≡ Ok (Some (macro m)) → SameLists self.old.world self.new.world }
     {
         let alloc = self.rendering.allocator();
         let hashed = Name::new(alloc, name)?;
@@ -308,6 +315,8 @@ impl<'env, O: Parties> StateOf<'env, O> {
         ensures template { self.new.template ≡ self.old.template }
         ensures stays { (limit : _) (before : _) → CallLies limit (Ok called) before self.old.world →
             StaysInPlace before self.new.world }
+        ensures lists { (before : _) → KeepsLists called before self.old.world →
+            SameLists before self.new.world }
         ensures kept { KeepsFixed self.old.world self.new.world }
     {
         match called {
@@ -324,6 +333,8 @@ impl<'env, O: Parties> StateOf<'env, O> {
         ensures template { self.new.template ≡ self.old.template }
         ensures stays { (limit : _) (before : _) → CallDeeper limit run.saved before self.old.world →
             StaysInPlace before self.new.world }
+        ensures lists { (before : _) → run.saved ≡ saved.Macro (saved_scopes before) →
+            SameLists before self.new.world }
         ensures kept { KeepsFixed self.old.world self.new.world }
     {
         let alloc = self.rendering.allocator();

@@ -67,7 +67,7 @@ fn push_included(code: &mut Builder, template: &Expr) -> Result<(), AllocError>
 {
     code.emit(Instruction::PushWith)?;
     push_expr(code, template)?;
-    code.emit(Instruction::Include(false))
+    code.emit(Instruction::IncludeModule)
 }
 
 /// Adds the code that looks up names which a template leaves; AllocError.

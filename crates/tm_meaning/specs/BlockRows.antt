@@ -1,15 +1,15 @@
 -- Streams that load a parent, and where their runs end.
-use Rattle.std.specs.Prelude.{ℕ, List, [], ◌∷◌, Some, true, false, codes, pos}
+use Rattle.std.specs.Prelude.{ℕ, List, [], ◌∷◌, Option, Some, true, false, codes, pos}
 use Rattle.tm_values.specs.Val.{number, text}
 use Rattle.tm_syntax.specs.declared.instruction.Instruction.{Instruction}
 use Rattle.tm_syntax.specs.declared.instruction.Instruction.TheVariants as i
 use Rattle.tm_syntax.specs.declared.tree.Stmt.{end_of-Stmt as no_statement}
 use Rattle.tm_meaning.specs.Tree.{body_of}
-use Rattle.tm_meaning.specs.World.{TemplateId, own, entry}
+use Rattle.tm_meaning.specs.World.{Bindings, TemplateId, World, own, own_closure, entry}
 use Rattle.tm_meaning.specs.Calls.{whole}
 use Rattle.tm_meaning.specs.Machine.{Program, base_of}
-use Rattle.tm_meaning.specs.Steps.{begins, run_for}
-use Rattle.tm_meaning.specs.Rows.{Page, Said, said_by, host_of, world_of, empty}
+use Rattle.tm_meaning.specs.Steps.{Final, begins, run_for}
+use Rattle.tm_meaning.specs.Rows.{Page, Said, said_by, left_by, host_of, world_of, empty}
 use Rattle.tm_meaning.specs.BlockTrees.{template}
 use Rattle.tm_meaning.specs.FilterRows.{upper}
 
@@ -26,12 +26,25 @@ code_of_template code parent own = code
 code_of_template code parent (entry x) = parent
 
 -- where a run of this code ends, where that of p is the other
-abbrev pub run_before : List Instruction → List Instruction → Said
-run_before code parent =
+abbrev pub ended_before : List Instruction → List Instruction → Option Final
+ended_before code parent =
     let p : Program = record { host = host_of with_parent; code = λ s. code_of_template code parent s.template } in
     let w = world_of with_parent (Some 1000) in
     let f = base_of true [] w in
-    said_by (run_for 100 p f [] (begins p f (whole w.stream) [] w))
+    run_for 100 p f [] (begins p f (whole w.stream) [] w)
+
+abbrev pub run_before : List Instruction → List Instruction → Said
+run_before code parent = said_by (ended_before code parent)
+
+-- the world after it, and of that the closures and the one that was made in the innermost scope
+abbrev pub left_before : List Instruction → List Instruction → World
+left_before code parent = left_by (ended_before code parent) (world_of with_parent (Some 1000))
+
+abbrev pub closures_before : List Instruction → List Instruction → List Bindings
+closures_before code parent = (left_before code parent).closures
+
+abbrev pub own_before : List Instruction → List Instruction → Option ℕ
+own_before code parent = own_closure (left_before code parent).scopes.frames
 
 abbrev pub name_of_p : Instruction
 name_of_p = i.LoadConst (text (codes "p") false)
@@ -43,6 +56,18 @@ extending after = name_of_p ∷ i.LoadBlocks ∷ after
 -- "a" goes through a filter by its cache number
 abbrev pub capital : List ℕ → Instruction → List Instruction → List Instruction
 capital name last after = i.LoadConst (text (codes "a") false) ∷ i.ApplyFilter name (Some 1) 0 ∷ last ∷ after
+
+-- a number is stored as j
+abbrev pub stores_j : ℕ → List Instruction → List Instruction
+stores_j n after = i.LoadConst (number (pos n)) ∷ i.StoreLocal (codes "j") ∷ after
+
+-- j is 1, also in a closure of its scope, in which p runs then as an import runs it
+abbrev pub imports_under_closure : List Instruction → List Instruction
+imports_under_closure after = stores_j 1 (i.Enclose (codes "j") ∷ name_of_p ∷ i.IncludeModule ∷ after)
+
+-- a text is negated
+abbrev pub negated_text : List Instruction → List Instruction
+negated_text after = i.LoadConst (text (codes "x") false) ∷ i.Neg ∷ after
 
 abbrev pub one_left : List Instruction → List Instruction
 one_left after = i.LoadConst (number (pos 1)) ∷ after

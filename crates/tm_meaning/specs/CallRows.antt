@@ -1,5 +1,5 @@
 -- Pages that call functions, methods and loops.
-use Rattle.std.specs.Prelude.{ℕ, List, [], ◌∷◌, Option, Some, None, true, false, codes, pos}
+use Rattle.std.specs.Prelude.{ℕ, zero, suc, List, [], ◌∷◌, Option, Some, None, true, false, codes, pos}
 use Rattle.tm_values.specs.Val.{Val, number, text, list, map, function, vals_of, pairs_of}
 use Rattle.tm_values.specs.declared.error.ErrorKind.{ErrorKind}
 use Rattle.tm_syntax.specs.declared.tree.BinaryOperator.TheVariants as binaries
@@ -238,6 +238,18 @@ tree_as_value =
     (step (Attribute (codes "v")) (step (binary binaries.Concatenate (literal (codes "[")))
     (step (binary binaries.Concatenate (called (codes "loop") x_c))
     (step (binary binaries.Concatenate (literal (codes "]"))) no_step)))))))) (with_value (codes "tree") tree)
+
+-- {% for x in tree recursive %}{{ x.v ~ loop(x.c) }}{% endfor %}, where 1 has 2 below it
+abbrev pub line_as_value : Page
+line_as_value =
+    page (one (recursive_one (named (codes "tree")) (EmitExpr (chained x (tt ∷ tt ∷ [])
+    (step (Attribute (codes "v")) (step (binary binaries.Concatenate (called (codes "loop") x_c)) no_step))))))
+    (with_value (codes "tree") (list (vals_of (node (codes "1") (node (codes "2") [] ∷ []) ∷ []))))
+
+-- the numbers below one, from the last
+abbrev pub below : ℕ → List ℕ
+below zero = []
+below (suc n) = n ∷ below n
 
 -- {% set ns = namespace() %}{% for x in ["1"] recursive %}{{ x }}{% set ns.l = loop %}{% endfor %}{% set l = ns.l %}{{ l(["2", "3"]) }}
 abbrev pub called_after_its_end : Page

@@ -502,15 +502,24 @@ first_found host (v ∷ vs) w =
 abbrev pub include_depth : ℕ
 include_depth = 10
 
+-- The scopes in which it runs: one of its own over those that stand, or these, whose innermost one has no closure of its own meanwhile;
+-- and how many levels that takes.
+abbrev pub include_frames : Bool → List Scope → List Scope
+include_frames true frames = plain_scope (undefined false) ∷ frames
+include_frames false frames = owning None frames
+
+abbrev pub include_cost : Bool → ℕ
+include_cost true = 11
+include_cost false = 10
+
 -- the run of a template, needed in this world; before its fault stands BadInclude
 abbrev pub include_call : TemplateId → World → NestedCall
 include_call t w = record { callee = whole (root_of t); undo = of_include w; wrap = Some BadInclude; text = texts.Captured }
 
--- where a template begins that is included: in the scopes that stand, whose innermost one has no closure of its own meanwhile, deeper, and
--- with its own escape and blocks
-abbrev pub in_template : HostValue → TemplateId → World → World
-in_template host t w = record w {
-  scopes = record { frames = owning None w.scopes.frames; outer = include_depth + w.scopes.outer };
+-- where a template begins that is included: deeper, in a scope apart or not, and with its own escape and blocks
+abbrev pub in_template : HostValue → Bool → TemplateId → World → World
+in_template host apart t w = record w {
+  scopes = record { frames = include_frames apart w.scopes.frames; outer = include_depth + w.scopes.outer };
   stream = root_of t;
   escape = (template_at host t).escape;
   blocks = own_blocks t (template_at host t).blocks;
@@ -518,14 +527,14 @@ in_template host t w = record w {
 }
 
 -- The template that was found is included, which is refused beyond the limit. Where none was nothing happens if it may be missing.
-abbrev pub include_found : HostValue → Bool → Option TemplateId → World → Asked
-include_found host missing (Some t) w =
-    ask (check (not (nat_lt host.limit (include_depth + depth w.scopes))) InvalidOperation w) (λ _ world1.
-    runs (include_call t w) (in_template host t world1))
-include_found host missing None w = ask (check missing TemplateNotFound w) (λ _ world1. has (undefined false) world1)
+abbrev pub include_found : HostValue → Bool → Bool → Option TemplateId → World → Asked
+include_found host apart missing (Some t) w =
+    ask (check (not (nat_lt host.limit (include_cost apart + depth w.scopes))) InvalidOperation w) (λ _ world1.
+    runs (include_call t w) (in_template host apart t world1))
+include_found host apart missing None w = ask (check missing TemplateNotFound w) (λ _ world1. has (undefined false) world1)
 
--- The template that a value names is included. It may be missing where the value names none at all, too.
-abbrev pub enter_include : HostValue → Val → Bool → World → Asked
-enter_include host v missing w =
+-- The template that a value names is included, in a scope apart or not. It may be missing where the value names none at all, too.
+abbrev pub enter_include : HostValue → Bool → Val → Bool → World → Asked
+enter_include host apart v missing w =
     ask (answered (choices_in (records_of w) v) w) (λ vs world1.
-    ask (first_found host vs world1) (λ found world2. include_found host (missing || no_values vs) found world2))
+    ask (first_found host vs world1) (λ found world2. include_found host apart (missing || no_values vs) found world2))

@@ -143,6 +143,34 @@ stores_within =
 abbrev pub sees_round : Page
 sees_round = only (for_x (numbers 1 2) (includes_template (codes "u")) no_else)
 
+-- n is {% include "i" %}: {% include "n" %}
+abbrev pub includes_within : Page
+includes_within =
+    among
+    (template (codes "i") (two (raw (codes "ab")) (EmitExpr (literal_number 1)))
+    ∷ template (codes "n") (one (includes_template (codes "i"))) ∷ [])
+    (one (includes_template (codes "n")))
+
+-- r is {{ x }}{% set x = 2 %}{{ x }}: {% set x = 1 %}{% include "r" %}{{ x }}
+abbrev pub sets_apart : Page
+sets_apart =
+    beside (codes "r") (three (EmitExpr x) (sets (codes "x") (literal_number 2)) (EmitExpr x))
+    (three (sets (codes "x") (literal_number 1)) (includes_template (codes "r")) (EmitExpr x))
+
+-- s is {% set j = 2 %}{% macro k() %}{{ j }}{% endmacro %}{{ k() }}: {% macro m() %}{{ j }}{% endmacro %}{% set j = 1 %}{% include "s" %}{{ m() }}
+abbrev pub encloses_apart : Page
+encloses_apart =
+    beside (codes "s")
+    (three (sets (codes "j") (literal_number 2)) (macro_one (codes "k") [] (writes (codes "j"))) (called (codes "k")))
+    (four (macro_one (codes "m") [] (writes (codes "j"))) (sets (codes "j") (literal_number 1)) (includes_template (codes "s"))
+    (called (codes "m")))
+
+-- l is {{ loop.index }}{{ x }}: {% for x in [1] %}{% include "l" %}{% endfor %}
+abbrev pub sees_loop : Page
+sees_loop =
+    beside (codes "l") (two (EmitExpr (and_one (named (codes "loop")) (Attribute (codes "index")))) (EmitExpr x))
+    (one (for_x (alone_in_list (literal_number 1)) (includes_template (codes "l")) no_else))
+
 -- {% macro m(x) %}{% include "u" %}{% endmacro %}{{ m(4) }}
 abbrev pub sees_argument : Page
 sees_argument =

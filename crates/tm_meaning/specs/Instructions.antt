@@ -376,10 +376,10 @@ load_blocks_of host f c =
     on_top c.run.operands c.world (λ v vs.
     after (load host v c.run.parent (nat_lt f.captures (length c.captures)) c.world) (λ t w. goes vs w (awaiting t c)))
 
--- the template that the value names runs in place
-abbrev pub include_of : Program → Base → Bool → Config → Next
-include_of p f missing c =
-    on_top c.run.operands c.world (λ v vs. asked_in_place p f c vs (enter_include p.host v missing c.world))
+-- the template that the value names runs in place, in a scope apart or not
+abbrev pub include_of : Program → Base → Bool → Bool → Config → Next
+include_of p f apart missing c =
+    on_top c.run.operands c.world (λ v vs. asked_in_place p f c vs (enter_include p.host apart v missing c.world))
 
 abbrev pub on_text : Option (List ℕ) → World → (List ℕ → Next) → Next
 on_text None w f = stuck w

@@ -24,5 +24,6 @@ pub mod SpreadRows
 pub mod ObjectRows
 pub mod OperatorRows
 pub mod GuardRows
+pub mod GuardTrees
 pub mod LookUp
 pub mod Compiled

@@ -309,17 +309,17 @@ set_each u run [] w = Good tt w
 set_each u run (a ∷ more) w = bind (set_to u run a.target a.value w) (λ _ world1. set_each u run more world1)
 
 -- ---------------------------------------------------------------- templates that run here
--- The template that a value names runs in place, charged; whether it may be missing.
-abbrev pub include : Under → Run → Expr → Bool → List ℕ → World → Outcome
-include u run e missing out w =
+-- The template that a value names runs in place, charged; whether it has a scope of its own, and whether it may be missing.
+abbrev pub include : Under → Run → Bool → Expr → Bool → List ℕ → World → Outcome
+include u run apart e missing out w =
     use_it (eval u run e w) run out (λ v world1.
-    use_it (tick world1) run out (λ _ world2. in_place_of u run out (enter_include u.host v missing world2)))
+    use_it (tick world1) run out (λ _ world2. in_place_of u run out (enter_include u.host apart v missing world2)))
 
 -- One that is there runs in a scope of its own, which stays open, and inside a capture: what is heard of it.
 abbrev pub included : Under → Run → Expr → World → Res (List ℕ)
 included u run e w =
     bind (push u.host (plain_scope (undefined false)) w) (λ _ world1.
-    let o = include u run e false [] world1 in heard_after o.ending o)
+    let o = include u run false e false [] world1 in heard_after o.ending o)
 
 -- What a template exports, as a module, is given to a target.
 abbrev pub import : Under → Run → Expr → AssignmentTarget → World → Res (Unit {0})
@@ -542,7 +542,7 @@ abbrev mutual
   exec u at (CallBlock' e ps _ body) run out w =
       use_it (call u run (with_caller u.host at.macros (macro_head (codes "caller") ps body)) e w) run out
       (λ v world1. emit u run out v world1)
-  exec u at (Include e missing) run out w = include u run e missing out w
+  exec u at (Include e missing) run out w = include u run true e missing out w
   exec u at (Import e t) run out w = use_it (import u run e t w) run out (λ _ world1. so_far run out world1)
   exec u at (FromImport e xs) run out w = use_it (import_names u run e xs w) run out (λ _ world1. so_far run out world1)
 

@@ -139,6 +139,11 @@ ran p fuel = said_by (ended p fuel)
 abbrev pub Says : Page → ℕ → List ℕ → ℕ → List ErrorKind → Type 0
 Says p fuel t left chain = (meant p (Some fuel) ≡ said t left chain) × (ran p (Some fuel) ≡ said t left chain)
 
+-- The same under each of these fuels, of which none is left.
+abbrev pub SaysUnderEach : Page → List ℕ → List ℕ → List ErrorKind → Type 0
+SaysUnderEach p fuels t chain =
+    (each (λ n. meant p (Some n)) fuels ≡ each (λ n. said t 0 chain) fuels) × (each (λ n. ran p (Some n)) fuels ≡ each (λ n. said t 0 chain) fuels)
+
 -- The same with so much fuel that it isn't out: how many charges there are.
 abbrev pub Charges : Page → List ℕ → ℕ → Type 0
 Charges p t charges = Says p 1000 t (1000 - charges) []

@@ -1,6 +1,6 @@
 -- What a state is to the meaning and to the machine, and what both do to it.
-use Rattle.std.specs.Prelude.{ℕ, zero, suc, ◌+◌, ◌-◌, List, [], ◌∷◌, ◌++◌, length, map as each, Option, Some, None, option_and_then, Bool}
-use Rattle.std.specs.Prelude.{is_some, true, false, not, ◌&&◌, ◌||◌, nat_lt, nat_eq, if◌then◌else◌, Ok, Err, slice_get, codes}
+use Rattle.std.specs.Prelude.{ℕ, zero, suc, ◌+◌, ◌-◌, ◌≤◌, List, [], ◌∷◌, ◌++◌, length, map as each, Option, Some, None, option_and_then, Bool}
+use Rattle.std.specs.Prelude.{is_some, true, false, not, ◌&&◌, ◌||◌, nat_le, nat_lt, nat_eq, if◌then◌else◌, Ok, Err, slice_get, codes}
 use Rattle.tm_syntax.specs.declared.instruction.LoopFlags.{LoopFlags}
 pub use Rattle.tm_syntax.specs.Named.{Named, same_name, find, put, put_each}
 use Rattle.tm_values.specs.Answer.{Answer, invalid}
@@ -182,10 +182,16 @@ answered (Ok a) w = Good a w
 answered (Err chain) w = Bad chain w
 
 -- ---------------------------------------------------------------- fuel
--- The fuel that is left after a charge: all of it where the charge is 0; and none, with the fuel out, where no more than the charge was
--- left.
+-- Whether a charge can be paid: it is at most what is left. And that it can.
+abbrev pub can_be_paid : ℕ → ℕ → Bool
+can_be_paid charge left = nat_le charge left
+
+abbrev pub CanPay : ℕ → ℕ → Type 0
+CanPay charge left = charge ≤ left
+
+-- The fuel that is left after a charge: all of it where the charge is 0; and none, with the fuel out, where it can't be paid.
 abbrev pub charged : ℕ → ℕ → Option ℕ
-charged charge left = if nat_eq charge 0 then Some left else if nat_lt charge left then Some (left - charge) else None
+charged charge left = if nat_eq charge 0 then Some left else if can_be_paid charge left then Some (left - charge) else None
 
 abbrev pub with_fuel : Option ℕ → World → Res (Unit {0})
 with_fuel (Some left) w = Good tt (record w { fuel = left })

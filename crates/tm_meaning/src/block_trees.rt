@@ -24,8 +24,8 @@ ghost use Rattle.tm_meaning.specs.BlockTrees.{macro_of_child, escaped_by_child, 
 /// state after has the last parent's name.
 pub fn layout_rows()
     ensures base { Charges of_base (codes "B:[x" ++ decimal 1 ++ codes "]") 13 }
-    ensures twelve { Says of_base 12 (codes "B:[x") 0 (OutOfFuel ∷ []) }
-    ensures ten { Says of_base 10 (codes "B:[") 0 (EvalBlock ∷ OutOfFuel ∷ []) }
+    ensures eleven { Says of_base 11 (codes "B:[x") 0 (OutOfFuel ∷ []) }
+    ensures nine { Says of_base 9 (codes "B:[") 0 (EvalBlock ∷ OutOfFuel ∷ []) }
     ensures name { PageEndsIn of_base (codes "base") }
     ensures mid { Charges mid_alone (codes "B:mx") 8 }
     ensures over_mid { Charges over_mid (codes "B:cmx") 11 }

@@ -11,8 +11,8 @@ ghost use Rattle.tm_meaning.specs.ExpressionRows.{super_alone, self_alone, loop_
 /// the silent undefined value.
 pub fn expression_rows()
     ensures sum { EvaluatesTo sum (number (pos 2)) 3 }
-    ensures four { Ends sum 4 (number (pos 2) ∷ []) 1 [] }
-    ensures three { Ends sum 3 [] 0 (OutOfFuel ∷ []) }
+    ensures three { Ends sum 3 (number (pos 2) ∷ []) 0 [] }
+    ensures two { Ends sum 2 [] 0 (OutOfFuel ∷ []) }
     ensures between { EvaluatesTo between (boolean true) 7 }
     ensures name { EvaluatesTo (alone x) (undefined false) 1 }
     ensures without_else { EvaluatesTo without_else (undefined true) 3 }

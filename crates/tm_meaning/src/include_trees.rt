@@ -1,6 +1,7 @@
 //! Worked renders of pages that include templates and import what they leave: through the meaning,
 //! and through code and machine.
-ghost use Rattle.std.specs.Prelude.{◌≡◌, [], ◌∷◌, ◌++◌, true, false, codes};
+ghost use Rattle.std.specs.Prelude.{◌≡◌, [], ◌∷◌, ◌++◌, Some, true, false, codes, pos};
+ghost use Rattle.tm_values.specs.Val.{number};
 ghost use Rattle.std.specs.Fmt.{decimal};
 ghost use Rattle.tm_values.specs.declared.error.ErrorKind.TheVariants.{BadInclude};
 ghost use Rattle.tm_values.specs.declared.error.ErrorKind.TheVariants.{BadSerialization, BadStream};
@@ -12,7 +13,9 @@ ghost use Rattle.tm_meaning.specs.Rows.{Charges, Fails, Restores, Says, Shows, l
 ghost use Rattle.tm_meaning.specs.Rows.{literal_number, said, x};
 ghost use Rattle.tm_meaning.specs.FilterRows.{with_limit};
 ghost use Rattle.tm_syntax.specs.declared.instruction.Instruction.TheVariants as i;
-ghost use Rattle.tm_meaning.specs.BlockRows.{one_left, run_before};
+ghost use Rattle.tm_meaning.specs.BlockRows.{one_left, run_before, closures_before, own_before};
+ghost use Rattle.tm_meaning.specs.BlockRows.{stores_j, imports_under_closure, negated_text};
+ghost use Rattle.tm_meaning.specs.IncludeTrees.{includes_within, sets_apart, encloses_apart, sees_loop};
 ghost use Rattle.tm_meaning.specs.BlockTrees.{PageEndsIn, FailsAfter, GivesTwice};
 ghost use Rattle.tm_meaning.specs.IncludeTrees.{ChargesOf, bad_includes, beside_itself};
 ghost use Rattle.tm_meaning.specs.IncludeTrees.{block_heard, block_unheard, blocks_apart};
@@ -34,9 +37,12 @@ ghost use Rattle.tm_meaning.specs.IncludeTrees.{super_of_another};
 /// page's scopes, name and escape are there after it.
 pub fn include_rows()
     ensures text { Charges (including (codes "i")) (codes "ab" ++ decimal 1) 5 }
-    ensures four { Says (including (codes "i")) 4 (codes "ab") 0 (BadInclude ∷ OutOfFuel ∷ []) }
-    ensures within { Shows (with_limit 11 (including (codes "i"))) (codes "ab" ++ decimal 1) }
-    ensures too_deep { Fails (with_limit 10 (including (codes "i"))) [] (InvalidOperation ∷ []) }
+    ensures three { Says (including (codes "i")) 3 (codes "ab") 0 (BadInclude ∷ OutOfFuel ∷ []) }
+    ensures within { Shows (with_limit 12 (including (codes "i"))) (codes "ab" ++ decimal 1) }
+    ensures too_deep { Fails (with_limit 11 (including (codes "i"))) [] (InvalidOperation ∷ []) }
+    ensures nested { Shows (with_limit 23 includes_within) (codes "ab" ++ decimal 1) }
+    ensures nested_too_deep { Fails (with_limit 22 includes_within) []
+        (BadInclude ∷ InvalidOperation ∷ []) }
     ensures fault { FailsAfter (including (codes "bad")) (codes "a")
         (BadInclude ∷ UndefinedError ∷ []) 5 }
     ensures not_ignored { FailsAfter (including_by true (literal (codes "bad"))) (codes "a")
@@ -44,7 +50,7 @@ pub fn include_rows()
     ensures restores { Restores (including (codes "bad")) }
     ensures scopes { Restores fault_in_scope }
     ensures name { PageEndsIn (including (codes "bad")) (codes "page") }
-    ensures itself { FailsAfter includes_itself [] (bad_includes 49 (InvalidOperation ∷ [])) 100 }
+    ensures itself { FailsAfter includes_itself [] (bad_includes 45 (InvalidOperation ∷ [])) 92 }
 {}
 
 /// What names a template: a text, the first of several that is there, and what is none.
@@ -69,11 +75,14 @@ pub fn choice_rows()
         (InvalidOperation ∷ []) 4 }
 {}
 
-/// An included template runs in the scope of its tag: it sees and gives names there, but for the
-/// closure that was made in it.
+/// An included template runs in a scope of its own over that of its tag: it sees names there, and
+/// gives none.
 pub fn include_scope_rows()
-    ensures store { Charges stores_in_scope (decimal 7) 6 }
-    ensures inner { Charges stores_within (decimal 7 ++ codes "[]") 10 }
+    ensures store { Charges stores_in_scope [] 6 }
+    ensures inner { Charges stores_within (codes "[]") 10 }
+    ensures apart { Shows sets_apart (decimal 1 ++ decimal 2 ++ decimal 1) }
+    ensures enclosed { Shows encloses_apart (decimal 2 ++ decimal 1) }
+    ensures loop_around { Shows sees_loop (decimal 1 ++ decimal 1) }
     ensures rounds { Charges sees_round (decimal 1 ++ decimal 2) 18 }
     ensures argument { Charges sees_argument (decimal 4) 12 }
     ensures no_caller { Charges sees_no_caller [] 12 }
@@ -138,8 +147,20 @@ pub fn from_import_rows()
 /// Instructions without the operand that they take: any name, and a text.
 pub fn include_operand_rows()
     ensures name { run_before (i.Include false ∷ []) [] ≡ said [] 999 (BadStream ∷ []) }
+    ensures module { run_before (i.IncludeModule ∷ []) [] ≡ said [] 999 (BadStream ∷ []) }
     ensures nothing { run_before (i.ExportLocals ∷ []) [] ≡ said [] 1000 (BadStream ∷ []) }
     ensures number { run_before (one_left (i.ExportLocals ∷ [])) [] ≡ said [] 999 (BadStream ∷ []) }
+{}
+
+/// The template of an import stores nothing in the closure of the scope in which it runs, and that
+/// scope has its closure again after it, also after a fault.
+pub fn module_closure_rows()
+    ensures apart { closures_before (imports_under_closure []) (stores_j 2 [])
+        ≡ ((codes "j", number (pos 1)) ∷ []) ∷ [] }
+    ensures again { own_before (imports_under_closure []) (stores_j 2 []) ≡ Some 0 }
+    ensures fault { own_before (imports_under_closure []) (negated_text []) ≡ Some 0 }
+    ensures faulty { run_before (imports_under_closure []) (negated_text [])
+        ≡ said [] 993 (BadInclude ∷ InvalidOperation ∷ []) }
 {}
 
 /// The name of a template is joined to that of the one that runs.

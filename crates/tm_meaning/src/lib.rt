@@ -14,6 +14,7 @@ mod base;
 mod block_trees;
 mod expressions;
 mod function;
+mod further_guards;
 mod guards;
 mod include_trees;
 mod macro_trees;
@@ -34,13 +35,14 @@ pub use block_trees::{
 };
 pub use expressions::{dropped_value_rows, expression_rows, refused_expression_rows};
 pub use function::GlobalFunction;
+pub use further_guards::{escape_guards, inheritance_guards, scope_guards};
 pub use guards::{
     block_guards, call_guards, emission_guards, fuel_guards, look_up_guards, loop_guards,
     view_guards,
 };
 pub use include_trees::{
     choice_rows, from_import_rows, import_rows, include_loop_rows, include_operand_rows,
-    include_rows, include_run_rows, include_scope_rows, join_rows,
+    include_rows, include_run_rows, include_scope_rows, join_rows, module_closure_rows,
 };
 pub use macro_trees::{call_tag_rows, enclosed_rows, macro_value_rows, parameter_rows};
 pub use macros::{binding_rows, closure_rows, macro_call_rows, macro_part_rows, macro_rows};

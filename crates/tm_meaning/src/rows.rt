@@ -5,7 +5,7 @@ ghost use Rattle.tm_values.specs.Val.{boolean, function, map, no_pairs, number};
 ghost use Rattle.tm_values.specs.declared.error.ErrorKind.TheVariants.{CannotUnpack, InvalidOperation, MissingArgument, UndefinedError};
 ghost use Rattle.tm_values.specs.declared.error.ErrorKind.TheVariants.{UnknownFunction, UnknownMethod, OutOfFuel, WriteFailure, BadStream};
 ghost use Rattle.tm_values.specs.declared.error.ErrorKind.TheVariants.{OutOfMemory};
-ghost use Rattle.tm_meaning.specs.Rows.{Says, Charges, Shows, Fails, LeavesNames, Lacks, Restores, empty, text_alone, two_names};
+ghost use Rattle.tm_meaning.specs.Rows.{Says, SaysUnderEach, Charges, Shows, Fails, LeavesNames, Lacks, Restores, empty, text_alone, two_names};
 ghost use Rattle.tm_meaning.specs.Rows.{one_name, nothing, with_value, hello, either_text, of_three, empty_condition};
 ghost use Rattle.tm_meaning.specs.Rows.{shown, a, a_and_b_c, a_or_x, not_equal, a_b, literal_number, three_in_a_row};
 ghost use Rattle.tm_meaning.specs.Rows.{false_before_fault, no_value, one_condition, two_conditions, in_block};
@@ -18,7 +18,7 @@ ghost use Rattle.tm_meaning.specs.LoopRows.{chosen_by_loop, over_a_number};
 ghost use Rattle.tm_meaning.specs.CallRows.{changed_or_not, by_turns, by_no_turns, no_method_of_loops, method_of_map};
 ghost use Rattle.tm_meaning.specs.CallRows.{method_of_undefined, called_in_place, called_over_a_number};
 ghost use Rattle.tm_meaning.specs.CallRows.{not_recursive, no_loop_to_call, called_with_too_many};
-ghost use Rattle.tm_meaning.specs.CallRows.{depth_inside_recursive, tree_in_place, tree_as_value};
+ghost use Rattle.tm_meaning.specs.CallRows.{below, depth_inside_recursive, line_as_value, tree_in_place, tree_as_value};
 ghost use Rattle.tm_meaning.specs.CallRows.{called_after_its_end, range_of_three, range_by_name, dict_by_names};
 ghost use Rattle.tm_meaning.specs.CallRows.{summed, do_call, last_function, faulty, calling, keep_and_read};
 ghost use Rattle.tm_meaning.specs.CallRows.{unknown_after};
@@ -42,14 +42,13 @@ ghost use Rattle.tm_syntax.specs.declared.tree.Application.TheVariants.{Filter, 
 ghost use Rattle.tm_values.specs.declared.undefined.UndefinedBehavior.TheVariants.{SemiStrict, Strict};
 ghost use Rattle.tm_values.specs.declared.error.ErrorKind.TheVariants.{BadStream, UnknownBlock, UnknownFilter, UnknownTest};
 
-/// `Hello {{ name }}!` with the name World takes 4 charges, so 5 units of fuel; with fewer it ends where the fuel does.
+/// `Hello {{ name }}!` with the name World takes 4 charges; with fewer units of fuel it ends where the fuel does.
 pub fn hello_rows()
     ensures charges { Charges hello (codes "Hello World!") 4 }
-    ensures five { Says hello 5 (codes "Hello World!") 1 [] }
-    ensures four { Says hello 4 (codes "Hello World") 0 (OutOfFuel ∷ []) }
-    ensures three { Says hello 3 (codes "Hello ") 0 (OutOfFuel ∷ []) }
+    ensures four { Says hello 4 (codes "Hello World!") 0 [] }
+    ensures three { Says hello 3 (codes "Hello World") 0 (OutOfFuel ∷ []) }
     ensures two { Says hello 2 (codes "Hello ") 0 (OutOfFuel ∷ []) }
-    ensures one { Says hello 1 [] 0 (OutOfFuel ∷ []) }
+    ensures one { Says hello 1 (codes "Hello ") 0 (OutOfFuel ∷ []) }
     ensures zero { Says hello 0 [] 0 (OutOfFuel ∷ []) }
     ensures no_fuel_set { Shows hello (codes "Hello World!") }
 {}
@@ -61,17 +60,17 @@ pub fn text_rows()
     ensures literal { Charges (shown (literal (codes "}}")) nothing) (codes "}}") 2 }
 {}
 
-/// `{{ a }}{{ b }}` with the names A and B, and with x and an undefined one, takes 4 charges, so 5
-/// units of fuel; with fewer it ends where the fuel does.
+/// `{{ a }}{{ b }}` with the names A and B, and with x and an undefined one, takes 4
+/// charges; with fewer units of fuel it ends where the fuel does.
 pub fn two_names_rows()
-    ensures five { Says two_names 5 (codes "AB") 1 [] }
-    ensures four { Says two_names 4 (codes "A") 0 (OutOfFuel ∷ []) }
+    ensures four { Says two_names 4 (codes "AB") 0 [] }
     ensures three { Says two_names 3 (codes "A") 0 (OutOfFuel ∷ []) }
-    ensures two { Says two_names 2 [] 0 (OutOfFuel ∷ []) }
+    ensures two { Says two_names 2 (codes "A") 0 (OutOfFuel ∷ []) }
+    ensures one { Says two_names 1 [] 0 (OutOfFuel ∷ []) }
     ensures charges_of_one { Charges one_name (codes "x") 4 }
-    ensures four_of_one { Says one_name 4 (codes "x") 0 (OutOfFuel ∷ []) }
     ensures three_of_one { Says one_name 3 (codes "x") 0 (OutOfFuel ∷ []) }
-    ensures two_of_one { Says one_name 2 [] 0 (OutOfFuel ∷ []) }
+    ensures two_of_one { Says one_name 2 (codes "x") 0 (OutOfFuel ∷ []) }
+    ensures one_of_one { Says one_name 1 [] 0 (OutOfFuel ∷ []) }
 {}
 
 /// `{% if a %}x{% else %}y{% endif %}`, `{% if a %}1{% elif b %}2{% else %}3{% endif %}` and `{% if a %}{% endif %}`.
@@ -117,7 +116,7 @@ pub fn block_rows()
     ensures charges { Charges (in_block 500) (codes "xy") 5 }
     ensures deep_enough { Charges (in_block 2) (codes "xy") 5 }
     ensures too_deep { Fails (in_block 1) [] (InvalidOperation ∷ []) }
-    ensures out_of_fuel { Says (in_block 500) 3 (codes "x") 0 (OutOfFuel ∷ []) }
+    ensures out_of_fuel { Says (in_block 500) 2 (codes "x") 0 (OutOfFuel ∷ []) }
     ensures not_reached { Charges block_not_reached (codes "[") 3 }
     ensures fault { Fails fault_in_block (codes "x") (UnknownFunction ∷ []) }
     ensures restores { Restores fault_in_block }
@@ -139,7 +138,7 @@ pub fn scope_rows()
 /// and how texts are escaped that a set block takes or that are emitted under `{% autoescape e %}`.
 pub fn capture_rows()
     ensures set_block { Charges set_block (codes "a" ++ decimal 1) 7 }
-    ensures fuel_ends_inside { Says set_block 3 [] 0 (OutOfFuel ∷ []) }
+    ensures fuel_ends_inside { Says set_block 2 [] 0 (OutOfFuel ∷ []) }
     ensures fault_inside { Fails fault_in_capture (codes "b") (UnknownFunction ∷ []) }
     ensures not_unpacked { Fails set_block_of_two [] (CannotUnpack ∷ []) }
     ensures not_safe { Charges (set_under (literal_truth false)) (codes "&lt;") 7 }
@@ -150,18 +149,17 @@ pub fn capture_rows()
     ensures no_such { Fails (escaped_by (literal (codes "xml"))) [] (InvalidOperation ∷ []) }
 {}
 
-/// `{% for x in [1,2] %}{{ x }}{% endfor %}` with each fuel up to 15, loops without items, that are left or go on early, and `loop`.
+/// `{% for x in [1,2] %}{{ x }}{% endfor %}` with each fuel up to 14, loops without items, that are left or go on early, and `loop`.
 pub fn loop_rows()
     ensures charges { Charges each_number (decimal 1 ++ decimal 2) 14 }
-    ensures enough { Says each_number 15 (decimal 1 ++ decimal 2) 1 [] }
-    ensures last { Says each_number 14 (decimal 1 ++ decimal 2) 0 (OutOfFuel ∷ []) }
-    ensures thirteen { Says each_number 13 (decimal 1 ++ decimal 2) 0 (OutOfFuel ∷ []) }
-    ensures twelve { Says each_number 12 (decimal 1) 0 (OutOfFuel ∷ []) }
+    ensures enough { Says each_number 14 (decimal 1 ++ decimal 2) 0 [] }
+    ensures last { Says each_number 13 (decimal 1 ++ decimal 2) 0 (OutOfFuel ∷ []) }
+    ensures twelve { Says each_number 12 (decimal 1 ++ decimal 2) 0 (OutOfFuel ∷ []) }
     ensures eleven { Says each_number 11 (decimal 1) 0 (OutOfFuel ∷ []) }
     ensures ten { Says each_number 10 (decimal 1) 0 (OutOfFuel ∷ []) }
     ensures nine { Says each_number 9 (decimal 1) 0 (OutOfFuel ∷ []) }
     ensures eight { Says each_number 8 (decimal 1) 0 (OutOfFuel ∷ []) }
-    ensures seven { Says each_number 7 [] 0 (OutOfFuel ∷ []) }
+    ensures seven { Says each_number 7 (decimal 1) 0 (OutOfFuel ∷ []) }
     ensures six { Says each_number 6 [] 0 (OutOfFuel ∷ []) }
     ensures five { Says each_number 5 [] 0 (OutOfFuel ∷ []) }
     ensures four { Says each_number 4 [] 0 (OutOfFuel ∷ []) }
@@ -182,7 +180,7 @@ pub fn loop_rows()
 /// holds for none, and what `loop` is in the body and in the condition.
 pub fn loop_condition_rows()
     ensures alone { Charges chosen_alone (decimal 2) 29 }
-    ensures last { Says chosen_alone 29 (decimal 2) 0 (OutOfFuel ∷ []) }
+    ensures last { Says chosen_alone 28 (decimal 2) 0 (OutOfFuel ∷ []) }
     ensures chosen { Charges (chosen 1) (decimal 2) 30 }
     ensures none { Charges (chosen 2) (codes "E") 23 }
     ensures index { Charges chosen_index (decimal 1) 30 }
@@ -290,7 +288,7 @@ pub fn filter_block_rows()
     ensures safe { Charges safe_in_html (codes "<b>&lt;i&gt;") 7 }
     ensures set_block { Charges set_filtered (codes "B") 8 }
     ensures broken { Charges break_in_filter (codes "!") 8 }
-    ensures fuel_ends_inside { Says two_filters 5 [] 0 (OutOfFuel ∷ []) }
+    ensures fuel_ends_inside { Says two_filters 4 [] 0 (OutOfFuel ∷ []) }
     ensures fault_inside { Fails fault_in_filter (codes "a") (UnknownFilter ∷ []) }
 {}
 
@@ -395,7 +393,7 @@ pub fn formatter_rows()
 
 /// Loops that are called: `{{ loop(x) }}` in place, over `[[]]`, a number, in a loop that can't be
 /// called and outside of loops; `loop(x, 1)`; `loop.depth`; a tree in place and as values; a loop
-/// called after its end.
+/// called after its end; and a tree as values under each fuel up to its 24 charges.
 pub fn recursion_rows()
     ensures in_place { Charges called_in_place (codes "a") 10 }
     ensures number { Fails called_over_a_number [] (InvalidOperation ∷ InvalidOperation ∷ []) }
@@ -406,4 +404,7 @@ pub fn recursion_rows()
     ensures tree { Shows tree_in_place (codes "1(2())3()") }
     ensures as_value { Shows tree_as_value (codes "1[2[]]3[]") }
     ensures after_its_end { Shows called_after_its_end (codes "123") }
+    ensures unwritten { SaysUnderEach line_as_value (below 22) [] (OutOfFuel ∷ []) }
+    ensures written { SaysUnderEach line_as_value (22 ∷ 23 ∷ []) (codes "12") (OutOfFuel ∷ []) }
+    ensures paid { Says line_as_value 24 (codes "12") 0 [] }
 {}

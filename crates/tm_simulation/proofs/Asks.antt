@@ -30,10 +30,10 @@ use Rattle.tm_meaning.specs.Calls.{call_loop, call_innermost, one_argument, call
 use Rattle.tm_meaning.specs.Calls.{method_object, unknown_method, call_callee, call_in, call_first, apply_filter, perform_test}
 use Rattle.tm_meaning.specs.Calls.{as_truth, applied, MakesFurther, object_call, found_call, further_call, further_calls}
 use Rattle.tm_meaning.specs.Calls.{depths_left, by_depths, function_call, value_call, as_printed, deeper, from_deeper}
-use Rattle.tm_meaning.specs.Calls.{enter_macro, bound_to, known_stream, macro_depth, macro_scopes}
+use Rattle.tm_meaning.specs.Calls.{named_call, enter_macro, bound_to, known_stream, macro_depth, macro_scopes}
 use Rattle.tm_meaning.specs.Calls.{loop_method, method_in, of_loop, record_at, given_by, replied, required_alone}
 use Rattle.tm_meaning.specs.Calls.{super_call, enter_super, no_values, call_super, call_looked_up, own_blocks, choices_in, first_found}
-use Rattle.tm_meaning.specs.Calls.{include_depth, include_call, in_template, include_found, enter_include}
+use Rattle.tm_meaning.specs.Calls.{include_cost, include_depth, include_call, in_template, include_found, enter_include}
 use Rattle.tm_meaning.specs.Inheritance.{place_in}
 use Rattle.tm_meaning.specs.declared.function.GlobalFunction.{GlobalFunction}
 use Rattle.tm_meaning.specs.declared.function.GlobalFunction.TheVariants as own
@@ -176,17 +176,17 @@ module _ (Holds : Asked → Type 0) (host : HostValue) (w : World)
   answer_asks (Err chain) g h k = refuses chain h
 
   -- An include is refused, or nothing happens, or it asks for a run of its own.
-  module _ (skips : Holds (has (undefined false) w)) (enters : (t : TemplateId) → include_depth + depth w.scopes ≤ host.limit →
-      Holds (runs (include_call t w) (in_template host t w))) where
-    include_found_asks : (missing : Bool) (found : Option TemplateId) → Holds (include_found host missing found w)
+  module _ (skips : Holds (has (undefined false) w)) (apart : Bool) (enters : (t : TemplateId) →
+      include_cost apart + depth w.scopes ≤ host.limit → Holds (runs (include_call t w) (in_template host apart t w))) where
+    include_found_asks : (missing : Bool) (found : Option TemplateId) → Holds (include_found host apart missing found w)
     include_found_asks missing (Some t) =
-        let deep = include_depth + depth w.scopes in
+        let deep = include_cost apart + depth w.scopes in
         room_asks Holds w (not (nat_lt host.limit deep)) InvalidOperation _ (refuses (InvalidOperation ∷ []) (raised refl))
         (λ room. enters t (ltb-false host.limit deep (not_true (nat_lt host.limit deep) room)))
     include_found_asks missing None =
         check_asks Holds w missing TemplateNotFound _ (refuses (TemplateNotFound ∷ []) (raised refl)) skips
 
-    pub include_asks_by : (v : Val) (missing : Bool) → Holds (enter_include host v missing w)
+    pub include_asks_by : (v : Val) (missing : Bool) → Holds (enter_include host apart v missing w)
     include_asks_by v missing =
         answer_asks (choices_in (records_of w) v) _ (raised_arise host _ (choices_raise (records_of w) v)) (λ vs.
         first_found_asks vs _ (λ found. include_found_asks (missing || no_values vs) found))
@@ -195,12 +195,22 @@ owning_long : (closure : Option ℕ) (frames : List Scope) → length (owning cl
 owning_long closure [] = refl
 owning_long closure (s ∷ ss) = refl
 
-pub include_asks : (host : HostValue) (v : Val) (missing : Bool) (w : World) → Asks host w (enter_include host v missing w)
-include_asks host v missing w =
-    include_asks_by (Asks host w) host w (λ chain h. (advances_same w, h)) (kept_same w) (λ t room. (
-      omega (arith, owning_long None w.scopes.frames),
-      omega (arith, room, owning_long None w.scopes.frames),
-      λ world2 l. include_undone_kept (include_depth + w.scopes.outer) (root_of t) (template_at host t).escape
+-- how deep the scopes lie in which a template runs
+include_deep : (apart : Bool) (host : HostValue) (t : TemplateId) (w : World) →
+    depth (in_template host apart t w).scopes ≡ include_cost apart + depth w.scopes
+include_deep true host t w = omega arith
+include_deep false host t w = omega (arith, owning_long None w.scopes.frames)
+
+cost_positive : (apart : Bool) → 1 ≤ include_cost apart
+cost_positive true = omega arith
+cost_positive false = omega arith
+
+pub include_asks : (host : HostValue) (apart : Bool) (v : Val) (missing : Bool) (w : World) → Asks host w (enter_include host apart v missing w)
+include_asks host apart v missing w =
+    include_asks_by (Asks host w) host w (λ chain h. (advances_same w, h)) (kept_same w) apart (λ t room. (
+      omega (arith, include_deep apart host t w, cost_positive apart),
+      omega (arith, room, include_deep apart host t w),
+      λ world2 l. include_undone_kept apart (include_depth + w.scopes.outer) (root_of t) (template_at host t).escape
           (own_blocks t (template_at host t).blocks) w world2 l,
     )) v missing
 
@@ -313,6 +323,13 @@ value_asks host v args w = value_call_asks (by_depths host w) 0 host (depths_ask
 pub callee_asks : (host : HostValue) (vs : List Val) (w : World) → Asks host w (call_callee host vs w)
 callee_asks host [] w = asks_refused host w InvalidOperation refl
 callee_asks host (v ∷ args) w = value_asks host v args w
+
+-- the value of a name, called as a function
+pub by_name_asks : (host : HostValue) (x : List ℕ) (args : List Val) (w : World) → Asks host w (named_call (by_depths host w) 0 host x args w)
+by_name_asks host x args w =
+    ask_then host w (lookup host x w) _ (lookup_gives host x w) (λ found world1.
+    ask_need host world1 found UnknownFunction (λ f world2. value_call (by_depths host w) 0 host f args world2) refl
+    (λ f e. value_call_asks (by_depths host w) 0 host (depths_ask host w) f args world1))
 
 -- ---------------------------------------------------------------- methods
 if_asks : (host : HostValue) (w : World) (b : Bool) (p q : Asked) → Asks host w p → Asks host w q → Asks host w (if b then p else q)

@@ -322,7 +322,9 @@ module _ (s : StreamId) (fs ts : Caches) where
           (placed_same f c.run.operands (enter_block host b c.world)) (here, refl)
       effect_same f i.FastSuper none = placed_same f c.run.operands (enter_super host c.world)
       effect_same f (i.Include missing) none = on_top_same c.run.operands c.world _ _
-          (λ v vs. placed_same f vs (enter_include host v missing c.world))
+          (λ v vs. placed_same f vs (enter_include host true v missing c.world))
+      effect_same f i.IncludeModule none = on_top_same c.run.operands c.world _ _
+          (λ v vs. placed_same f vs (enter_include host false v false c.world))
       effect_same f i.ExportLocals none = on_top_same c.run.operands c.world _ _
           (λ v vs. on_text_same (text_in v) c.world _ _ (λ t. (here, refl)))
       effect_same f i.LoadBlocks none = on_top_same c.run.operands c.world _ _ (λ v vs.

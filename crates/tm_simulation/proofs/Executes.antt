@@ -132,7 +132,7 @@ module _ (u : Under) (nest_ends : (k : Callee) (heard : Bool) (out : List ℕ) (
         let last = caller_gives u.host at.macros m in
         ends_use u.host w (call u run (with_caller u.host at.macros m) e w) run out _ (call_gives u nest_ends again_ends _ last run e w)
         (λ v world1. emit_ends run out v world1)
-    exec_ends at (Include e missing) run out w = include_ends u nest_ends again_ends run e missing out w
+    exec_ends at (Include e missing) run out w = include_ends u nest_ends again_ends run true e missing out w
     exec_ends at (Import e t) run out w =
         ends_use u.host w (import u run e t w) run out _ (import_gives u nest_ends again_ends run e t w)
         (λ _ world1. ends_here u.host world1 world1 run out (kept_same world1))

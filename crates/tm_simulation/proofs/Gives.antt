@@ -6,7 +6,7 @@ use Rattle.tm_values.specs.declared.error.ErrorKind.{ErrorKind}
 use Rattle.tm_values.specs.declared.error.ErrorKind.TheVariants.{InvalidOperation}
 use Rattle.tm_syntax.specs.declared.instruction.LoopFlags.{LoopFlags}
 use Rattle.tm_syntax.specs.Code.{for_flags}
-use Rattle.tm_meaning.specs.World.{choose, World, HostValue, Scope, loop_scope, next_turn, cleared, Res, Good, Bad, bind, answered, charged}
+use Rattle.tm_meaning.specs.World.{choose, World, HostValue, Scope, loop_scope, next_turn, cleared, Res, Good, Bad, bind, answered, can_be_paid, charged}
 use Rattle.tm_meaning.specs.World.{with_fuel, tick, pop, depth, ticked, top_mark, turned_of}
 use Rattle.tm_meaning.specs.declared.mark.LoopMark.{LoopMark}
 use Rattle.tm_meaning.specs.Inheritance.{count_left, names_left}
@@ -150,7 +150,7 @@ module _ (host : HostValue) where
   fuel_gives None w less = ((kept_lasting (lasts_by_fuel w 0 (omega arith)) refl refl refl refl).advances, raised refl)
 
   pub tick_gives : (w : World) → Gives host w (tick w)
-  tick_gives w = fuel_gives (charged 1 w.fuel) w (charged_by false (nat_lt 1 w.fuel) 1 w.fuel)
+  tick_gives w = fuel_gives (charged 1 w.fuel) w (charged_by false (can_be_paid 1 w.fuel) 1 w.fuel)
 
   pub ticked_gives : {A : Type 0} (w : World) (f : World → Res A) → ((world1 : World) → Gives host world1 (f world1)) →
       Gives host w (ticked w f)

@@ -7,6 +7,7 @@ use Rattle.tm_syntax.specs.declared.tree.AssignmentTarget.{AssignmentTarget}
 use Rattle.tm_syntax.specs.declared.tree.Imported.{Imported}
 use Rattle.tm_syntax.specs.declared.instruction.CaptureMode.{CaptureMode}
 use Rattle.tm_syntax.specs.declared.instruction.CaptureMode.TheVariants.{Capture, Discard}
+use Rattle.tm_syntax.specs.declared.instruction.Instruction.{Instruction}
 use Rattle.tm_syntax.specs.declared.instruction.Instruction.TheVariants as i
 use Rattle.tm_syntax.specs.Fragments.{◌⨾◌, straight, Labels, beyond}
 use Rattle.tm_syntax.specs.Code.{expr_code, target_code, included_code, lookups_code, stores_code}
@@ -16,7 +17,8 @@ use Rattle.tm_meaning.specs.World.{captured_text}
 use Rattle.tm_meaning.specs.Calls.{enter_include, include_call, in_template}
 use Rattle.tm_meaning.specs.Meaning.{Run, Outcome, Under, use_it, in_place_of, audible, eval, capturing}
 use Rattle.tm_meaning.specs.Meaning.{include, heard_after, included, import, give_each, import_names}
-use Rattle.tm_meaning.specs.Machine.{goes}
+use Rattle.tm_meaning.specs.Machine.{after, goes, with_world}
+use Rattle.tm_meaning.specs.Instructions.{include_of}
 use Rattle.tm_simulation.proofs.Advances.{Kept, kept_top, kept_frames, kept_then, kept_popped, within, one_more}
 use Rattle.tm_simulation.proofs.Gives.{tick_gives}
 use Rattle.tm_simulation.proofs.Asks.{include_asks, include_asks_by}
@@ -37,13 +39,13 @@ use_parent : {A : Type 0} (m : Res A) (run : Run) (out : List ℕ) (g : A → Wo
 use_parent (Good a w) run out g h = h a w
 use_parent (Bad chain w) run out g h = refl
 
-include_parent : (u : Under) (run : Run) (e : Expr) (missing : Bool) (out : List ℕ) (w : World) →
-    (include u run e missing out w).parent ≡ run.parent
-include_parent u run e missing out w =
+include_parent : (u : Under) (run : Run) (apart : Bool) (e : Expr) (missing : Bool) (out : List ℕ) (w : World) →
+    (include u run apart e missing out w).parent ≡ run.parent
+include_parent u run apart e missing out w =
     use_parent (eval u run e w) run out _ (λ v world1. use_parent (tick world1) run out _ (λ _ world2.
-    include_asks_by (λ q. (in_place_of u run out q).parent ≡ run.parent) u.host world2 (λ chain h. refl) refl (λ t room.
+    include_asks_by (λ q. (in_place_of u run out q).parent ≡ run.parent) u.host world2 (λ chain h. refl) refl apart (λ t room.
     let c = include_call t world2 in
-    let o = u.nests c.callee (audible run) out (in_template u.host t world2) in
+    let o = u.nests c.callee (audible run) out (in_template u.host apart t world2) in
     after_parent o.ending c run o) v missing))
 
 -- a scope more, where there is room for it, before what is bound twice
@@ -72,21 +74,24 @@ module _ (setting : Setting) where
   abbrev captured_at : Bool → Spot → Spot
   captured_at heard s = record s { bed = capture_in heard s.bed s.out; out = [] }
 
-  -- The template that a value names runs in place.
-  pub include_runs : (e : Expr) (missing : Bool) (run : Run) (s : Spot) (l : Labels) (pc : ℕ) (stack : List Val) (w : World)
-      (D L N : Then) → Stands context.base run s → Deep setting run s w →
-      In setting s l pc (expr_code e ⨾ straight (i.Include missing ∷ [])) →
-      Ends context s.bed (include u (as_at run s) e missing s.out w) D L N →
+  -- The template that a value names runs in place, by an instruction that does that.
+  pub include_runs : (apart : Bool) (x : Instruction) (e : Expr) (missing : Bool) (run : Run) (s : Spot) (l : Labels) (pc : ℕ) (stack : List Val) (w : World)
+      (D L N : Then) → ((at : ℕ) (v : Val) (world1 : World) → slice_get (context.program.code s.run.stream) at ≡ Some x →
+      LeadsToEnd context (told s) (after (tick world1) (λ _ world2.
+      include_of context.program context.base apart missing (with_world world2 (cfg s at (v ∷ stack) world1)))) →
+      Go context s at (v ∷ stack) world1) → Stands context.base run s → Deep setting run s w →
+      In setting s l pc (expr_code e ⨾ straight (x ∷ [])) →
+      Ends context s.bed (include u (as_at run s) apart e missing s.out w) D L N →
       ((q : Option TemplateId) (out : List ℕ) (world1 : World) → D q out world1 →
       Go context (later s q out) (beyond pc (expr_code e) + 1) stack world1) → Go context s pc stack w
-  include_runs e missing run s l pc stack w D L N fits d is h g =
+  include_runs apart x e missing run s l pc stack w D L N does fits d is h g =
       expr_runs setting e (as_at run s) s l pc stack w (here setting run s w d) is.0
       (use_then context s.bed w (eval u (as_at run s) e w) (as_at run s) s.out _ D L N _
       (eval_gives u (nest_ends setting) again_kept (as_at run s) e w) h (λ v world1 k1 h1.
-      at context (i.Include missing) s _ (v ∷ stack) world1 is.1.0 (after_then context (told s) (tick world1) _
+      does _ v world1 is.1.0 (after_then context (told s) (tick world1) _
       (use_then context s.bed world1 (tick world1) (as_at run s) s.out _ D L N _ (tick_gives _ world1) h1 (λ _ world2 k2 h2.
-      placed_then setting run s _ stack (v ∷ stack) world2 world2 (enter_include context.program.host v missing world2) D L N fits.2
-      (include_asks context.program.host v missing world2) (deep_kept setting run s k2 (deep_kept setting run s k1 d)) h2 g)))))
+      placed_then setting run s _ stack (v ∷ stack) world2 world2 (enter_include context.program.host apart v missing world2) D L N fits.2
+      (include_asks context.program.host apart v missing world2) (deep_kept setting run s k2 (deep_kept setting run s k1 d)) h2 g)))))
 
   -- ---------------------------------------------------------------- what is heard of it
   begins_then : (heard : Bool) (s : Spot) (pc : ℕ) (stack : List Val) (w : World) →
@@ -110,8 +115,8 @@ module _ (setting : Setting) where
       let run2 = capturing heard (as_at run s) in
       let fits = stands_in_capture setting heard run s d.1 in
       let x = within blank w in
-      let o = include u run2 e false [] x in
-      let heard_of : World → Res (List ℕ) = λ y. let q = include u run2 e false [] y in heard_after q.ending q in
+      let o = include u run2 false e false [] x in
+      let heard_of : World → Res (List ℕ) = λ y. let q = include u run2 false e false [] y in heard_after q.ending q in
       let T = HeardThen setting s g K in
       let D : Then = λ q out world1. Kept x world1 × T q out world1 in
       begins_then heard s pc stack w begins
@@ -119,9 +124,10 @@ module _ (setting : Setting) where
       (room_then context (told s) w blank (nat_lt (depth w.scopes) host.limit) heard_of g K
       (λ y. LeadsToEnd context (told s) (goes stack y (cfg inner (pc + 1) stack w))) h (λ room h1.
       silent context (told s) _
-      (include_runs e false run1 inner l (pc + 1 + 1) stack x D T T fits (deep_within setting run1 inner blank w room (d.0, fits, d.2)) is.1
-      (ends_map_kept context inner.bed x o T D T T (include_ends u (nest_ends setting) again_kept run2 e false [] x)
-      (heard_then setting heard s g K o.ending o.parent o.text o.world (include_parent u run2 e false [] x) h1)
+      (include_runs false i.IncludeModule e false run1 inner l (pc + 1 + 1) stack x D T T
+      (λ at1 v world1 found leads. at context i.IncludeModule inner at1 (v ∷ stack) world1 found leads) fits (deep_within setting run1 inner blank w room (d.0, fits, d.2)) is.1
+      (ends_map_kept context inner.bed x o T D T T (include_ends u (nest_ends setting) again_kept run2 false e false [] x)
+      (heard_then setting heard s g K o.ending o.parent o.text o.world (include_parent u run2 false e false [] x) h1)
       (λ q out world1 k1 t. (k1, t)))
       (λ q out world1 t.
       subst (λ p. Go context (later inner p out) (beyond (pc + 1) (included_code e)) stack world1) (sym t.1.0)

@@ -38,20 +38,20 @@ give_each_gives host s w (x ∷ xs) world1 k =
 module _ (u : Under) (nest_ends : (k : Callee) (heard : Bool) (out : List ℕ) (w : World) → RunEnds u.host w (u.nests k heard out w))
     (again_ends : (n : ℕ) (items : List Val) (run : Run) (out : List ℕ) (w : World) →
     OutcomeKeeps u.host run.parent w (u.again n items run out w)) where
-  pub include_ends : (run : Run) (e : Expr) (missing : Bool) (out : List ℕ) (w : World) →
-      OutcomeKeeps u.host run.parent w (include u run e missing out w)
-  include_ends run e missing out w =
+  pub include_ends : (run : Run) (apart : Bool) (e : Expr) (missing : Bool) (out : List ℕ) (w : World) →
+      OutcomeKeeps u.host run.parent w (include u run apart e missing out w)
+  include_ends run apart e missing out w =
       ends_use u.host w (eval u run e w) run out _ (eval_gives u nest_ends again_ends run e w) (λ v world1.
       ends_use u.host world1 (tick world1) run out _ (tick_gives u.host world1) (λ _ world2.
-      place_ends u nest_ends again_ends world2 run out _ (include_asks u.host v missing world2)))
+      place_ends u nest_ends again_ends world2 run out _ (include_asks u.host apart v missing world2)))
 
   -- what is heard of a template in a scope of its own, and what comes of it where that is left
   in_scope_gives : {A : Type 0} (run : Run) (e : Expr) (w : World) (s : Scope) (g : List ℕ → World → Res A) →
       ((x : List ℕ) (world1 : World) → Kept (within s w) world1 → Gives u.host w (g x world1)) →
-      let o = include u run e false [] (within s w) in Gives u.host w (bind (heard_after o.ending o) g)
+      let o = include u run false e false [] (within s w) in Gives u.host w (bind (heard_after o.ending o) g)
   in_scope_gives run e w s g k =
-      let o = include u run e false [] (within s w) in
-      let ends = ends_as u.host (within s w) o (include_ends run e false [] (within s w)) in
+      let o = include u run false e false [] (within s w) in
+      let ends = ends_as u.host (within s w) o (include_ends run false e false [] (within s w)) in
       gives_kept u.host w (within s w) (heard_after o.ending o) g (advances_within s w)
       (heard_gives u.host (within s w) o.ending o ends) k
 

@@ -14,17 +14,20 @@ use Rattle.tm_meaning.specs.Meaning.{ended, Run, Outcome, Ending, done, leave, n
 use Rattle.tm_meaning.specs.Runs.{over, under, again_of, done_by}
 use Rattle.tm_meaning.specs.Meaning.{after, in_place_of, block_tag, audible, none_waits}
 use Rattle.tm_meaning.specs.Runs.{at_end, new_run, nests_of, rendered, chain_in}
-use Rattle.tm_meaning.specs.Meaning.{eval}
+use Rattle.tm_meaning.specs.Meaning.{eval, import, import_names}
+use Rattle.tm_syntax.specs.declared.tree.Expr.{Expr}
+use Rattle.tm_syntax.specs.declared.tree.AssignmentTarget.{AssignmentTarget}
+use Rattle.tm_syntax.specs.declared.tree.Imported.{Imported}
 use Rattle.tm_meaning.specs.Runs.{chain_of, macro_body, macro_run, stream_run, restarting, run_of, failed}
 use Rattle.tm_meaning.specs.Inheritance.{names_left, place_in}
-use Rattle.tm_simulation.specs.Kept.{UnlessFault, Stays, OnlyAdds, EndsThere, PutsBack, GivesBack, bare}
+use Rattle.tm_simulation.specs.Kept.{UnlessFault, Stays, OnlyAdds, EndsThere, PutsBack, GivesBack, LeavesScopes, bare}
 use Rattle.tm_meaning.specs.declared.stream.TemplateId.{TemplateId}
 use Rattle.tm_meaning.specs.declared.stream.StreamId.{StreamId}
 use Rattle.tm_simulation.specs.Chains.{Arises, IfAny}
 use Rattle.tm_simulation.proofs.Advances.{Kept, advances_then, kept_same, kept_then}
 use Rattle.tm_simulation.proofs.RunAdvances.{in_stream, undone_scopes, undone_kept, super_undone_scopes}
 use Rattle.tm_simulation.proofs.Advances.{own_bare}
-use Rattle.tm_simulation.proofs.RunAdvances.{include_undone_bare}
+use Rattle.tm_simulation.proofs.RunAdvances.{include_undone_bare, include_undone_scopes}
 use Rattle.tm_simulation.proofs.Parents.{blocks_same}
 use Rattle.tm_simulation.proofs.Gives.{Gives, RunEnds, run_ends, run_ends_by, run_ends_from, run_ends_after, run_ends_as, ends_advance}
 use Rattle.tm_simulation.proofs.Gives.{EndingKeeps, OutcomeKeeps, ends_as, ends_from, ends_parents, parents_left, parents_kept}
@@ -32,6 +35,7 @@ use Rattle.tm_simulation.proofs.Gives.{parents_advance, refused_arises, tick_giv
 use Rattle.tm_simulation.proofs.Gives.{ends_refused, ends_use, choose_ends}
 use Rattle.tm_simulation.proofs.Asks.{in_block, block_asks_by, in_super, super_asks_by, include_asks_by}
 use Rattle.tm_simulation.proofs.Evaluates.{eval_gives}
+use Rattle.tm_simulation.proofs.Includes.{import_gives, import_names_gives}
 use Rattle.tm_simulation.proofs.Executes.{execs_end, called_end, body_ends}
 
 done_by_ends : (host : HostValue) {q : Option TemplateId} (w world1 : World) (m : Res (Unit {0})) (o : Outcome) → Kept w world1 →
@@ -312,15 +316,15 @@ gives_back_same w = record {
   same_loaded = refl;
 }
 
-included_gives_back : (u : Under) (run : Run) (out : List ℕ) (w : World) (t : TemplateId) →
-    RunEnds u.host (in_template u.host t w) (u.nests (whole (root_of t)) (audible run) out (in_template u.host t w)) →
-    GivesBack w (in_place_of u run out (runs (include_call t w) (in_template u.host t w))).world
-included_gives_back u run out w t ends =
+included_gives_back : (apart : Bool) (u : Under) (run : Run) (out : List ℕ) (w : World) (t : TemplateId) →
+    RunEnds u.host (in_template u.host apart t w) (u.nests (whole (root_of t)) (audible run) out (in_template u.host apart t w)) →
+    GivesBack w (in_place_of u run out (runs (include_call t w) (in_template u.host apart t w))).world
+included_gives_back apart u run out w t ends =
     let c : NestedCall = include_call t w in
-    let began = in_template u.host t w in
+    let began = in_template u.host apart t w in
     let o = u.nests (whole (root_of t)) (audible run) out began in
     let h = ends_advance u.host (in_stream o.world.stream began) o.ending o.world (run_ends_as u.host began o ends) in
-    let same = include_undone_bare (include_depth + w.scopes.outer) (root_of t) (template_at u.host t).escape
+    let same = include_undone_bare apart (include_depth + w.scopes.outer) (root_of t) (template_at u.host t).escape
     (own_blocks t (template_at u.host t).blocks) w o.world h in
     subst (GivesBack w) (sym (after_world o.ending c run o)) (record {
       same_scopes = same;
@@ -334,20 +338,63 @@ included_gives_back u run out w t ends =
       same_loaded = refl;
     })
 
-pub include_gives_back : (host : HostValue) (trees : Trees) (n : ℕ) (tree : StreamTree) (run : Run) (out : List ℕ) (v : Val) (missing : Bool)
-    (w : World) → GivesBack w (in_place_of (under host (nests_of host trees n) tree) run out (enter_include host v missing w)).world
-include_gives_back host trees n tree run out v missing w =
+pub include_gives_back : (host : HostValue) (trees : Trees) (n : ℕ) (tree : StreamTree) (run : Run) (out : List ℕ) (apart : Bool) (v : Val)
+    (missing : Bool) (w : World) →
+    GivesBack w (in_place_of (under host (nests_of host trees n) tree) run out (enter_include host apart v missing w)).world
+include_gives_back host trees n tree run out apart v missing w =
     let u : Under = under host (nests_of host trees n) tree in
-    include_asks_by (λ q. GivesBack w (in_place_of u run out q).world) host w (λ chain h. gives_back_same w) (gives_back_same w)
-    (λ t room. included_gives_back u run out w t (nests_end host trees n (whole (root_of t)) (audible run) out (in_template host t w)))
+    include_asks_by (λ q. GivesBack w (in_place_of u run out q).world) host w (λ chain h. gives_back_same w) (gives_back_same w) apart
+    (λ t room. included_gives_back apart u run out w t
+    (nests_end host trees n (whole (root_of t)) (audible run) out (in_template host apart t w)))
     v missing
 
+included_keeps_scopes : (u : Under) (run : Run) (out : List ℕ) (w : World) (t : TemplateId) →
+    RunEnds u.host (in_template u.host true t w) (u.nests (whole (root_of t)) (audible run) out (in_template u.host true t w)) →
+    (in_place_of u run out (runs (include_call t w) (in_template u.host true t w))).world.scopes ≡ w.scopes
+included_keeps_scopes u run out w t ends =
+    let c : NestedCall = include_call t w in
+    let began = in_template u.host true t w in
+    let o = u.nests (whole (root_of t)) (audible run) out began in
+    let h = ends_advance u.host (in_stream o.world.stream began) o.ending o.world (run_ends_as u.host began o ends) in
+    subst (λ (v : World). v.scopes ≡ w.scopes) (sym (after_world o.ending c run o))
+    (include_undone_scopes (include_depth + w.scopes.outer) (root_of t) (template_at u.host t).escape
+    (own_blocks t (template_at u.host t).blocks) w o.world h)
+
+pub include_keeps_scopes : (host : HostValue) (trees : Trees) (n : ℕ) (tree : StreamTree) (run : Run) (out : List ℕ) (v : Val)
+    (missing : Bool) (w : World) →
+    (in_place_of (under host (nests_of host trees n) tree) run out (enter_include host true v missing w)).world.scopes ≡ w.scopes
+include_keeps_scopes host trees n tree run out v missing w =
+    let u : Under = under host (nests_of host trees n) tree in
+    include_asks_by (λ q. (in_place_of u run out q).world.scopes ≡ w.scopes) host w (λ chain h. refl) refl true
+    (λ t room. included_keeps_scopes u run out w t
+    (nests_end host trees n (whole (root_of t)) (audible run) out (in_template host true t w)))
+    v missing
+
+-- ---------------------------------------------------------------- what an import leaves
+leaves_scopes : (host : HostValue) {A : Type 0} (w : World) (m : Res A) → Gives host w m → LeavesScopes w m
+leaves_scopes host w (Good a world1) h = (h.same_scopes, h.advances.outer)
+leaves_scopes host w (Bad chain world1) h = (h.0.scopes, h.0.outer)
+
+pub import_leaves : (host : HostValue) (trees : Trees) (n : ℕ) (tree : StreamTree) (run : Run) (e : Expr) (t : AssignmentTarget) (w : World) →
+    LeavesScopes w (import (under host (nests_of host trees n) tree) run e t w)
+import_leaves host trees n tree run e t w =
+    let nests = nests_of host trees n in
+    leaves_scopes host w _ (import_gives (under host nests tree) (nests_end host trees n)
+    (again_end host nests (nests_end host trees n) tree (host.limit + 1)) run e t w)
+
+pub import_names_leaves : (host : HostValue) (trees : Trees) (n : ℕ) (tree : StreamTree) (run : Run) (e : Expr) (xs : List Imported) (w : World) →
+    LeavesScopes w (import_names (under host (nests_of host trees n) tree) run e xs w)
+import_names_leaves host trees n tree run e xs w =
+    let nests = nests_of host trees n in
+    leaves_scopes host w _ (import_names_gives (under host nests tree) (nests_end host trees n)
+    (again_end host nests (nests_end host trees n) tree (host.limit + 1)) run e xs w)
+
 -- ---------------------------------------------------------------- of which kinds its fault is
-if_any : (Has : List ErrorKind → Type 0) (chain : List ErrorKind) → Has chain → IfAny Has chain
+pub if_any : (Has : List ErrorKind → Type 0) (chain : List ErrorKind) → Has chain → IfAny Has chain
 if_any Has [] h = tt
 if_any Has (k ∷ ks) h = h
 
-ending_arises : (host : HostValue) (e : Ending) (w world1 : World) → EndingKeeps host w e world1 → IfAny (Arises host) (chain_in e)
+pub ending_arises : (host : HostValue) (e : Ending) (w world1 : World) → EndingKeeps host w e world1 → IfAny (Arises host) (chain_in e)
 ending_arises host (done vs) w world1 h = tt
 ending_arises host leave w world1 h = tt
 ending_arises host next w world1 h = tt

@@ -10,6 +10,7 @@ pub mod Declares
 pub mod Includes
 pub mod Executes
 pub mod Keeps
+pub mod Called
 pub mod Leaves
 pub mod Chains
 pub mod Loops

@@ -3,13 +3,13 @@ use Rattle.std.proofs.Common.{◌≡◌, ℕ, zero, suc, ◌+◌, List, [], ◌�
 use Rattle.std.proofs.Common.{subst, ap, ◌∙◌, arith, ◌≤◌}
 use Rattle.std.specs.Prelude.{◌-◌, if◌then◌else◌}
 use Rattle.std.proofs.lemmas.List.{append-nil}
-use Rattle.tm_values.specs.Val.{Val}
+use Rattle.tm_values.specs.Val.{Val, undefined}
 use Rattle.tm_values.specs.declared.escape.AutoEscape.{AutoEscape}
 use Rattle.tm_syntax.specs.declared.instruction.LoopFlags.{LoopFlags}
 use Rattle.tm_meaning.specs.World.{Bindings, World, Scopes, Scope, Loop, loop_scope, new_loop, turned_at, turned_of}
-use Rattle.tm_meaning.specs.World.{top_mark, next_turn, Res, Good, depth}
+use Rattle.tm_meaning.specs.World.{top_mark, next_turn, Res, Good, depth, plain_scope}
 use Rattle.tm_meaning.specs.World.{own_closure, owning}
-use Rattle.tm_meaning.specs.Calls.{keeping_at, is_changed, outermost, undone, of_block, of_super, of_macro, of_include, run_undone}
+use Rattle.tm_meaning.specs.Calls.{keeping_at, include_frames, is_changed, outermost, undone, of_block, of_super, of_macro, of_include, run_undone}
 use Rattle.tm_meaning.specs.Calls.{scopes_after}
 use Rattle.tm_meaning.specs.declared.stream.TemplateId.{TemplateId}
 use Rattle.tm_meaning.specs.declared.mark.LoopMark.{LoopMark}
@@ -167,29 +167,45 @@ macro_undone_kept scopes stream w v h =
 
 -- An include's run, in whichever stream it ended: what is put back after it are the scopes before it, but for the names of the innermost
 -- one, and all is kept.
-abbrev pub in_include : ℕ → StreamId → AutoEscape → Named (List TemplateId) → World → World
-in_include outer stream escape blocks w = record w {
-  scopes = record { frames = owning None w.scopes.frames; outer = outer };
+abbrev pub in_include : Bool → ℕ → StreamId → AutoEscape → Named (List TemplateId) → World → World
+in_include apart outer stream escape blocks w = record w {
+  scopes = record { frames = include_frames apart w.scopes.frames; outer = outer };
   stream = stream;
   escape = escape;
   blocks = blocks;
   places = [];
 }
 
-pub include_undone_bare : (outer : ℕ) (stream : StreamId) (escape : AutoEscape) (blocks : Named (List TemplateId)) (w v : World) →
-    Advances (in_stream v.stream (in_include outer stream escape blocks w)) v →
+pub include_undone_bare : (apart : Bool) (outer : ℕ) (stream : StreamId) (escape : AutoEscape) (blocks : Named (List TemplateId))
+    (w v : World) → Advances (in_stream v.stream (in_include apart outer stream escape blocks w)) v →
     bare (undone (of_include w) v).scopes.frames ≡ bare w.scopes.frames
-include_undone_bare outer stream escape blocks w v h =
+include_undone_bare true outer stream escape blocks w v h =
+    own_bare (own_closure w.scopes.frames) (outermost (length w.scopes.frames) v.scopes.frames)
+    ∙ ap bare (outermost_below (plain_scope (undefined false)) w.scopes.frames v.scopes.frames h.scopes)
+include_undone_bare false outer stream escape blocks w v h =
     let lie = h.scopes in
     own_bare (own_closure w.scopes.frames) (outermost (length w.scopes.frames) v.scopes.frames)
     ∙ outermost_bare w.scopes.frames v.scopes.frames (lie.0, lie.1, lie.2, lie.3 ∙ own_bare None w.scopes.frames)
 
-pub include_undone_kept : (outer : ℕ) (stream : StreamId) (escape : AutoEscape) (blocks : Named (List TemplateId)) (w v : World) →
-    Advances (in_stream v.stream (in_include outer stream escape blocks w)) v → Kept w (undone (of_include w) v)
-include_undone_kept outer stream escape blocks w v h =
-    let inner : Scopes = record { frames = owning None w.scopes.frames; outer = outer } in
+owning_own : (frames : List Scope) → owning (own_closure frames) frames ≡ frames
+owning_own [] = refl
+owning_own (s ∷ ss) = refl
+
+-- after an include in a scope of its own the very scopes are there
+pub include_undone_scopes : (outer : ℕ) (stream : StreamId) (escape : AutoEscape) (blocks : Named (List TemplateId))
+    (w v : World) → Advances (in_stream v.stream (in_include true outer stream escape blocks w)) v →
+    (undone (of_include w) v).scopes ≡ w.scopes
+include_undone_scopes outer stream escape blocks w v h =
+    ap (λ frames. record { frames = frames; outer = w.scopes.outer })
+    (ap (owning (own_closure w.scopes.frames)) (outermost_below (plain_scope (undefined false)) w.scopes.frames v.scopes.frames h.scopes)
+    ∙ owning_own w.scopes.frames)
+
+pub include_undone_kept : (apart : Bool) (outer : ℕ) (stream : StreamId) (escape : AutoEscape) (blocks : Named (List TemplateId)) (w v : World) →
+    Advances (in_stream v.stream (in_include apart outer stream escape blocks w)) v → Kept w (undone (of_include w) v)
+include_undone_kept apart outer stream escape blocks w v h =
+    let inner : Scopes = record { frames = include_frames apart w.scopes.frames; outer = outer } in
     let back = scopes_after w.scopes v.scopes in
-    let same = include_undone_bare outer stream escape blocks w v h in
+    let same = include_undone_bare apart outer stream escape blocks w v h in
     record {
       advances = record {
         lasts = run_lasts inner back v.stream w.block escape blocks [] w v h.lasts;

@@ -289,7 +289,8 @@ module _ (setting : Setting) where
         (call_gives u (nest_ends setting) again_kept last (caller_gives context.program.host numbers.macros m) (as_at run s) e w) h
         (λ v world1 k1 h1. emit_then setting run s (beyond pc code) v stack world1 _ L N fits is.1.0 h1 (λ out1 world2 g. g)))
     stmt_runs os numbers (Include e missing) run s l pc stack w L N fits d j is nth h =
-        include_runs setting e missing run s l pc stack w _ L N fits d is h (λ q1 out1 world1 g. g)
+        include_runs setting true (i.Include missing) e missing run s l pc stack w _ L N
+        (λ at1 v world1 found leads. at context (i.Include missing) s at1 (v ∷ stack) world1 found leads) fits d is h (λ q1 out1 world1 g. g)
     stmt_runs os numbers (Import e t) run s l pc stack w L N fits d j is nth h =
         import_runs setting e t run s l pc stack w d is
         (use_then context s.bed w (import u (as_at run s) e t w) (as_at run s) s.out _ _ L N _

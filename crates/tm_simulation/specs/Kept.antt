@@ -1,6 +1,6 @@
 -- What runs keep of their world.
 use Rattle.std.specs.Prelude.{◌≡◌, ◌≤◌, ◌⊎◌, List, [], ◌∷◌, ◌++◌, length, None, Some, ℕ}
-use Rattle.tm_meaning.specs.World.{World, Loop, Scope, Named, find, root_of, own_closure}
+use Rattle.tm_meaning.specs.World.{World, Loop, Scope, Named, find, root_of, own_closure, Res, Good, Bad}
 use Rattle.tm_meaning.specs.declared.stream.StreamId.{StreamId}
 use Rattle.tm_meaning.specs.declared.stream.TemplateId.{TemplateId}
 use Rattle.tm_meaning.specs.Meaning.{Ending, fault, Outcome}
@@ -83,6 +83,11 @@ pub record GivesBack (old new : World) : Type 0 where
   pub same_blocks : new.blocks ≡ old.blocks
   pub same_places : new.places ≡ old.places
   pub same_loaded : new.loaded ≡ old.loaded
+
+-- The scopes are those that stood, but for the names of the innermost one and the closure that was made in it; at a fault they lie over them.
+abbrev pub LeavesScopes : {A : Type 0} → World → Res A → Type 0
+LeavesScopes old (Good a new) = (bare new.scopes.frames ≡ bare old.scopes.frames) × (new.scopes.outer ≡ old.scopes.outer)
+LeavesScopes old (Bad chain new) = LieOver old.scopes.frames new.scopes.frames × (new.scopes.outer ≡ old.scopes.outer)
 
 -- What a call replaced is put back: the scopes, the stream, the block, the escape, and the places in lists of blocks, which grow at most.
 pub record PutsBack (old new : World) : Type 0 where

@@ -1,3 +1,4 @@
+pub mod Called
 pub mod Chains
 pub mod Kept
 pub mod Reached

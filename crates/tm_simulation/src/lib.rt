@@ -8,21 +8,24 @@ ghost use Rattle.tm_values.specs.declared.error.ErrorKind.TheVariants as kinds;
 ghost use Rattle.std.specs.List.{All};
 ghost use Rattle.tm_meaning.specs.Memory.{is_want_of_memory};
 ghost use Rattle.tm_values.specs.Val.{Val};
-ghost use Rattle.tm_meaning.specs.World.{Good, HostValue, World};
+ghost use Rattle.tm_meaning.specs.World.{Good, HostValue, World, emitted};
 ghost use Rattle.tm_meaning.specs.declared.stream.StreamId.{StreamId};
 ghost use Rattle.tm_meaning.specs.declared.stream.TemplateId.{TemplateId};
 ghost use Rattle.tm_meaning.specs.Inheritance.{load, names_left};
 ghost use Rattle.tm_syntax.specs.declared.tree.Expr.{Expr};
-ghost use Rattle.tm_meaning.specs.Calls.{Callee, enter_include, enter_super, whole};
+ghost use Rattle.tm_meaning.specs.Calls.{Callee, apply_filter, enter_include, enter_super, perform_test, whole};
 ghost use Rattle.tm_meaning.specs.Tree.{StreamTree, Trees, expression};
 ghost use Rattle.tm_meaning.specs.Meaning.{eval};
 ghost use Rattle.tm_meaning.specs.Runs.{evaluated, leaving};
-ghost use Rattle.tm_meaning.specs.Meaning.{Run, block_tag, in_place_of};
-ghost use Rattle.tm_meaning.specs.Runs.{chain_of, nests_of, new_run, rendered, run_of, under};
+ghost use Rattle.tm_syntax.specs.declared.tree.AssignmentTarget.{AssignmentTarget};
+ghost use Rattle.tm_syntax.specs.declared.tree.Imported.{Imported};
+ghost use Rattle.tm_meaning.specs.Meaning.{Run, block_tag, import, import_names, in_place_of};
+ghost use Rattle.tm_meaning.specs.Runs.{chain_of, nests_of, new_run, rendered, rendered_block, run_of, under};
+ghost use Rattle.tm_simulation.specs.Called.{as_text, call_by_name, called, fault_of, maps_in};
 ghost use Rattle.tm_meaning.specs.Machine.{Program, Capture, Stuck};
 ghost use Rattle.tm_meaning.specs.Steps.{Final, final};
 ghost use Rattle.tm_meaning.specs.Compiled.{IsCompiled};
-ghost use Rattle.tm_simulation.specs.Kept.{Stays, OnlyAdds, EndsThere, GivesBack, PutsBack};
+ghost use Rattle.tm_simulation.specs.Kept.{Stays, OnlyAdds, EndsThere, GivesBack, LeavesScopes, PutsBack};
 ghost use Rattle.tm_simulation.specs.Chains.{Arises, IfAny, HasRaised, StatesOnly};
 ghost use Rattle.tm_simulation.specs.Chains.{StatesNoMemory, ends_in_memory, MayWrap, is_foreign, HasNoForeign};
 ghost use Rattle.tm_simulation.specs.Reached.{RunsTo, Renders, HasLevels};
@@ -141,12 +144,28 @@ pub fn a_super_puts_back_what_it_replaced()
 {}
 
 /// An include leaves all this as it was, and the lists of blocks and the loaded names too, whatever
-/// comes of it; of the scopes only the names of the innermost one may differ.
+/// comes of it. The scopes are the very ones that stood; where the template runs in the caller's
+/// own, only the names of the innermost one may differ.
 pub fn an_include_gives_back_what_it_replaced()
-    ensures { (host : HostValue) (trees : Trees) (n : ℕ) (tree : StreamTree) (run : Run) (out : List ℕ)
-        (v : Val) (missing : Bool) (w : World) →
+    ensures back { (host : HostValue) (trees : Trees) (n : ℕ) (tree : StreamTree) (run : Run)
+        (out : List ℕ) (apart : Bool) (v : Val) (missing : Bool) (w : World) →
         let u = under host (nests_of host trees n) tree in
-        GivesBack w (in_place_of u run out (enter_include host v missing w)).world }
+        GivesBack w (in_place_of u run out (enter_include host apart v missing w)).world }
+    ensures scopes { (host : HostValue) (trees : Trees) (n : ℕ) (tree : StreamTree) (run : Run)
+        (out : List ℕ) (v : Val) (missing : Bool) (w : World) →
+        let u = under host (nests_of host trees n) tree in
+        (in_place_of u run out (enter_include host true v missing w)).world.scopes ≡ w.scopes }
+{}
+
+/// An import, of a module or of names, leaves the scopes that stood but for names of the innermost
+/// one; where it ends in a fault there may be more over them.
+pub fn an_import_leaves_the_scopes()
+    ensures module { (host : HostValue) (trees : Trees) (n : ℕ) (tree : StreamTree) (run : Run)
+        (e : Expr) (t : AssignmentTarget) (w : World) →
+        LeavesScopes w (import (under host (nests_of host trees n) tree) run e t w) }
+    ensures names { (host : HostValue) (trees : Trees) (n : ℕ) (tree : StreamTree) (run : Run)
+        (e : Expr) (xs : List Imported) (w : World) →
+        LeavesScopes w (import_names (under host (nests_of host trees n) tree) run e xs w) }
 {}
 
 /// The chain of a render's fault arises in it: what ends it is a kind that renders raise, or a chain that an object of the caller states,
@@ -154,6 +173,24 @@ pub fn an_include_gives_back_what_it_replaced()
 pub fn a_fault_arises()
     ensures { (host : HostValue) (trees : Trees) (w : World) →
         IfAny (Arises host) (chain_of (rendered host trees w)) }
+{}
+
+/// So does that of a call that a state is asked for where no template runs: of a block, of what a
+/// name stands for, of a filter, of a test, of a value that is formatted, and of an expression.
+pub fn a_fault_of_a_call_arises()
+    ensures block { (host : HostValue) (trees : Trees) (b : List ℕ) (w : World) →
+        IfAny (Arises host) (chain_of (rendered_block host trees b w)) }
+    ensures name { (host : HostValue) (trees : Trees) (x : List ℕ) (args : List Val) (w : World) →
+        IfAny (Arises host)
+        (fault_of (as_text (called host trees (call_by_name host x args w)))) }
+    ensures filter { (host : HostValue) (trees : Trees) (x : List ℕ) (args : List Val) (w : World) →
+        IfAny (Arises host) (fault_of (called host trees (apply_filter host x args w))) }
+    ensures test { (host : HostValue) (trees : Trees) (x : List ℕ) (args : List Val) (w : World) →
+        IfAny (Arises host) (fault_of (called host trees (perform_test host x args w))) }
+    ensures formatted { (host : HostValue) (v : Val) (w : World) →
+        IfAny (Arises host) (fault_of (emitted host v w)) }
+    ensures value { (host : HostValue) (trees : Trees) (w : World) →
+        IfAny (Arises host) (fault_of (maps_in (evaluated host trees w))) }
 {}
 
 /// So it has each property that the raised kinds have, that the kinds that wrap leave, and that the objects of the caller keep.

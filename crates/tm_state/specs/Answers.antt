@@ -14,9 +14,9 @@ use Rattle.tm_tables.specs.declared.template_entry.TemplateEntry.{TemplateEntry}
 use Rattle.tm_meaning.specs.Inheritance.{joined}
 use Rattle.tm_values.specs.Val.{Val, undefined}
 use Rattle.tm_tables.specs.Stated.{is_for_memory}
-use Rattle.tm_meaning.specs.World.{World, HostValue, Object, Stated, Loop, Res, Good, Bad, depth, owning, plain_scope, records_of}
+use Rattle.tm_meaning.specs.World.{World, HostValue, Object, Stated, Loop, Res, Good, Bad, depth, plain_scope, records_of}
 use Rattle.tm_meaning.specs.Calls.{Asked, has, refused, recurs, runs, NestedCall, MakesFurther, replied, found_call}
-use Rattle.tm_meaning.specs.Calls.{as_printed, as_truth, choices_in, first_found, include_depth, is_changed, no_values}
+use Rattle.tm_meaning.specs.Calls.{as_printed, as_truth, choices_in, first_found, include_depth, include_frames, is_changed, no_values}
 use Rattle.tm_meaning.specs.declared.reply.Call.{Call}
 use Rattle.tm_meaning.specs.declared.reply.Call.TheVariants as calls
 use Rattle.tm_meaning.specs.declared.stream.TemplateId.TheVariants.{Entry}
@@ -43,12 +43,14 @@ abbrev pub HasOneMore : World → World → Type 0
 HasOneMore old new =
     (new.scopes.frames ≡ plain_scope (undefined false) ∷ old.scopes.frames) × (old.scopes.outer ≤ new.scopes.outer)
 
--- They are as many as before, and the very ones but for the own closure of the innermost one, which has none; and they stand deeper.
+-- There is one scope more, or they are as many, and the very ones but for the own closure of the innermost one, which has none; and they
+-- stand deeper.
 abbrev pub StandsDeeper : World → World → Type 0
-StandsDeeper old new = (new.scopes.frames ≡ owning None old.scopes.frames) × (new.scopes.outer ≡ include_depth + old.scopes.outer)
+StandsDeeper old new =
+    (apart : Bool) × (new.scopes.frames ≡ include_frames apart old.scopes.frames) × (new.scopes.outer ≡ include_depth + old.scopes.outer)
 
 -- There is a scope more for a block, which keeps the places in lists of blocks, or for a `super()`; or there are two for a macro, deeper
--- than those that stood; or for an include those that stood, deeper.
+-- than those that stood; or for an include those that stood, with one more or not, deeper.
 abbrev pub HasMore : Saved → World → World → Type 0
 HasMore (saved.Block s) old new = HasOneMore old new × (new.places ≡ old.places)
 HasMore (saved.Super s) old new = HasOneMore old new

@@ -1,7 +1,7 @@
 //! The fuel of a state.
-ghost use Rattle.std.specs.Prelude.{◌≡◌, ◌+◌, ◌-◌, ◌<◌, ◌≤◌, [], ◌∷◌, Some, IfSome, OnOk, OnErr, nat_lt};
+ghost use Rattle.std.specs.Prelude.{◌≡◌, ◌+◌, ◌-◌, ◌<◌, ◌≤◌, [], ◌∷◌, Some, IfSome, OnOk, OnErr};
 ghost use Rattle.tm_values.specs.declared.error.ErrorKind.TheVariants.{OutOfFuel};
-ghost use Rattle.tm_meaning.specs.World.{fuel_levels, Good, Bad};
+ghost use Rattle.tm_meaning.specs.World.{fuel_levels, can_be_paid, CanPay, Good, Bad};
 ghost use Rattle.tm_meaning.specs.Steps.{charge_of, pay};
 ghost use Rattle.tm_state.specs.Answers.{KeepsFixedAndNames};
 
@@ -22,7 +22,7 @@ impl StateData {
         }
     }
 
-    /// Charges an instruction; Exhausted where no more than its charge is left.
+    /// Charges an instruction; Exhausted where less than its charge is left.
     #[inline(always)]
     pub fn charge(&mut self, instruction: &Instruction) -> Result<(), Exhausted>
         ensures ok { OnOk result (pay instruction.now self.old ≡ Good tt self.new) }
@@ -39,7 +39,7 @@ impl StateData {
     /// Whether a charge of one can be paid.
     #[inline(always)]
     pub fn can_pay(&self) -> bool
-        ensures { result ≡ nat_lt 1 self.now.fuel }
+        ensures { result ≡ can_be_paid 1 self.now.fuel }
     {
         self.fuel.can_pay()
     }
@@ -64,7 +64,7 @@ impl StateData {
     /// Pays a charge of one.
     #[inline(always)]
     pub fn pay_one(&mut self)
-        requires { 1 < self.old.fuel }
+        requires { CanPay 1 self.old.fuel }
         ensures { self.new ≡ record self.old { fuel = self.old.fuel - 1 } }
     {
         self.fuel.pay_one();

@@ -1,12 +1,12 @@
 //! Templates that others include, and the modules that imports make.
 ghost use Rattle.std.specs.Prelude.{◌≡◌, ◌+◌, ◌≤◌, ◌∷◌, [], IfErr, IfOk, None, OnErr, OnOk, Some, false};
-ghost use Rattle.tm_meaning.specs.Calls.{enter_include, first_found, include_depth, include_found, refused};
+ghost use Rattle.tm_meaning.specs.Calls.{enter_include, first_found, include_cost, include_depth, include_found, include_frames, refused};
 ghost use Rattle.tm_meaning.specs.Inheritance.{joined};
 ghost use Rattle.tm_meaning.specs.Memory.{is_want_of_memory};
-ghost use Rattle.tm_meaning.specs.World.{Bad, depth, module_of, owning};
+ghost use Rattle.tm_meaning.specs.World.{Bad, depth, module_of};
 ghost use Rattle.tm_state.specs.Answers.{IncludeLies, IsChosen, IsFirstEntry, IsNamed, IsEntryThere, KeepsFixedAndNames, NeedsInclude};
 ghost use Rattle.tm_state.specs.Answers.{NeedsSuper, OneDeeper};
-ghost use Rattle.tm_state.specs.State.{saved_include};
+ghost use Rattle.tm_state.specs.State.{lists_of, saved_of};
 ghost use Rattle.tm_values.specs.Answer.{OkOrOutOfMemory};
 
 use crate::nested::{NestedRun, RunOf};
@@ -23,33 +23,47 @@ use tm_values::{Error, ErrorKind, SharedText, Value};
 /// How much deeper a template runs that is included.
 const INCLUDE_DEPTH: usize = 10;
 
+/// How many levels a template takes that is included, `apart` in a scope of its own or not.
+fn include_cost(apart: bool) -> usize
+    ensures { result ≡ include_cost apart }
+{
+    if apart {
+        INCLUDE_DEPTH + 1
+    } else {
+        INCLUDE_DEPTH
+    }
+}
+
 impl StateData {
-    /// The run of the first template that is there of those that a value names, in the scopes that stand; `heard` says
-    /// whether its text is. None where nothing happens: no template is there and one may be missing, or the value names
-    /// none. InvalidOperation where the value names no templates, where a name that is reached is no text, and where the
-    /// run would lie deeper than the limit; TemplateNotFound where none is there; the fault of what joins names;
-    /// OutOfMemory. Then the state stays as it was.
+    /// The run of the first template that is there of those that a value names, `apart` in a scope of its own, or in those
+    /// that stand; `heard` says whether its text is. None where nothing happens: no template is there and one may be
+    /// missing, or the value names none. InvalidOperation where the value names no templates, where a name that is reached
+    /// is no text, and where the run would lie deeper than the limit; TemplateNotFound where none is there; the fault of
+    /// what joins names; OutOfMemory. Then the state stays as it was.
     pub fn include_run<H: Host>(
         &mut self,
         alloc: Global,
         host: &H,
         value: &Value,
+        apart: bool,
         missing: bool,
         heard: bool,
     ) -> Result<Option<Box<NestedRun>>, Error>
         ensures ok { IfOk result (λ found. NeedsInclude heard found
-            (enter_include (H.meaning host.now) value.now missing self.old) self.old self.new) }
+            (enter_include (H.meaning host.now) apart value.now missing self.old)
+            self.old self.new) }
         ensures lies { IfOk result (λ found.
             IncludeLies (H.meaning host.now).limit found self.old self.new) }
         ensures err { IfErr result (λ e. is_want_of_memory e ≡ false →
-            enter_include (H.meaning host.now) value.now missing self.old ≡ refused e self.old) }
+            enter_include (H.meaning host.now) apart value.now missing self.old
+            ≡ refused e self.old) }
         ensures unchanged { OnErr result (self.new ≡ self.old) }
         ensures kept { KeepsFixedAndNames self.old self.new }
     {
         let (found, names_none) = self.chosen(alloc, host, value)?;
         match found {
             Some(entry) => {
-                let run = self.template_run(alloc, host, entry, heard)?;
+                let run = self.template_run(alloc, host, entry, apart, heard)?;
                 Ok(Some(run))
             }
             None if missing || names_none => Ok(None),
@@ -68,8 +82,9 @@ impl StateData {
     ) -> Result<(Option<TemplateEntry<'a>>, bool), Error>
         ensures ok { IfOk result (λ r.
             IsChosen r.0 r.1 (H.meaning host.now) value.now self.now) }
-        ensures err { IfErr result (λ e. is_want_of_memory e ≡ false → (missing : _) →
-            enter_include (H.meaning host.now) value.now missing self.now ≡ refused e self.now) }
+        ensures err { IfErr result (λ e. is_want_of_memory e ≡ false → (apart missing : _) →
+            enter_include (H.meaning host.now) apart value.now missing self.now
+            ≡ refused e self.now) }
     {
         if let Some(name) = value.as_str() {
             return Ok((self.named(alloc, host, name)?, false));
@@ -128,37 +143,40 @@ impl StateData {
         Ok(host.entry(joined.as_str(), self.template_place))
     }
 
-    /// The run of a template, in the scopes that stand. InvalidOperation where it would lie deeper than the limit;
-    /// OutOfMemory. Then the state stays as it was.
+    /// The run of a template, `apart` in a scope of its own, or in those that stand. InvalidOperation where it would lie
+    /// deeper than the limit; OutOfMemory. Then the state stays as it was.
     fn template_run<H: Host>(
         &mut self,
         alloc: Global,
         host: &H,
         entry: TemplateEntry<'_>,
+        apart: bool,
         heard: bool,
     ) -> Result<Box<NestedRun>, Error>
         requires { IsEntryThere entry (H.meaning host.now) }
         ensures ok { IfOk result (λ run. (missing : _) → NeedsSuper heard false run.value
-            (include_found (H.meaning host.now) missing
+            (include_found (H.meaning host.now) apart missing
             (Some (TemplateId.Entry entry.entry.name.now)) self.old)
             self.old self.new) }
         ensures deeper { IfOk result (λ run.
             OneDeeper (H.meaning host.now).limit run.value.saved self.old self.new) }
         ensures err { IfErr result (λ e. is_want_of_memory e ≡ false → (missing : _) →
-            include_found (H.meaning host.now) missing
+            include_found (H.meaning host.now) apart missing
             (Some (TemplateId.Entry entry.entry.name.now)) self.old
             ≡ refused e self.old) }
         ensures unchanged { OnErr result (self.new ≡ self.old) }
         ensures kept { KeepsFixedAndNames self.old self.new }
     {
-        if self.depths_left(host) < INCLUDE_DEPTH {
+        if self.depths_left(host) < include_cost(apart) {
             return Err(Error::from(ErrorKind::InvalidOperation));
         }
         let template = TemplateId::Entry(entry.name.share()?);
         let lists = self.lists.own(alloc, &template, entry.blocks)?;
         let running = StreamId::root(template.share()?);
         let block = self.shared_block()?;
-        let saved = self.run_template(host, &entry, running, block, lists);
+        let (scopes, closure) = (self.height(), self.context.own_closure());
+        self.open_template(alloc, host, apart)?;
+        let saved = self.run_template(host, &entry, running, block, lists, scopes, closure);
         let run = NestedRun {
             run: RunOf::Stream(StreamId::root(template)),
             heard,
@@ -170,8 +188,28 @@ impl StateData {
         self.boxed(alloc, run)
     }
 
-    /// Lets a template run in the scopes that stand, deeper, whose innermost one has no closure of its own meanwhile,
-    /// with its own escape and lists, and gives what that replaces.
+    /// Opens the scope of a template that runs `apart`, or else lets the innermost one have no closure of its own.
+    /// OutOfMemory, and then the state stays as it was.
+    #[inline(always)]
+    fn open_template<H: Host>(&mut self, alloc: Global, host: &H, apart: bool) -> Result<(), Error>
+        requires fits { depth self.old.scopes + 1 ≤ (H.meaning host.now).limit }
+        ensures ok { OnOk result (self.new ≡ record self.old {
+          scopes = record self.old.scopes {
+            frames = include_frames apart self.old.scopes.frames;
+          };
+        }) }
+        ensures kind { IfErr result (λ e. e ≡ ErrorKind.OutOfMemory ∷ []) }
+        ensures err { OnErr result (self.new ≡ self.old) }
+    {
+        if apart {
+            return self.push_scope(alloc, host.recursion_limit());
+        }
+        self.context.set_own_closure(None);
+        Ok(())
+    }
+
+    /// Lets a template run in the scopes that stand, deeper, with its own escape and lists, and gives what that replaces,
+    /// with how many scopes there were and the closure of the innermost one.
     #[inline(always)]
     fn run_template<H: Host>(
         &mut self,
@@ -180,13 +218,19 @@ impl StateData {
         stream: StreamId,
         block: Option<Name>,
         lists: Lists,
+        scopes: usize,
+        closure: Option<usize>,
     ) -> SavedInclude
         requires fits { depth self.old.scopes + include_depth ≤ (H.meaning host.now).limit }
         requires same { block ≡ self.old.block }
-        ensures saved { result ≡ saved_include self.old }
+        ensures saved { result ≡ record {
+          replaced = record (saved_of self.old) { scopes = scopes };
+          closure = closure;
+          lists = lists_of self.old;
+        } }
         ensures runs { self.new ≡ record self.old {
           scopes = record {
-            frames = owning None self.old.scopes.frames;
+            frames = self.old.scopes.frames;
             outer = include_depth + self.old.scopes.outer;
           };
           stream = stream;
@@ -197,10 +241,7 @@ impl StateData {
         } }
     {
         self.template_place = entry.place;
-        let scopes = self.height();
         let outer = self.go_deeper(host, INCLUDE_DEPTH);
-        let closure = self.context.own_closure();
-        self.context.set_own_closure(None);
         SavedInclude {
             replaced: SavedBlock {
                 stream: mem::replace(&mut self.stream, stream),

@@ -356,7 +356,7 @@ use_code (uses.Assign t) = target_code t
 -- ---------------------------------------------------------------- templates that run here
 -- what stands in a scope of its own, where a template runs
 abbrev pub included_code : Expr → Fragment
-included_code e = straight (i.PushWith ∷ []) ⨾ expr_code e ⨾ straight (i.Include false ∷ [])
+included_code e = straight (i.PushWith ∷ []) ⨾ expr_code e ⨾ straight (i.IncludeModule ∷ [])
 
 -- the names that the template leaves, each looked up
 abbrev pub lookups_code : List Imported → Fragment

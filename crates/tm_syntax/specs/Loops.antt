@@ -219,6 +219,7 @@ begins (i.CallBlock _) = None
 begins i.FastSuper = None
 begins i.LoadBlocks = None
 begins (i.Include _) = None
+begins i.IncludeModule = None
 begins i.ExportLocals = None
 begins (i.StoreLocal _) = None
 begins (i.Enclose _) = None

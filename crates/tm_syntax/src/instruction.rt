@@ -137,9 +137,11 @@ pub enum Instruction {
     FastSuper,
     /// Pops the name of the parent, which runs after the stream.
     LoadBlocks,
-    /// Pops a template's name, or several, and runs the first of which there is one in place; whether none
-    /// may be there.
+    /// Pops a template's name, or several, and runs the first of which there is one, in a scope of its own;
+    /// whether none may be there.
     Include(bool),
+    /// The same in the scopes that stand, where one has to be there.
+    IncludeModule,
     /// Replaces the text of a capture by the module of the innermost scope's names and that text.
     ExportLocals,
     /// Pops a value, and gives it to a name of the innermost scope.

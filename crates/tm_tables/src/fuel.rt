@@ -1,7 +1,7 @@
 //! Fuel: how many charges a run may take.
-ghost use Rattle.std.specs.Prelude.{◌≡◌, ◌+◌, ◌≤◌, [], ◌∷◌, Some, None, OnOk, IfErr, ◌<◌, ◌-◌, nat_lt};
+ghost use Rattle.std.specs.Prelude.{◌≡◌, ◌+◌, ◌≤◌, [], ◌∷◌, Some, None, OnOk, IfErr, ◌<◌, ◌-◌};
 ghost use Rattle.tm_values.specs.declared.error.ErrorKind.TheVariants.{OutOfFuel};
-ghost use Rattle.tm_meaning.specs.World.{charged};
+ghost use Rattle.tm_meaning.specs.World.{charged, can_be_paid, CanPay};
 ghost use Rattle.tm_meaning.specs.Steps.{charge_of};
 
 use std::marker::Model;
@@ -26,7 +26,7 @@ impl Model for FuelTracker {
     ghost invariant = { λ tracker. tracker.remaining ≤ tracker.initial };
 }
 
-/// That no more fuel was left than a charge.
+/// That less fuel was left than a charge.
 #[derive(Clone, Copy, Debug, PartialEq, Eq)]
 pub struct Exhausted;
 
@@ -102,6 +102,7 @@ fn charge(instruction: &Instruction) -> u64
         | Instruction::Iterate(_)
         | Instruction::FastRecurse
         | Instruction::Include(_)
+        | Instruction::IncludeModule
         | Instruction::EndCapture => 1,
     }
 }
@@ -117,8 +118,8 @@ impl FuelTracker {
         }
     }
 
-    /// Charges an instruction; a free one takes nothing. OutOfFuel, with nothing left, where no
-    /// more than the charge was left.
+    /// Charges an instruction; a free one takes nothing. OutOfFuel, with nothing left, where less
+    /// than the charge was left.
     pub fn track(&mut self, instruction: &Instruction) -> Result<(), Error>
         ensures ok { OnOk result
             (charged (charge_of instruction.now) self.old.left ≡ Some self.new.left) }
@@ -151,7 +152,7 @@ impl FuelTracker {
         if charge == 0 {
             return Ok(());
         }
-        if self.remaining <= charge {
+        if self.remaining < charge {
             self.remaining = 0;
             return Err(Exhausted);
         }
@@ -162,15 +163,15 @@ impl FuelTracker {
     /// Whether a charge of one can be paid.
     #[inline(always)]
     pub fn can_pay(&self) -> bool
-        ensures { result ≡ nat_lt 1 self.now.left }
+        ensures { result ≡ can_be_paid 1 self.now.left }
     {
-        1 < self.remaining
+        1 <= self.remaining
     }
 
     /// Pays a charge of one.
     #[inline(always)]
     pub fn pay_one(&mut self)
-        requires { 1 < self.old.left }
+        requires { CanPay 1 self.old.left }
         ensures { self.new ≡ record self.old { left = self.old.left - 1 } }
     {
         self.remaining -= 1;

@@ -43,9 +43,10 @@ pub struct TemplateConfig<R: Drop> {
     pub default_auto_escape: EscapeSetting<R>,
 }
 
-impl<R: Drop> Default for TemplateConfig<R> {
+// Of boxed rules alone, so that a configuration without a rule of its own needs no type.
+impl Default for TemplateConfig<Box<dyn EscapeRule>> {
     /// The default delimiters, and escapes by name.
-    fn default() -> TemplateConfig<R>
+    fn default() -> TemplateConfig<Box<dyn EscapeRule>>
         ensures syntax { result.syntax_config ≡ default_syntax }
         ensures escape { result.default_auto_escape ≡ EscapeSetting.ByName }
     {

@@ -1,11 +1,11 @@
 -- The scopes that a run leaves as they were.
-use Rattle.std.proofs.Common.{◌≡◌, ◌≤◌, ◌<◌, ◌+◌, ◌-◌, ℕ, zero, suc, List, [], ◌∷◌, Option, length, drop, refl, sym, ap, ◌∙◌, subst, arith}
+use Rattle.std.proofs.Common.{◌≡◌, ◌≤◌, ◌<◌, ◌+◌, ◌-◌, ℕ, zero, suc, List, [], ◌∷◌, Option, None, Bool, true, false, length, drop, refl, sym, ap, ◌∙◌, subst, arith}
 use Rattle.std.proofs.lemmas.List.{length-drop}
 use Rattle.std.proofs.Math.Seq.{drop-nil}
-use Rattle.tm_values.specs.Val.{Val}
+use Rattle.tm_values.specs.Val.{Val, undefined}
 use Rattle.tm_syntax.specs.declared.instruction.LoopFlags.{LoopFlags}
-use Rattle.tm_meaning.specs.World.{Scope, Scopes, World, loop_scope, owning, pop, without_first}
-use Rattle.tm_meaning.specs.Calls.{outermost}
+use Rattle.tm_meaning.specs.World.{Scope, Scopes, World, loop_scope, owning, plain_scope, pop, without_first}
+use Rattle.tm_meaning.specs.Calls.{include_frames, outermost}
 use Rattle.tm_meaning.specs.declared.base.Base.{Base}
 use Rattle.tm_state.specs.Answers.{StaysInPlace}
 use Rattle.tm_state.specs.State.{with_open_loop}
@@ -68,6 +68,20 @@ pub below_owning : (closure : Option ℕ) (frames : List Scope) →
     outermost (length frames - 1) (owning closure frames) ≡ outermost (length frames - 1) frames
 below_owning closure [] = refl
 below_owning closure (s ∷ ss) = below_changed s (record s { own_closure = closure }) ss
+
+-- whatever scopes a template runs in
+pub below_include : (apart : Bool) (frames : List Scope) →
+    outermost (length frames - 1) (include_frames apart frames) ≡ outermost (length frames - 1) frames
+below_include false frames = below_owning None frames
+below_include true frames =
+    let s = plain_scope (undefined false) in
+    sym (outermost_twice (length frames - 1) (length frames) (s ∷ frames) (omega arith) (omega arith))
+    ∙ ap (outermost (length frames - 1)) (under_one s frames)
+
+pub include_long : (apart : Bool) (frames : List Scope) → length frames ≤ length (include_frames apart frames)
+include_long true frames = let more : length frames ≤ length (plain_scope (undefined false) ∷ frames) = omega arith in more
+include_long false frames =
+    let more : length frames ≤ length (owning None frames) = omega (arith, owning_long None frames) in more
 
 -- ---------------------------------------------------------------- the ground
 pub ground_same : (n : ℕ) (w : World) → KeepsGround n w w

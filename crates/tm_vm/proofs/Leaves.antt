@@ -16,7 +16,7 @@ use Rattle.tm_values.specs.Defined.{refusal_of}
 use Rattle.tm_values.specs.Records.{RecordData}
 use Rattle.tm_values.specs.declared.undefined.UndefinedBehavior.{UndefinedBehavior}
 use Rattle.tm_values.specs.declared.undefined.UndefinedUse.TheVariants.{Emission}
-use Rattle.tm_meaning.specs.World.{World, Good, choose, emitted, find_name, is_escaping, need, records_of, view_of}
+use Rattle.tm_meaning.specs.World.{CanPay, World, Good, choose, emitted, find_name, is_escaping, need, records_of, view_of}
 use Rattle.tm_meaning.specs.Calls.{Asked, ask, call_looked_up, call_named, call_super, enter_macro, macro_call, root_context}
 use Rattle.tm_meaning.specs.Instructions.{binary_of, call_function_of}
 use Rattle.tm_meaning.specs.Machine.{Back, Capture, Config, End, Finished, Next, More, Nest, Over, Program, after, asked, audible, back_to}
@@ -45,7 +45,7 @@ done p g x l = after (pay x (stands_at g l).world) (λ _ w. effect p (base_on g)
 abbrev spent : LeafRun → LeafRun
 spent l = record l { fuel = l.fuel - 1 }
 
-charged : (p : Program) (g : LeafGround) (x : Instruction) (l : LeafRun) (n : Next) → charge_of x ≡ 1 → 1 < l.fuel →
+charged : (p : Program) (g : LeafGround) (x : Instruction) (l : LeafRun) (n : Next) → charge_of x ≡ 1 → CanPay 1 l.fuel →
     effect p (base_on g) x (stands_at g (spent l)) ≡ n → done p g x l ≡ n
 charged p g x l n one enough e =
     ap (λ r. after r (λ _ w. effect p (base_on g) x (with_world w (stands_at g l)))) (pays_one x (stands_at g l).world one enough) ∙ e
@@ -66,7 +66,7 @@ heard g l =
     rw same refl
 
 -- ---------------------------------------------------------------- each instruction
-module _ (escape : AutoEscape) (old new : LeafRun) (enough : 1 < old.fuel) where
+module _ (escape : AutoEscape) (old new : LeafRun) (enough : CanPay 1 old.fuel) where
   pub puts : (t : List ℕ) → new ≡ record (advanced old) { text = old.text ++ t } → Does escape (i.EmitRaw t) old new
   puts t is p g none same = charged p g (i.EmitRaw t) old _ refl enough (chosen _ _ _ (heard g (advanced old)) ∙ there g new _ is)
 
@@ -157,7 +157,7 @@ returns code escape l found p g suits =
 
 -- an argument is tested
 pub skips : (code : List Instruction) (escape : AutoEscape) (old new : LeafRun) → slice_get code old.place ≡ Some i.DupTop →
-    2 < old.fuel → SkipsTest code old new → RunsOn code escape old new
+    CanPay 2 old.fuel → SkipsTest code old new → RunsOn code escape old new
 skips code escape old new found enough (v, rest, n, top, test, jump, is) =
     let once : LeafRun = record old { place = old.place + 1; operands = v ∷ v ∷ rest } in
     let twice : LeafRun = record (advanced once) { operands = boolean (is_undefined v) ∷ v ∷ rest } in

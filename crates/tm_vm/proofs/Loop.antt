@@ -6,7 +6,7 @@ use Rattle.std.specs.Io.KnownBytes.{Appends}
 use Rattle.std.proofs.lemmas.List.{append-nil}
 use Rattle.std.proofs.Common.{◌+◌, ◌-◌}
 use Rattle.tm_meaning.specs.World.{Scope}
-use Rattle.tm_meaning.specs.Calls.{outermost}
+use Rattle.tm_meaning.specs.Calls.{include_frames, outermost}
 use Rattle.tm_meaning.specs.World.{World, Scopes, depth, owning, without_first}
 use Rattle.tm_meaning.specs.Calls.{undone, wrapped}
 use Rattle.tm_meaning.specs.Memory.{is_want_of_memory}
@@ -29,7 +29,7 @@ use Rattle.tm_vm.specs.declared.flow.Flow.{Flow}
 use Rattle.tm_vm.specs.declared.flow.Flow.TheVariants as flow
 use Rattle.tm_vm.specs.Answers.{BeginsRun, ComesTo, Did, Enters, HaltsAs, KeepsGround, NoFewer, ReachesEnd, KeepsBaseScopes, SameStanding}
 use Rattle.tm_vm.specs.Answers.{finished_at, output}
-use Rattle.tm_vm.proofs.Ground.{below_first, below_owning, ground_then, outermost_long, outermost_twice, owning_long, standing}
+use Rattle.tm_vm.proofs.Ground.{below_first, below_include, below_owning, ground_then, include_long, outermost_long, outermost_twice, owning_long, standing}
 use Rattle.tm_state.specs.Answers.{KeepsFixed, KeepsFixedAndNames, OneDeeper, call_of}
 use Rattle.tm_state.specs.declared.saved.Saved.{Saved}
 use Rattle.tm_state.specs.declared.saved.Saved.TheVariants as saved
@@ -346,7 +346,7 @@ scopes_back limit (saved.Macro s) old mid new deep back =
 scopes_back limit (saved.Include s) old mid new deep back =
     let many : s.replaced.scopes ≡ length old.scopes.frames = ap (λ (s : SavedInclude). s.replaced.scopes) deep.0 in
     let below = ap (λ n. outermost (n - 1) new.scopes.frames) (sym many) ∙ back.1 ∙ ap (λ n. outermost (n - 1) mid.scopes.frames) many
-    ∙ ap (outermost (length old.scopes.frames - 1)) deep.1.0 ∙ below_owning None old.scopes.frames in (
+    ∙ ap (outermost (length old.scopes.frames - 1)) deep.1.1 ∙ below_include deep.1.0 old.scopes.frames in (
       back.0 ∙ many,
       (
         below,
@@ -376,13 +376,15 @@ lies_deeper limit (saved.Macro s) old mid deep names =
     let lies = deep.1.1 in
     (ap (λ (s : SavedMacro). s.lists.loaded) deep.0 ∙ sym names, omega (arith, lies))
 lies_deeper limit (saved.Include s) old mid deep names =
-    let many : length mid.scopes.frames ≡ length old.scopes.frames = ap length deep.1.0 ∙ owning_long None old.scopes.frames in
-    let outer = deep.1.1 in (
+    let more = include_long deep.1.0 old.scopes.frames in
+    let many : length mid.scopes.frames ≡ length (include_frames deep.1.0 old.scopes.frames) = ap length deep.1.1 in
+    let held : s.replaced.scopes ≡ length old.scopes.frames = ap (λ (s : SavedInclude). s.replaced.scopes) deep.0 in
+    let outer = deep.1.2 in (
       (
-        many ∙ sym (ap (λ (s : SavedInclude). s.replaced.scopes) deep.0),
+        omega (arith, more, many, held),
         ap (λ (s : SavedInclude). s.lists.loaded) deep.0 ∙ sym names,
       ),
-      omega (arith, many, outer),
+      omega (arith, more, many, outer),
     )
 
 pub stands_deeper : (limit : ℕ) (e : NestedRun) (old mid : World) → OneDeeper limit e.saved old mid → mid.loaded ≡ old.loaded →
@@ -403,13 +405,15 @@ is_back (saved.Super s) begun ran stands no_fewer = (left_below s.replaced.scope
 is_back (saved.Macro s) begun ran stands no_fewer = (refl, refl)
 is_back (saved.Include s) begun ran stands no_fewer =
     let n = s.replaced.scopes in
-    let held : length begun.scopes.frames ≡ n = stands.0 in
+    let held : n ≤ length begun.scopes.frames = stands.0 in
     let more = no_fewer.0 in
+    let last = length begun.scopes.frames - 1 in
     let left = outermost n ran.scopes.frames in
     let long : length left ≡ n = outermost_long n ran.scopes.frames (omega (arith, held, more)) in
     let below = ap (λ k. outermost (k - 1) (owning s.closure left)) (sym long) ∙ below_owning s.closure left ∙ ap (λ k. outermost (k - 1) left) long
     ∙ outermost_twice (n - 1) n ran.scopes.frames (omega arith) (omega (arith, held, more))
-    ∙ ap (λ k. outermost (k - 1) ran.scopes.frames) (sym held) ∙ no_fewer.1.0 ∙ ap (λ k. outermost (k - 1) begun.scopes.frames) held in
+    ∙ sym (outermost_twice (n - 1) last ran.scopes.frames (omega (arith, held)) (omega (arith, more)))
+    ∙ ap (outermost (n - 1)) no_fewer.1.0 ∙ outermost_twice (n - 1) last begun.scopes.frames (omega (arith, held)) (omega arith) in
     (owning_long s.closure left ∙ long, below, refl, refl)
 
 -- the same, of a run that began in the world that was left before it

@@ -10,7 +10,7 @@ use Rattle.tm_meaning.specs.Instructions.{call_block_of}
 use Rattle.tm_meaning.specs.Machine.{Config, Next, More, Program, after, asked_in_place, audible, first_run, nested, with_world}
 use Rattle.tm_meaning.specs.Meaning.{none_waits}
 use Rattle.tm_meaning.specs.declared.stream.StreamId.{StreamId}
-use Rattle.std.proofs.Common.{◌-◌, nat_lt}
+use Rattle.std.proofs.Common.{◌-◌, nat_le}
 use Rattle.std.proofs.lemmas.Bool.Decides.{nat_tests}
 use Rattle.tm_meaning.specs.Steps.{act, charge_of, effect, pay, step}
 use Rattle.tm_syntax.specs.declared.instruction.Instruction.{Instruction}
@@ -24,7 +24,7 @@ use Rattle.tm_meaning.specs.declared.base.Base.{Base}
 use Rattle.tm_output.specs.Pieces.{appends_nothing, beginning_nothing}
 use Rattle.tm_parts.specs.declared.halt.Halt.{Halt}
 use Rattle.tm_parts.specs.declared.halt.Halt.TheVariants as halt
-use Rattle.tm_meaning.specs.World.{World, Good, choose}
+use Rattle.tm_meaning.specs.World.{CanPay, World, Good, choose}
 use Rattle.tm_state.specs.State.{IsSaved, runs_block, saved_of}
 use Rattle.tm_state.specs.declared.saved.Saved.{Saved}
 use Rattle.tm_state.specs.declared.saved.Saved.TheVariants as saved
@@ -353,7 +353,7 @@ pub captured_charged : (answer : Result (Unit {0}) TargetFailed) → IsCharged (
 captured_charged (Ok u) = tt
 captured_charged (Err e) = tt
 
-pub is_paid : (x : Instruction) (fuel : ℕ) (attempt : Attempt) → charge_of x ≡ 1 → 1 < fuel → IsCharged attempt → IsPaid attempt x fuel
+pub is_paid : (x : Instruction) (fuel : ℕ) (attempt : Attempt) → charge_of x ≡ 1 → CanPay 1 fuel → IsCharged attempt → IsPaid attempt x fuel
 is_paid x fuel Done one more charged = (one, more)
 is_paid x fuel DoneFree one more charged = absurd charged
 is_paid x fuel WriterFailed one more charged = (one, more)
@@ -477,8 +477,8 @@ read_at (y ∷ ys) zero x within read = ap (λ z. Some z) (sym (read y))
 read_at (y ∷ ys) (suc n) x within read = read_at ys n x (omega (arith, within)) read
 
 -- ---------------------------------------------------------------- at once
-pub pays_one : (x : Instruction) (w : World) → charge_of x ≡ 1 → 1 < w.fuel → pay x w ≡ Good tt (record w { fuel = w.fuel - 1 })
-pays_one x w one more = let enough : nat_lt 1 w.fuel ≡ true = grind (arith, nat_tests) in rw (one, enough) refl
+pub pays_one : (x : Instruction) (w : World) → charge_of x ≡ 1 → CanPay 1 w.fuel → pay x w ≡ Good tt (record w { fuel = w.fuel - 1 })
+pays_one x w one more = let enough : nat_le 1 w.fuel ≡ true = grind (arith, nat_tests) in rw (one, enough) refl
 
 paid_keeps : (w : World) → KeepsFixedAndNames w (record w { fuel = w.fuel - 1 })
 paid_keeps w = record { same_id = refl; same_fuel_set = refl; no_more_fuel = omega arith; same_loaded = refl }
@@ -486,7 +486,7 @@ paid_keeps w = record { same_id = refl; same_fuel_set = refl; no_more_fuel = ome
 -- the instruction at the place was paid for and did its part at once
 pub done_at_once : {told now : Option (List ℕ)} {failures count : ℕ} (p : Program) (f : Base) (x : Instruction)
     (old new : Config) (result : Result Flow Halt)
-    → slice_get (p.code old.run.stream) old.run.place ≡ Some x → charge_of x ≡ 1 → 1 < old.world.fuel →
+    → slice_get (p.code old.run.stream) old.run.place ≡ Some x → charge_of x ≡ 1 → CanPay 1 old.world.fuel →
     Performs p f (effect p f x (paid old)) (paid old) new told now failures count result →
     Performs p f (step p f old) old new told now failures count result
 done_at_once p f x old new result found one more h =

@@ -1,6 +1,7 @@
 -- A step that is done at once.
 use Rattle.std.proofs.Common.{◌≡◌, ◌<◌, ◌+◌, ◌-◌, ℕ, List, Option, Some, Ok, Err, refl, arith, slice_get}
 use Rattle.tm_syntax.specs.declared.instruction.Instruction.{Instruction}
+use Rattle.tm_meaning.specs.World.{CanPay}
 use Rattle.tm_meaning.specs.Machine.{Config, Program}
 use Rattle.tm_meaning.specs.Steps.{charge_of, effect}
 use Rattle.tm_meaning.specs.declared.base.Base.{Base}
@@ -12,7 +13,7 @@ use Rattle.tm_vm.specs.declared.flow.Flow.TheVariants as flow
 use Rattle.tm_vm.proofs.Performed.{done_at_once, done_free, wrote}
 use Rattle.tm_vm.proofs.Weight.{paid_for}
 
-left_of : (charge fuel : ℕ) → charge ≡ 1 → 1 < fuel → fuel - 1 + charge ≡ fuel
+left_of : (charge fuel : ℕ) → charge ≡ 1 → CanPay 1 fuel → fuel - 1 + charge ≡ fuel
 left_of charge fuel one more = omega (arith, one, more)
 
 free_of : (charge fuel : ℕ) → charge ≡ 0 → fuel + charge ≡ fuel

@@ -374,7 +374,9 @@ adds p f i.LoadBlocks c = on_top_all (Adds p.host 0 c) (ends_adds p.host 0 c) c.
     let inside = nat_lt f.captures (length c.captures) in
     loaded_adds p.host c vs (load p.host v c.run.parent inside c.world) (load_gives p.host v c.run.parent inside c.world))
 adds p f (i.Include missing) c = on_top_all (Adds p.host 1 c) (ends_adds p.host 1 c) c.run.operands c.world _
-    (λ v vs. asked_in_place_adds p f c vs (enter_include p.host v missing c.world))
+    (λ v vs. asked_in_place_adds p f c vs (enter_include p.host true v missing c.world))
+adds p f i.IncludeModule c = on_top_all (Adds p.host 1 c) (ends_adds p.host 1 c) c.run.operands c.world _
+    (λ v vs. asked_in_place_adds p f c vs (enter_include p.host false v false c.world))
 adds p f i.ExportLocals c = on_top_all (Adds p.host 0 c) (ends_adds p.host 0 c) c.run.operands c.world _
     (λ v vs. on_text_all (Adds p.host 0 c) (ends_adds p.host 0 c) (text_in v) c.world _ (λ t. none_more 0 c))
 adds p f (i.StoreLocal x) c = on_top_all (Adds p.host 1 c) (ends_adds p.host 1 c) c.run.operands c.world _ (λ v vs. none_more 1 c)

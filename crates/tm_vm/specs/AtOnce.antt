@@ -1,7 +1,8 @@
 -- What comes of an instruction that is done at once where it can be.
-use Rattle.std.specs.Prelude.{◌≡◌, ◌<◌, ◌-◌, ℕ, List, [], ◌∷◌, Option, Result, Ok, Err, Bool, true, false}
+use Rattle.std.specs.Prelude.{◌≡◌, ◌-◌, ℕ, List, [], ◌∷◌, Option, Result, Ok, Err, Bool, true, false}
 use Rattle.tm_values.specs.declared.error.ErrorKind.TheVariants.{OutOfMemory}
 use Rattle.tm_syntax.specs.declared.instruction.Instruction.{Instruction}
+use Rattle.tm_meaning.specs.World.{CanPay}
 use Rattle.tm_meaning.specs.Steps.{charge_of, step}
 use Rattle.tm_meaning.specs.Machine.{Config, Next, Program}
 use Rattle.tm_meaning.specs.declared.base.Base.{Base}
@@ -68,9 +69,9 @@ IsCharged _ = Unit {0}
 abbrev pub IsPaid : Attempt → Instruction → ℕ → Type 0
 IsPaid Left x fuel = Unit {0}
 IsPaid DoneFree x fuel = charge_of x ≡ 0
-IsPaid Done x fuel = (charge_of x ≡ 1) × (1 < fuel)
-IsPaid NoMemory x fuel = (charge_of x ≡ 1) × (1 < fuel)
-IsPaid WriterFailed x fuel = (charge_of x ≡ 1) × (1 < fuel)
+IsPaid Done x fuel = (charge_of x ≡ 1) × CanPay 1 fuel
+IsPaid NoMemory x fuel = (charge_of x ≡ 1) × CanPay 1 fuel
+IsPaid WriterFailed x fuel = (charge_of x ≡ 1) × CanPay 1 fuel
 
 -- The step was done at once, or ended by the writer or when out of memory; or all stayed as it was.
 abbrev pub StepAttempted : Attempt → Base → Program → ℕ → Config → Config → Option (List ℕ) → Option (List ℕ) → ℕ → ℕ → Type 0

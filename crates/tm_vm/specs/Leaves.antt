@@ -13,7 +13,7 @@ use Rattle.tm_values.specs.declared.escape.AutoEscape.{AutoEscape}
 use Rattle.tm_syntax.specs.declared.instruction.Instruction.{Instruction}
 use Rattle.tm_syntax.specs.declared.instruction.Instruction.TheVariants as instruction
 use Rattle.tm_values.specs.Truth.{is_undefined}
-use Rattle.tm_meaning.specs.World.{Bindings, World, plain_scope}
+use Rattle.tm_meaning.specs.World.{Bindings, CanPay, World, plain_scope}
 use Rattle.tm_meaning.specs.declared.base.Base.{Base}
 use Rattle.tm_meaning.specs.declared.stream.StreamId.{StreamId}
 use Rattle.tm_meaning.specs.Instructions.{call_function_of}
@@ -71,7 +71,7 @@ advanced l = record l { place = l.place + 1; fuel = l.fuel - 1 }
 
 -- An instruction can be paid for, and there is a next place.
 abbrev pub CanAdvance : LeafRun → Type 0
-CanAdvance l = (1 < l.fuel) × (l.place < 2 ^ 64 - 1)
+CanAdvance l = CanPay 1 l.fuel × (l.place < 2 ^ 64 - 1)
 
 -- The operands change so.
 abbrev pub Changes : (List Val → List Val → Type 0) → LeafRun → LeafRun → Type 0

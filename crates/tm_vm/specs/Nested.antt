@@ -1,5 +1,5 @@
 -- A run that an instruction needed, and the machine after it.
-use Rattle.std.specs.Prelude.{◌≡◌, ◌⊎◌, ◌+◌, ◌-◌, ℕ, List, [], ◌∷◌, length, Option, Result, Ok, Err, true}
+use Rattle.std.specs.Prelude.{◌≡◌, ◌⊎◌, ◌+◌, ◌-◌, ◌≤◌, ℕ, List, [], ◌∷◌, length, Option, Result, Ok, Err, true}
 use Rattle.std.specs.Io.KnownBytes.{Appends}
 use Rattle.tm_values.specs.Val.{Val}
 use Rattle.tm_meaning.specs.World.{World, without_first}
@@ -45,12 +45,12 @@ pub record Went (p : Program) (e : NestedRun) (old new : Config) (told now : Opt
   pub goes : after e old.run (Finished operands captures world) ≡ More [] new
 
 -- A block's run stands on the scopes that were saved, and one of its own; a macro's has the names loaded that were; and an include's both,
--- without a scope of its own.
+-- with a scope of its own or not.
 abbrev pub StandsOn : Saved → World → Type 0
 StandsOn (saved.Block s) w = length w.scopes.frames ≡ s.scopes + 1
 StandsOn (saved.Super s) w = length w.scopes.frames ≡ s.replaced.scopes + 1
 StandsOn (saved.Macro s) w = s.lists.loaded ≡ w.loaded
-StandsOn (saved.Include s) w = (length w.scopes.frames ≡ s.replaced.scopes) × (s.lists.loaded ≡ w.loaded)
+StandsOn (saved.Include s) w = (s.replaced.scopes ≤ length w.scopes.frames) × (s.lists.loaded ≡ w.loaded)
 
 -- The scopes are those below the run's own, where those that were saved stood, or those that were saved; after an include they are as
 -- many, and the very ones below the innermost. The places in lists of blocks are those that were saved, or from before a block's run.

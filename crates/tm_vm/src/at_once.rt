@@ -1,6 +1,7 @@
 //! The instructions that are paid for and done at once where they can be: where they run nothing, and fail only by the
 //! writer or where a capture finds no memory.
-ghost use Rattle.std.specs.Prelude.{◌≡◌, ◌<◌, ◌+◌, None, true};
+ghost use Rattle.std.specs.Prelude.{◌≡◌, ◌+◌, None, true};
+ghost use Rattle.tm_meaning.specs.World.{CanPay};
 ghost use Rattle.tm_meaning.specs.Machine.{audible};
 ghost use Rattle.tm_meaning.specs.Instructions.{binary_of, discard_top_of, dup_top_of, emit_of, emit_raw_of, get_attr_of, iterate_of, jump_if_false_of};
 ghost use Rattle.tm_meaning.specs.Instructions.{is_undefined_of, load_const_of, lookup_of, store_local_of};
@@ -88,7 +89,7 @@ impl Machine {
     #[inline(always)]
     fn pay_and_advance(&mut self)
         requires in_place { CanGoOn self.old.run }
-        requires can_pay { 1 < self.old.world.fuel }
+        requires can_pay { CanPay 1 self.old.world.fuel }
         ensures { self.new ≡ record (paid self.old) {
           run = record self.old.run { place = self.old.run.place + 1 };
         } }
@@ -101,7 +102,7 @@ impl Machine {
     #[inline(always)]
     fn lookup_at_once<H: Host>(&mut self, host: &H, name: &Name) -> bool
         requires in_place { CanGoOn self.old.run }
-        requires can_pay { 1 < self.old.world.fuel }
+        requires can_pay { CanPay 1 self.old.world.fuel }
         ensures { IsAtOnce result (lookup_of (H.meaning host.now) name.now)
             self.old self.new }
     {
@@ -120,7 +121,7 @@ impl Machine {
     #[inline(always)]
     fn get_attr_at_once<H: Host>(&mut self, host: &H, name: &Name) -> bool
         requires in_place { CanGoOn self.old.run }
-        requires can_pay { 1 < self.old.world.fuel }
+        requires can_pay { CanPay 1 self.old.world.fuel }
         ensures { IsAtOnce result (get_attr_of (H.meaning host.now) name.now)
             self.old self.new }
     {
@@ -136,7 +137,7 @@ impl Machine {
     #[inline(always)]
     fn load_const_at_once(&mut self, value: &Value) -> bool
         requires in_place { CanGoOn self.old.run }
-        requires can_pay { 1 < self.old.world.fuel }
+        requires can_pay { CanPay 1 self.old.world.fuel }
         ensures { IsAtOnce result (load_const_of value.now) self.old self.new }
     {
         if !self.run.push_shared(value) {
@@ -150,7 +151,7 @@ impl Machine {
     #[inline(always)]
     fn binary_at_once<H: Host>(&mut self, host: &H, operator: BinaryOperator) -> bool
         requires in_place { CanGoOn self.old.run }
-        requires can_pay { 1 < self.old.world.fuel }
+        requires can_pay { CanPay 1 self.old.world.fuel }
         ensures { IsAtOnce result (binary_of (H.meaning host.now) operator)
             self.old self.new }
     {
@@ -166,7 +167,7 @@ impl Machine {
     #[inline(always)]
     fn jump_if_false_at_once<H: Host>(&mut self, host: &H, place: usize) -> bool
         requires in_place { CanGoOn self.old.run }
-        requires can_pay { 1 < self.old.world.fuel }
+        requires can_pay { CanPay 1 self.old.world.fuel }
         ensures { IsAtOnce result (jump_if_false_of (H.meaning host.now) place)
             self.old self.new }
     {
@@ -184,7 +185,7 @@ impl Machine {
     #[inline(always)]
     fn store_local_at_once(&mut self, name: &Name) -> bool
         requires in_place { CanGoOn self.old.run }
-        requires can_pay { 1 < self.old.world.fuel }
+        requires can_pay { CanPay 1 self.old.world.fuel }
         ensures { IsAtOnce result (store_local_of name.now) self.old self.new }
     {
         let Some(value) = self.run.top() else {
@@ -202,7 +203,7 @@ impl Machine {
     #[inline(always)]
     fn iterate_at_once(&mut self, place: usize) -> bool
         requires in_place { CanGoOn self.old.run }
-        requires can_pay { 1 < self.old.world.fuel }
+        requires can_pay { CanPay 1 self.old.world.fuel }
         ensures { IsAtOnce result (iterate_of place) self.old self.new }
     {
         let _place = place;
@@ -228,7 +229,7 @@ impl Machine {
     #[inline(always)]
     fn is_undefined_at_once(&mut self) -> bool
         requires in_place { CanGoOn self.old.run }
-        requires can_pay { 1 < self.old.world.fuel }
+        requires can_pay { CanPay 1 self.old.world.fuel }
         ensures { IsAtOnce result is_undefined_of self.old self.new }
     {
         if !self.run.test_undefined() {
@@ -269,7 +270,7 @@ impl Machine {
     #[inline(never)]
     fn put_raw_at_once(&mut self, base: &Base, text: &RawText) -> bool
         requires in_place { CanGoOn self.old.run }
-        requires can_pay { 1 < self.old.world.fuel }
+        requires can_pay { CanPay 1 self.old.world.fuel }
         ensures { IsAtOnce result (emit_raw_of base.now text.now) self.old self.new }
     {
         if self.is_audible(base) && !self.captures.put_at_once(text.as_str()) {
@@ -284,7 +285,7 @@ impl Machine {
     #[tactic(auto, using(crate::proofs::Performed::at_once, crate::proofs::Performed::charged))]
     fn emit_raw_at_once<W: Sink>(&mut self, base: &Base, text: &RawText, writer: &mut W) -> Attempt
         requires in_place { CanGoOn self.old.run }
-        requires can_pay { 1 < self.old.world.fuel }
+        requires can_pay { CanPay 1 self.old.world.fuel }
         ensures done { Attempted result (emit_raw_of base.now text.now) self.old self.new
             (W.written writer.old) (W.written writer.new)
             (W.failures writer.old) (W.failures writer.new) }
@@ -305,7 +306,7 @@ impl Machine {
     #[tactic(auto, using(crate::proofs::Performed::charged))]
     fn capture_at_once<H: Host>(&mut self, host: &H, base: &Base) -> Attempt
         requires in_place { CanGoOn self.old.run }
-        requires can_pay { 1 < self.old.world.fuel }
+        requires can_pay { CanPay 1 self.old.world.fuel }
         requires unformatted { (H.meaning host.now).formatter ≡ None }
         requires heard { audible base.now self.old ≡ true }
         ensures done { AttemptedUntold result (emit_of (H.meaning host.now) base.now)
@@ -331,7 +332,7 @@ impl Machine {
     #[tactic(auto, using(crate::proofs::Performed::charged, crate::proofs::Emitted::no_formatter))]
     fn emit_at_once<H: Host, W: Sink>(&mut self, host: &H, base: &Base, writer: &mut W) -> Attempt
         requires in_place { CanGoOn self.old.run }
-        requires can_pay { 1 < self.old.world.fuel }
+        requires can_pay { CanPay 1 self.old.world.fuel }
         ensures done { Attempted result (emit_of (H.meaning host.now) base.now) self.old self.new
             (W.written writer.old) (W.written writer.new)
             (W.failures writer.old) (W.failures writer.new) }

@@ -10,27 +10,30 @@ use tm_parts::Halt;
 use tm_tables::Host;
 
 impl Machine {
-    /// Pops a value, and runs the first template that is there of those that it names, in place; nothing where none is
-    /// there and one may be missing, or the value names none.
+    /// Pops a value, and runs the first template that is there of those that it names, in place, `apart` in a scope of its
+    /// own or not; nothing where none is there and one may be missing, or the value names none.
     #[inline(never)]
     pub(crate) fn do_include<H: Host>(
         &mut self,
         alloc: Global,
         host: &H,
         base: &Base,
+        apart: bool,
         missing: bool,
     ) -> Result<Flow, Halt>
         requires { CanGoOn self.old.run }
         ensures { Needs (program (H.meaning host.now) (H.code host.now))
             (include_of
-            (program (H.meaning host.now) (H.code host.now)) base.now missing self.old)
+            (program (H.meaning host.now) (H.code host.now)) base.now apart missing self.old)
             self.old self.new result }
     {
         let heard = self.is_audible(base);
         let Some(value) = self.run.pop() else {
             return Err(Halt::Stuck);
         };
-        let entry = self.state.include_run(alloc, host, &value, missing, heard)?;
+        let entry = self
+            .state
+            .include_run(alloc, host, &value, apart, missing, heard)?;
         self.run.advance();
         match entry {
             Some(entry) => Ok(Flow::Enter(entry)),

@@ -4,7 +4,7 @@ ghost use Rattle.tm_values.specs.Answer.{IsLent, OkOrOutOfMemory, OrStays};
 ghost use Rattle.tm_values.specs.Val.{text};
 ghost use Rattle.tm_syntax.specs.declared.instruction.Instruction.TheVariants as instruction;
 ghost use Rattle.tm_meaning.specs.Memory.{is_want_of_memory};
-ghost use Rattle.tm_meaning.specs.World.{is_escaping};
+ghost use Rattle.tm_meaning.specs.World.{is_escaping, CanPay};
 ghost use Rattle.tm_meaning.specs.Instructions.{call_function_of};
 ghost use Rattle.tm_parts.specs.Operate.{Doubles, Operates, TakesMember, TestsUndefined};
 ghost use Rattle.tm_vm.specs.Answers.{program, CanGoOn};
@@ -407,7 +407,7 @@ impl Leaf {
     #[inline(always)]
     fn skip_test(&mut self, code: &Code) -> bool
         requires in_place { self.old.place + 2 < 2 ^ 64 - 1 }
-        requires can_pay { 2 < self.old.fuel }
+        requires can_pay { CanPay 2 self.old.fuel }
         ensures { OrStays result self.old self.new (SkipsTest code.now self.old self.new) }
     {
         let Some(Instruction::IsUndefined) = instruction_at(code, self.place + 1) else {
@@ -433,7 +433,7 @@ impl Leaf {
     #[inline(always)]
     fn test_or_double(&mut self, code: &Code) -> bool
         requires in_place { self.old.place + 2 < 2 ^ 64 - 1 }
-        requires can_pay { 2 < self.old.fuel }
+        requires can_pay { CanPay 2 self.old.fuel }
         requires here { slice_get code.now self.old.place ≡ Some instruction.DupTop }
         ensures runs { (escape : AutoEscape) → IsTrue result →
             RunsOn code.now escape self.old self.new }
@@ -451,7 +451,7 @@ impl Leaf {
         let Some(instruction) = instruction_at(code, self.place) else {
             return LeafFlow::Left;
         };
-        if self.fuel <= 2 {
+        if self.fuel < 2 {
             return LeafFlow::Left;
         }
         match instruction {

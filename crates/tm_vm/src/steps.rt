@@ -107,7 +107,8 @@ impl Machine {
             Instruction::CallBlock(name) => self.do_call_block(alloc, host, base, name),
             Instruction::FastSuper => self.do_fast_super(alloc, host, base),
             Instruction::LoadBlocks => self.do_load_blocks(alloc, host, base),
-            Instruction::Include(missing) => self.do_include(alloc, host, base, *missing),
+            Instruction::Include(missing) => self.do_include(alloc, host, base, true, *missing),
+            Instruction::IncludeModule => self.do_include(alloc, host, base, false, false),
             Instruction::ExportLocals => self.do_export_locals(alloc),
             Instruction::StoreLocal(name) => self.do_store_local(name),
             Instruction::Enclose(name) => self.do_enclose(alloc, host, name),
@@ -138,7 +139,7 @@ impl Machine {
         self.run.place
     }
 
-    /// Pays for an instruction; Exhausted where no more than its charge is left.
+    /// Pays for an instruction; Exhausted where less than its charge is left.
     #[inline(always)]
     pub(crate) fn charge(&mut self, instruction: &Instruction) -> Result<(), Exhausted>
         ensures ok { OnOk result

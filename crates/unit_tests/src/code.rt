@@ -80,6 +80,7 @@ fn word(instruction: &Instruction) -> &'static str {
         Instruction::LoadBlocks => "extends",
         Instruction::Include(true) => "include?",
         Instruction::Include(false) => "include",
+        Instruction::IncludeModule => "include!",
         Instruction::ExportLocals => "module",
         Instruction::PushWith => "with",
         Instruction::PopFrame => "leave",

@@ -19,6 +19,20 @@ fn delimiters_are_the_callers(rt: HostRuntime) -> Result<(), Fail> {
     expect_codes(rt.alloc(), &*syntax, &DELIMITED)
 }
 
+/// Ends that stand in longer signs count at their first place.
+static ENDED: [&str; 4] = [
+    "${a >= b => $a emit raw:= b",
+    "${a>b => $a emit raw:b",
+    "${ 1 >> b => #1 emit raw:> b",
+    "<% if a == b<% endif = => $a if-false:3 raw:= b",
+];
+
+#[test]
+fn ends_count_at_their_first_place(rt: HostRuntime) -> Result<(), Fail> {
+    let syntax = syntax::with_delimiters(rt.alloc(), &["<%", "=", "${", ">", "<#", "#>"])?;
+    expect_codes(rt.alloc(), &*syntax, &ENDED)
+}
+
 static UNUSABLE: [[&str; 6]; 3] = [
     ["", "b", "c", "d", "e", "f"],
     ["a", "b", "c", "d", "e", ""],

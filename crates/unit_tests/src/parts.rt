@@ -14,7 +14,12 @@ use tm_values::{AutoEscape, Error, ErrorKind, Value};
 /// what is consumed and what remains.
 type Charges = (u64, u64, bool, u64, u64);
 
-static CHARGES: [Charges; 3] = [(2, 1, false, 1, 1), (2, 2, true, 2, 0), (0, 1, true, 0, 0)];
+static CHARGES: [Charges; 4] = [
+    (2, 1, false, 1, 1),
+    (2, 2, false, 2, 0),
+    (2, 3, true, 2, 0),
+    (0, 1, true, 0, 0),
+];
 
 fn are_charged(charges: &Charges) -> bool {
     let mut tracker = FuelTracker::new(charges.0);

@@ -6,8 +6,8 @@ pub returns-clause-text : goal.returns-clause-text
 unfolding digits
 returns-clause-text c = (refl, refl)
 
-pub returns-clause-four : goal.returns-clause-four
-returns-clause-four c = (refl, refl)
+pub returns-clause-three : goal.returns-clause-three
+returns-clause-three c = (refl, refl)
 
 pub returns-clause-within : goal.returns-clause-within
 unfolding digits
@@ -33,3 +33,10 @@ returns-clause-name c = (refl, refl)
 
 pub returns-clause-itself : goal.returns-clause-itself
 returns-clause-itself c = (refl, refl)
+
+pub returns-clause-nested : goal.returns-clause-nested
+unfolding digits
+returns-clause-nested c = (refl, refl, refl, refl)
+
+pub returns-clause-nested_too_deep : goal.returns-clause-nested_too_deep
+returns-clause-nested_too_deep c = (refl, refl, refl, refl)

@@ -28,3 +28,15 @@ returns-clause-closure c = (refl, refl, refl, refl)
 pub returns-clause-closure_again : goal.returns-clause-closure_again
 unfolding digits
 returns-clause-closure_again c = (refl, refl, refl, refl)
+
+pub returns-clause-apart : goal.returns-clause-apart
+unfolding digits
+returns-clause-apart c = (refl, refl, refl, refl)
+
+pub returns-clause-enclosed : goal.returns-clause-enclosed
+unfolding digits
+returns-clause-enclosed c = (refl, refl, refl, refl)
+
+pub returns-clause-loop_around : goal.returns-clause-loop_around
+unfolding digits
+returns-clause-loop_around c = (refl, refl, refl, refl)

@@ -1,7 +1,14 @@
 use Rattle.std.proofs.Common.{Ok, subst, sym}
 use Rattle.tm_state.specs.declared.nested.NestedRun.{NestedRun}
-use Rattle.tm_state.specs.Answers.{CallDeeper, CallLies}
+use Rattle.tm_state.specs.Answers.{Becomes, CallDeeper, CallLies, NeedsRun}
 use Rattle.template_machine.proofs.state.StateOf.value_of.Goals as goal
+
+pub returns-in-Run-clause-called : goal.returns-in-Run-clause-called
+returns-in-Run-clause-called g c = λ asked becomes.
+    let w = c.args.self.now.world in
+    c.value_of_run.ensures.called asked
+    (subst (λ (e : NestedRun). NeedsRun e asked w) (sym c.into_inner.ensures)
+    (subst (λ called. Becomes (Ok called) asked w) c.in-Run.is becomes))
 
 pub returns-in-Run-clause-stays : goal.returns-in-Run-clause-stays
 returns-in-Run-clause-stays g c = λ limit before lies.

@@ -11,9 +11,9 @@ returns-in_err-run-in-Some-clause-err g c =
     let w = c.args.self.now in
     let none = c.in_ok-found.names_none in
     let is = subst (λ e. IsChosen e none host v w) c.in-Some.is c.in_ok-found.ensures.ok in
-    refused_on c.from_residual-in_err-run-in-Some.result c.in_err-run-in-Some.field-0.0 (enter_include host v c.args.missing w) w
+    refused_on c.from_residual-in_err-run-in-Some.result c.in_err-run-in-Some.field-0.0 (enter_include host c.args.apart v c.args.missing w) w
     c.from_residual-in_err-run-in-Some.ensures
-    (λ m. chosen host v c.args.missing w c.in-Some.entry none is ∙ c.in_err-run-in-Some.ensures.err m (c.args.missing || none))
+    (λ m. chosen host c.args.apart v c.args.missing w c.in-Some.entry none is ∙ c.in_err-run-in-Some.ensures.err m (c.args.missing || none))
 
 pub returns-in_ok-run-in-Some-clause-ok : goal.returns-in_ok-run-in-Some-clause-ok
 returns-in_ok-run-in-Some-clause-ok g c =
@@ -23,4 +23,4 @@ returns-in_ok-run-in-Some-clause-ok g c =
     let none = c.in_ok-found.names_none in
     let is = subst (λ e. IsChosen e none host v w) c.in-Some.is c.in_ok-found.ensures.ok in
     let needs = c.in_ok-run-in-Some.ensures.ok (c.args.missing || none) in
-    (needs.0, needs.1, needs.2, chosen host v c.args.missing w c.in-Some.entry none is ∙ needs.3)
+    (needs.0, needs.1, needs.2, chosen host c.args.apart v c.args.missing w c.in-Some.entry none is ∙ needs.3)

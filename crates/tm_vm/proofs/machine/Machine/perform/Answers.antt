@@ -190,5 +190,8 @@ returns-in-UnpackLists g c = rw c.in-UnpackLists.is (silent c.do_unpack_lists.re
 pub returns-in-Include : goal.returns-in-Include
 returns-in-Include g c = rw c.in-Include.is (needed c.do_include.result c.do_include.ensures)
 
+pub returns-in-IncludeModule : goal.returns-in-IncludeModule
+returns-in-IncludeModule g c = rw c.in-IncludeModule.is (needed c.do_include-in-IncludeModule.result c.do_include-in-IncludeModule.ensures)
+
 pub returns-in-ExportLocals : goal.returns-in-ExportLocals
 returns-in-ExportLocals g c = rw c.in-ExportLocals.is (silent c.do_export_locals.result c.do_export_locals.ensures)
