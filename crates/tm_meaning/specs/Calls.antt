@@ -101,8 +101,8 @@ scopes_after before scopes = record {
 
 -- However the run ended, only the scopes stay that stood before it, and stream, block, escape and outer depth are those before it; after a
 -- `super()` so are the places in lists of blocks; after a macro, which has scopes of its own, and after an include so are these lists
--- too, their places and the loaded names. Names that an include gave to the innermost scope stay, whose closure is put back. Records, kept
--- values and fuel go on.
+-- too, their places and the loaded names. A template that an import runs stands in the innermost scope, whose closure is put back; the
+-- names that it gave to that scope stay. Records, kept values and fuel go on.
 abbrev pub undone : Undo → World → World
 undone (of_block b) w = block_undone b w
 undone (of_super b) w = record (block_undone b w) { places = b.places }

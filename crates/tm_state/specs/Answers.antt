@@ -61,7 +61,7 @@ HasMore (saved.Include s) old new = StandsDeeper old new
 abbrev pub OneDeeper : ℕ → Saved → World → World → Type 0
 OneDeeper limit kept old new = IsSaved kept old × HasMore kept old new × (depth new.scopes ≤ limit)
 
--- What is put back is that of a call, whose text is a value: not of an include, whose run names the scopes that stood.
+-- What is put back is that of a call, whose text is a value: not of an include or of an import.
 abbrev pub IsCall : Saved → Type 0
 IsCall (saved.Include s) = ⊥
 IsCall _ = Unit {0}
@@ -164,6 +164,7 @@ CallLies limit _ old new = StaysInPlace old new
 -- What a call leaves, whatever it came to.
 pub record LeavesState (limit : ℕ) (result : Result CallResult (List ErrorKind)) (old new : World) : Type 0 where
   pub kept : KeepsFixedAndNames old new
+  pub same_blocks : new.blocks ≡ old.blocks
   pub lies : CallLies limit result old new
 
 -- ---------------------------------------------------------------- further calls
@@ -203,9 +204,10 @@ FurtherComes make test call (Err chain) asked w = is_want_of_memory chain ≡ fa
 abbrev pub PrintedComes : MakesFurther → Bool → Result Further (List ErrorKind) → Asked → World → Type 0
 PrintedComes make test result asked w = FurtherComes make test (calls.Macro [] []) result asked w
 
--- How the scopes lie after it.
+-- How the scopes lie after it, and what is kept.
 abbrev pub FurtherLies : ℕ → Result Further (List ErrorKind) → World → World → Type 0
-FurtherLies limit (Ok (further.Run e)) old new = CallDeeper limit e.value.saved old new × KeepsFixedAndNames old new
+FurtherLies limit (Ok (further.Run e)) old new =
+    CallDeeper limit e.value.saved old new × KeepsFixedAndNames old new × (new.blocks ≡ old.blocks)
 FurtherLies limit _ old new = new ≡ record old { namespaces = new.namespaces }
 
 -- InvalidOperation for this cause, unless it is OutOfMemory

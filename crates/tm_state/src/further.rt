@@ -267,6 +267,7 @@ impl StateData {
             ≡ refused e self.old) }
         ensures unchanged { OnErr result (self.new ≡ self.old) }
         ensures kept { KeepsFixedAndNames self.old self.new }
+        ensures blocks { self.new.blocks ≡ self.old.blocks }
     {
         let (stream, saved) = self.enter_deeper(alloc, host, name, levels)?;
         let run = NestedRun {
@@ -301,6 +302,7 @@ impl StateData {
             ≡ refused e self.old) }
         ensures unchanged { OnErr result (self.new ≡ self.old) }
         ensures kept { KeepsFixedAndNames self.old self.new }
+        ensures blocks { self.new.blocks ≡ self.old.blocks }
     {
         let outer = self.go_deeper(host, levels);
         match self.enter_block(alloc, host, name) {

@@ -55,6 +55,7 @@ impl StateData {
             enter_super (H.meaning host.now) self.old ≡ refused e self.old) }
         ensures unchanged { OnErr result (self.new ≡ self.old) }
         ensures kept { KeepsFixedAndNames self.old self.new }
+        ensures blocks { self.new.blocks ≡ self.old.blocks }
     {
         let (stream, name, next) = self.next_block()?;
         let running = stream.share()?;

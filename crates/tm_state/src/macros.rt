@@ -131,6 +131,7 @@ impl StateData {
             (H.meaning host.now) declared.now args.now self.old ≡ refused e self.old) }
         ensures unchanged { OnErr result (self.new ≡ self.old) }
         ensures kept { KeepsFixedAndNames self.old self.new }
+        ensures blocks { self.new.blocks ≡ self.old.blocks }
     {
         let mut entry = self.macro_box(alloc)?;
         self.enter_macro(alloc, host, declared, args, levels, text, &mut *entry)?;

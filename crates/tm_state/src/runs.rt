@@ -61,6 +61,7 @@ impl StateData {
             enter_block (H.meaning host.now) name.now self.old ≡ refused e self.old) }
         ensures unchanged { OnErr result (self.new ≡ self.old) }
         ensures kept { KeepsFixedAndNames self.old self.new }
+        ensures blocks { self.new.blocks ≡ self.old.blocks }
     {
         let (stream, is_alone) = self.block_stream(name)?;
         if is_alone && host.is_required(&stream) {

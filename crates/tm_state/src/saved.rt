@@ -77,7 +77,8 @@ impl Drop for SavedMacro {
     }
 }
 
-/// What an include's run replaces, which stands in the scopes that stood.
+/// What the run of an include or of an import replaces: the one stands in a scope of its own over those that
+/// stood, the other in these.
 #[derive(Drop)]
 pub struct SavedInclude {
     /// What a block's run replaces.
