@@ -11,7 +11,7 @@ use Rattle.tm_meaning.specs.declared.mark.LoopMark.{LoopMark}
 use Rattle.tm_syntax.specs.declared.tree.BinaryOperator.{BinaryOperator}
 use Rattle.tm_meaning.specs.World.{choose, TemplateId, World, HostValue, Loop, top_mark, top_loop, open_loop, next_turn, cleared}
 use Rattle.tm_meaning.specs.World.{items_over, Res, answered, looked_up, emitted, escape_for, with_escape, store, unpacked_items}
-use Rattle.tm_meaning.specs.World.{set_member, push, pop, plain_scope, captured_text, module_of, enclose, own_closure, make_macro}
+use Rattle.tm_meaning.specs.World.{set_member, push, pop, plain_scope, captured_text, module_with, enclose, own_closure, make_macro}
 use Rattle.tm_syntax.specs.Loops.{loops_before}
 use Rattle.tm_syntax.specs.Entries.{entry_number}
 use Rattle.tm_syntax.specs.CacheNumbers.{no_cache, cache_count}
@@ -381,14 +381,9 @@ abbrev pub include_of : Program → Base → Bool → Bool → Config → Next
 include_of p f apart missing c =
     on_top c.run.operands c.world (λ v vs. asked_in_place p f c vs (enter_include p.host apart v missing c.world))
 
-abbrev pub on_text : Option (List ℕ) → World → (List ℕ → Next) → Next
-on_text None w f = stuck w
-on_text (Some t) w f = f t
-
--- a text is replaced by the module of the innermost scope's names and the text
+-- a value is replaced by the module of the innermost scope's names and the value's printed text
 abbrev pub export_locals_of : Config → Next
-export_locals_of c =
-    on_top c.run.operands c.world (λ v vs. on_text (text_in v) c.world (λ t. goes (module_of c.world t ∷ vs) c.world c))
+export_locals_of c = on_top c.run.operands c.world (λ v vs. after (module_with v c.world) (λ m w. goes (m ∷ vs) w c))
 
 -- the innermost loop is called in place
 abbrev pub fast_recurse_of : Program → Base → Config → Next

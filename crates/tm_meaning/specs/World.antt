@@ -24,7 +24,7 @@ pub use Rattle.tm_meaning.specs.declared.stream.StreamId.{StreamId}
 use Rattle.tm_definitions.specs.Iteration.{iterated, unpacked}
 use Rattle.tm_definitions.specs.Members.{or_undefined, settable}
 use Rattle.tm_values.specs.Defined.{refusal_of, unless}
-use Rattle.tm_definitions.specs.Emitted.{emission_verdict, emitted_text}
+use Rattle.tm_definitions.specs.Emitted.{emission_verdict, emitted_text, text_answer}
 use Rattle.tm_definitions.specs.Verdicts.{Verdict}
 
 -- one of two, where only that one is computed
@@ -589,6 +589,10 @@ top_locals (s ∷ ss) = s.locals
 -- the module of the names that the innermost scope exports, and of a text
 abbrev pub module_of : World → List ℕ → Val
 module_of w t = exports (pairs_of (exported (top_locals w.scopes.frames))) t
+
+-- the same with the text that a value is printed as, which is refused where that can't be printed
+abbrev pub module_with : Val → World → Res Val
+module_with v w = bind (answered (text_answer (records_of w) v) w) (λ t world1. Good (module_of world1 t) world1)
 
 -- ---------------------------------------------------------------- the fuel levels
 abbrev pub levels_of : Option ℕ → ℕ → Option (ℕ × ℕ)

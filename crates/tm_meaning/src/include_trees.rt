@@ -144,12 +144,15 @@ pub fn from_import_rows()
     ensures parent { Charges (name_imported (codes "child") (codes "a")) (codes "[]") 13 }
 {}
 
-/// Instructions without the operand that they take: any name, and a text.
+/// Instructions without the operand that they take: any name, and a value, of which a module has the
+/// printed text.
 pub fn include_operand_rows()
     ensures name { run_before (i.Include false ∷ []) [] ≡ said [] 999 (BadStream ∷ []) }
     ensures module { run_before (i.IncludeModule ∷ []) [] ≡ said [] 999 (BadStream ∷ []) }
     ensures nothing { run_before (i.ExportLocals ∷ []) [] ≡ said [] 1000 (BadStream ∷ []) }
-    ensures number { run_before (one_left (i.ExportLocals ∷ [])) [] ≡ said [] 999 (BadStream ∷ []) }
+    ensures number { run_before (one_left (i.ExportLocals ∷ [])) [] ≡ said [] 999 [] }
+    ensures printed { run_before (one_left (i.ExportLocals ∷ i.Emit ∷ [])) []
+        ≡ said (decimal 1) 998 [] }
 {}
 
 /// The template of an import stores nothing in the closure of the scope in which it runs, and that

@@ -1,21 +1,21 @@
 -- What a world keeps: one part however statements end (`Advances`), and more where that is no fault (`Kept`).
-use Rattle.std.proofs.Common.{◌≡◌, ℕ, zero, suc, ◌+◌, List, [], ◌∷◌, length, Option, Some, None, Bool, true, false, ◌++◌, refl, sym}
-use Rattle.std.proofs.Common.{ap, ◌∙◌, arith, append_assoc, ◌≤◌}
+use Rattle.std.proofs.Common.{◌≡◌, ℕ, zero, suc, List, [], ◌∷◌, length, Option, Some, None, Bool, true, false, ◌++◌, refl, sym}
+use Rattle.std.proofs.Common.{ap, ◌∙◌, arith, append_assoc, ltb-true, nat_lt, ◌≤◌}
 use Rattle.std.specs.Prelude.{◌-◌, drop, slice_get, if◌then◌else◌}
 use Rattle.std.proofs.lemmas.List.{append-nil, length-append}
 use Rattle.std.proofs.Math.Seq.{drop-append_seam}
 use Rattle.tm_values.specs.Val.{Val}
 use Rattle.tm_values.specs.declared.escape.AutoEscape.{AutoEscape}
 use Rattle.tm_values.specs.declared.error.ErrorKind.TheVariants.{InvalidOperation}
-use Rattle.tm_meaning.specs.World.{Bindings, choose, with_frames, World, Scopes, Scope, Loop}
+use Rattle.tm_meaning.specs.World.{Bindings, choose, with_frames, World, HostValue, Scopes, Scope, Loop}
 use Rattle.tm_meaning.specs.World.{top_mark, without_locals, cleared, Res, Good, Bad, pop, depth, without_first, stored_in}
 use Rattle.tm_meaning.specs.World.{own_closure, put_at, put_in, put_enclosed, store, with_escape, owning, one_closure_more}
 use Rattle.tm_meaning.specs.World.{closing_over, is_there, with_stream}
 use Rattle.tm_meaning.specs.Calls.{outermost}
-use Rattle.tm_simulation.specs.Kept.{shape, shapes, GoesOn, bare, LieOver, BlocksGrow, NamesGrow}
+use Rattle.tm_simulation.specs.Kept.{shape, shapes, GoesOn, bare, Differs, in_names, in_closure_too, but, LieOver, BlocksGrow, NamesGrow}
+use Rattle.tm_simulation.specs.Kept.{Within}
 use Rattle.tm_simulation.proofs.Parents.{blocks_same, blocks_then, names_same, names_then}
 use Rattle.tm_meaning.specs.declared.stream.StreamId.{StreamId}
-use Rattle.tm_syntax.specs.Named.{put}
 
 -- ---------------------------------------------------------------- records
 pub shapes_long : (ls : List Loop) → length (shapes ls) ≡ length ls
@@ -38,32 +38,51 @@ front_record (x ∷ a) b zero l e = e
 front_record (x ∷ a) b (suc n) l e = front_record a b n l e
 
 -- ---------------------------------------------------------------- scopes that lie over others
--- as many but for the names of the innermost one
-bare_long : (ss : List Scope) → length (bare ss) ≡ length ss
-bare_long [] = refl
-bare_long (s ∷ ss) = refl
+-- as many but for what may differ of the innermost one
+but_long : (i : Differs) (ss : List Scope) → length (but i ss) ≡ length ss
+but_long in_names [] = refl
+but_long in_names (s ∷ ss) = refl
+but_long in_closure_too [] = refl
+but_long in_closure_too (s ∷ ss) = refl
 
-top_of_bare : (ss : List Scope) → top_mark (bare ss) ≡ top_mark ss
-top_of_bare [] = refl
-top_of_bare (s ∷ ss) = refl
+top_of_but : (i : Differs) (ss : List Scope) → top_mark (but i ss) ≡ top_mark ss
+top_of_but in_names [] = refl
+top_of_but in_names (s ∷ ss) = refl
+top_of_but in_closure_too [] = refl
+top_of_but in_closure_too (s ∷ ss) = refl
 
-bare_without : (ss : List Scope) → bare (without_locals ss) ≡ bare ss
-bare_without [] = refl
-bare_without (s ∷ ss) = refl
+but_without : (i : Differs) (ss : List Scope) → but i (without_locals ss) ≡ but i ss
+but_without in_names [] = refl
+but_without in_names (s ∷ ss) = refl
+but_without in_closure_too [] = refl
+but_without in_closure_too (s ∷ ss) = refl
+
+-- what differs in names alone differs in names and the closure at most
+but_wider : (i : Differs) (old new : List Scope) → but i new ≡ but i old → bare new ≡ bare old
+but_wider in_names old new e = sym (but_without in_closure_too new) ∙ ap bare e ∙ but_without in_closure_too old
+but_wider in_closure_too old new e = e
 
 -- below the innermost scope they are the same
-below_bare : (s : Scope) (ss there : List Scope) → bare there ≡ bare (s ∷ ss) → (t : Scope) × (there ≡ t ∷ ss)
-below_bare s ss [] e = absurd (cc e)
-below_bare s ss (t ∷ ts) e = (t, cc e)
+below_but : (i : Differs) (s : Scope) (ss there : List Scope) → but i there ≡ but i (s ∷ ss) → (t : Scope) × (there ≡ t ∷ ss)
+below_but in_names s ss [] e = absurd (cc e)
+below_but in_names s ss (t ∷ ts) e = (t, cc e)
+below_but in_closure_too s ss [] e = absurd (cc e)
+below_but in_closure_too s ss (t ∷ ts) e = (t, cc e)
 
-pub lie_same : (old new : List Scope) → bare new ≡ bare old → LieOver old new
-lie_same old new e = ([], new, refl, e)
+pub lie_same : (i : Differs) (old new : List Scope) → but i new ≡ but i old → LieOver i old new
+lie_same i old new e = ([], new, refl, e)
 
-lie_then : (a b c : List Scope) → LieOver a b → LieOver b c → LieOver a c
-lie_then a b c ([], there, is, same) (more, last, at, e) = (more, last, at, e ∙ ap bare is ∙ same)
-lie_then a b c (s ∷ ss, there, is, same) (more, last, at, e) =
-    let below = below_bare s (ss ++ there) last (e ∙ ap bare is) in
+lie_then : (i : Differs) (a b c : List Scope) → LieOver i a b → LieOver i b c → LieOver i a c
+lie_then i a b c ([], there, is, same) (more, last, at, e) = (more, last, at, e ∙ ap (but i) is ∙ same)
+lie_then i a b c (s ∷ ss, there, is, same) (more, last, at, e) =
+    let below = below_but i s (ss ++ there) last (e ∙ ap (but i) is) in
     (more ++ below.0 ∷ ss, there, at ∙ ap (λ l. more ++ l) below.1 ∙ sym (append_assoc more (below.0 ∷ ss) there), same)
+
+-- Those that lie over these and one more lie over these, which are the very ones: whatever differs is above them.
+lie_above : (i j : Differs) (s : Scope) (a c : List Scope) → LieOver j (s ∷ a) c → LieOver i a c
+lie_above i j s a c (more, last, at, e) =
+    let below = below_but j s a last e in
+    (more ++ below.0 ∷ [], a, at ∙ ap (λ l. more ++ l) below.1 ∙ sym (append_assoc more (below.0 ∷ []) a), refl)
 
 -- of scopes that lie over these the outermost, as many as these, are these
 outermost_there : (more ss : List Scope) → outermost (length ss) (more ++ ss) ≡ ss
@@ -71,19 +90,19 @@ outermost_there more ss =
     let many : length (more ++ ss) - length ss ≡ length more = omega (arith, length-append more ss) in
     ap (λ n. drop n (more ++ ss)) many ∙ drop-append_seam more ss
 
-pub outermost_below : (s : Scope) (ss new : List Scope) → LieOver (s ∷ ss) new → outermost (length ss) new ≡ ss
-outermost_below s ss new (more, there, is, same) =
-    let below = below_bare s ss there same in
+pub outermost_below : (i : Differs) (s : Scope) (ss new : List Scope) → LieOver i (s ∷ ss) new → outermost (length ss) new ≡ ss
+outermost_below i s ss new (more, there, is, same) =
+    let below = below_but i s ss there same in
     let all : new ≡ (more ++ below.0 ∷ []) ++ ss =
     is ∙ ap (λ l. more ++ l) below.1 ∙ sym (append_assoc more (below.0 ∷ []) ss) in
     ap (outermost (length ss)) all ∙ outermost_there (more ++ below.0 ∷ []) ss
 
--- those that lie over these have these as their outermost, but for the names of the innermost one of these
-pub outermost_bare : (old new : List Scope) → LieOver old new → bare (outermost (length old) new) ≡ bare old
-outermost_bare old new (more, there, is, same) =
-    let long : length old ≡ length there = sym (bare_long old) ∙ ap length (sym same) ∙ bare_long there in
-    ap (λ frames. bare (outermost (length old) frames)) is ∙ ap (λ n. bare (outermost n (more ++ there))) long
-    ∙ ap bare (outermost_there more there) ∙ same
+-- those that lie over these have these as their outermost, but for what may differ of the innermost one of these
+pub outermost_but : (i : Differs) (old new : List Scope) → LieOver i old new → but i (outermost (length old) new) ≡ but i old
+outermost_but i old new (more, there, is, same) =
+    let long : length old ≡ length there = sym (but_long i old) ∙ ap length (sym same) ∙ but_long i there in
+    ap (λ frames. but i (outermost (length old) frames)) is ∙ ap (λ n. but i (outermost n (more ++ there))) long
+    ∙ ap (but i) (outermost_there more there) ∙ same
 
 -- ---------------------------------------------------------------- what is kept
 -- However statements end, and whichever stream, block and scopes are there then: the state is the same one, no fuel comes back, and what
@@ -101,20 +120,31 @@ pub record Lasts (old new : World) : Type 0 where
   pub blocks : BlocksGrow old.blocks new.blocks
   pub same_places : new.places ≡ old.places
 
--- However they end: what was there lasts, the scopes that stood are there, but for the names of the innermost one, and stream and block
--- are as before.
-pub record Advances (old new : World) : Type 0 where
+-- However they end: what was there lasts, the scopes that stood are there, but for what may differ of the innermost one, none lies deeper
+-- than the limit or than they stood, and stream and block are as before.
+pub record AdvancesBut (i : Differs) (host : HostValue) (old new : World) : Type 0 where
   pub lasts : Lasts old new
-  pub scopes : LieOver old.scopes.frames new.scopes.frames
+  pub scopes : LieOver i old.scopes.frames new.scopes.frames
   pub outer : new.scopes.outer ≡ old.scopes.outer
+  pub within_limit : Within host old new
   pub same_stream : new.stream ≡ old.stream
   pub same_block : new.block ≡ old.block
 
 -- Where that is no fault, no other scopes are there, and the escape is as before.
-pub record Kept (old new : World) : Type 0 where
-  pub advances : Advances old new
-  pub same_scopes : bare new.scopes.frames ≡ bare old.scopes.frames
+pub record KeptBut (i : Differs) (old new : World) : Type 0 where
+  pub lasts : Lasts old new
+  pub same_scopes : but i new.scopes.frames ≡ but i old.scopes.frames
+  pub outer : new.scopes.outer ≡ old.scopes.outer
+  pub same_stream : new.stream ≡ old.stream
+  pub same_block : new.block ≡ old.block
   pub same_escape : new.escape ≡ old.escape
+
+-- The same of statements, which make closures too.
+abbrev pub Advances : HostValue → World → World → Type 0
+Advances host old new = AdvancesBut in_closure_too host old new
+
+abbrev pub Kept : World → World → Type 0
+Kept old new = KeptBut in_closure_too old new
 
 pub lasts_then : {a b c : World} → Lasts a b → Lasts b c → Lasts a c
 lasts_then {a = a} {b = b} {c = c} h k = record {
@@ -131,20 +161,63 @@ lasts_then {a = a} {b = b} {c = c} h k = record {
   same_places = k.same_places ∙ h.same_places;
 }
 
-pub advances_then : {a b c : World} → Advances a b → Advances b c → Advances a c
-advances_then {a = a} {b = b} {c = c} h k = record {
+pub advances_then : {i : Differs} {host : HostValue} {a b c : World} → AdvancesBut i host a b → AdvancesBut i host b c →
+    AdvancesBut i host a c
+advances_then {i = i} {a = a} {b = b} {c = c} h k = record {
   lasts = lasts_then h.lasts k.lasts;
-  scopes = lie_then a.scopes.frames b.scopes.frames c.scopes.frames h.scopes k.scopes;
+  scopes = lie_then i a.scopes.frames b.scopes.frames c.scopes.frames h.scopes k.scopes;
   outer = k.outer ∙ h.outer;
+  within_limit = λ d most here. k.within_limit d most (h.within_limit d most here);
   same_stream = k.same_stream ∙ h.same_stream;
   same_block = k.same_block ∙ h.same_block;
 }
 
-pub kept_then : {a b c : World} → Kept a b → Kept b c → Kept a c
+pub kept_then : {i : Differs} {a b c : World} → KeptBut i a b → KeptBut i b c → KeptBut i a c
 kept_then h k = record {
-  advances = advances_then h.advances k.advances;
+  lasts = lasts_then h.lasts k.lasts;
   same_scopes = k.same_scopes ∙ h.same_scopes;
+  outer = k.outer ∙ h.outer;
+  same_stream = k.same_stream ∙ h.same_stream;
+  same_block = k.same_block ∙ h.same_block;
   same_escape = k.same_escape ∙ h.same_escape;
+}
+
+-- as many scopes
+pub kept_frames : {i : Differs} {a b : World} → KeptBut i a b → length b.scopes.frames ≡ length a.scopes.frames
+kept_frames {i = i} {a = a} {b = b} h = sym (but_long i b.scopes.frames) ∙ ap length h.same_scopes ∙ but_long i a.scopes.frames
+
+pub kept_depth : {i : Differs} {a b : World} → KeptBut i a b → depth b.scopes ≡ depth a.scopes
+kept_depth h = omega (arith, kept_frames h, h.outer)
+
+-- the innermost scope's loop
+pub kept_top : {i : Differs} {a b : World} → KeptBut i a b → top_mark b.scopes.frames ≡ top_mark a.scopes.frames
+kept_top {i = i} {a = a} {b = b} h = sym (top_of_but i b.scopes.frames) ∙ ap top_mark h.same_scopes ∙ top_of_but i a.scopes.frames
+
+-- the record of a number
+pub kept_record : {i : Differs} {a b : World} → KeptBut i a b → (n : ℕ) (l : Loop) → slice_get (shapes a.loops) n ≡ Some l →
+    slice_get (shapes b.loops) n ≡ Some l
+kept_record {a = a} {b = b} h n l e =
+    let loops = h.lasts.loops in ap (λ ls. slice_get ls n) loops.1 ∙ front_record (shapes a.loops) loops.0 n l e
+
+pub kept_advances : {i : Differs} {host : HostValue} {a b : World} → KeptBut i a b → AdvancesBut i host a b
+kept_advances {i = i} {a = a} {b = b} h = record {
+  lasts = h.lasts;
+  scopes = lie_same i a.scopes.frames b.scopes.frames h.same_scopes;
+  outer = h.outer;
+  within_limit = λ d most here. omega (arith, kept_depth h, here);
+  same_stream = h.same_stream;
+  same_block = h.same_block;
+}
+
+-- what differs in names alone
+pub kept_wider : {i : Differs} {a b : World} → KeptBut i a b → Kept a b
+kept_wider {i = i} {a = a} {b = b} h = record {
+  lasts = h.lasts;
+  same_scopes = but_wider i a.scopes.frames b.scopes.frames h.same_scopes;
+  outer = h.outer;
+  same_stream = h.same_stream;
+  same_block = h.same_block;
+  same_escape = h.same_escape;
 }
 
 -- less fuel, more records and kept values, and whatever becomes of the scopes, the stream, the block and the escape
@@ -216,67 +289,40 @@ lasts_by_closures w cs more = record {
 }
 
 -- what lasts, with scopes, stream, block and escape as they are
-pub kept_lasting : {w x : World} → Lasts w x → x.scopes ≡ w.scopes → x.stream ≡ w.stream → x.block ≡ w.block → x.escape ≡ w.escape →
-    Kept w x
-kept_lasting {w = w} {x = x} l scopes stream block escape =
-    let frames : bare x.scopes.frames ≡ bare w.scopes.frames = ap (λ (s : Scopes). bare s.frames) scopes in
-    record {
-      advances = record {
-        lasts = l;
-        scopes = lie_same w.scopes.frames x.scopes.frames frames;
-        outer = ap (λ (s : Scopes). s.outer) scopes;
-        same_stream = stream;
-        same_block = block;
-      };
-      same_scopes = frames;
-      same_escape = escape;
-    }
+pub kept_lasting : {i : Differs} {w x : World} → Lasts w x → x.scopes ≡ w.scopes → x.stream ≡ w.stream → x.block ≡ w.block →
+    x.escape ≡ w.escape → KeptBut i w x
+kept_lasting {i = i} l scopes stream block escape = record {
+  lasts = l;
+  same_scopes = ap (λ (s : Scopes). but i s.frames) scopes;
+  outer = ap (λ (s : Scopes). s.outer) scopes;
+  same_stream = stream;
+  same_block = block;
+  same_escape = escape;
+}
 
-pub kept_same : (w : World) → Kept w w
+pub kept_same : {i : Differs} (w : World) → KeptBut i w w
 kept_same w = kept_lasting (lasts_anywhere w.scopes w.stream w.block w.escape w) refl refl refl refl
 
-pub advances_same : (w : World) → Advances w w
-advances_same w = (kept_same w).advances
+pub advances_same : {i : Differs} {host : HostValue} (w : World) → AdvancesBut i host w w
+advances_same w = kept_advances (kept_same w)
 
--- scopes that lie over those that stood
-advances_frames : (frames : List Scope) (w : World) → LieOver w.scopes.frames frames → Advances w (with_frames frames w)
-advances_frames frames w lie = record {
+-- scopes that differ in what may differ of the innermost one
+kept_named : {i : Differs} (frames : List Scope) (w : World) → but i frames ≡ but i w.scopes.frames → KeptBut i w (with_frames frames w)
+kept_named frames w same = record {
   lasts = lasts_anywhere (record w.scopes { frames = frames }) w.stream w.block w.escape w;
-  scopes = lie;
+  same_scopes = same;
   outer = refl;
   same_stream = refl;
   same_block = refl;
-}
-
--- scopes that differ in the names of the innermost one
-kept_named : (frames : List Scope) (w : World) → bare frames ≡ bare w.scopes.frames → Kept w (with_frames frames w)
-kept_named frames w same = record {
-  advances = advances_frames frames w (lie_same w.scopes.frames frames same);
-  same_scopes = same;
   same_escape = refl;
 }
 
--- as many scopes
-pub kept_frames : {a b : World} → Kept a b → length b.scopes.frames ≡ length a.scopes.frames
-kept_frames {a = a} {b = b} h = sym (bare_long b.scopes.frames) ∙ ap length h.same_scopes ∙ bare_long a.scopes.frames
-
-pub kept_depth : {a b : World} → Kept a b → depth b.scopes ≡ depth a.scopes
-kept_depth h = omega (arith, kept_frames h, h.advances.outer)
-
--- the innermost scope's loop
-pub kept_top : {a b : World} → Kept a b → top_mark b.scopes.frames ≡ top_mark a.scopes.frames
-kept_top {a = a} {b = b} h = sym (top_of_bare b.scopes.frames) ∙ ap top_mark h.same_scopes ∙ top_of_bare a.scopes.frames
-
--- the record of a number
-pub kept_record : {a b : World} → Kept a b → (n : ℕ) (l : Loop) → slice_get (shapes a.loops) n ≡ Some l →
-    slice_get (shapes b.loops) n ≡ Some l
-kept_record {a = a} {b = b} h n l e =
-    let loops = h.advances.lasts.loops in ap (λ ls. slice_get ls n) loops.1 ∙ front_record (shapes a.loops) loops.0 n l e
-
 -- ---------------------------------------------------------------- scopes
-stored_bare : (x : List ℕ) (v : Val) (frames : List Scope) → bare (stored_in x v frames) ≡ bare frames
-stored_bare x v [] = refl
-stored_bare x v (s ∷ ss) = refl
+stored_but : (i : Differs) (x : List ℕ) (v : Val) (frames : List Scope) → but i (stored_in x v frames) ≡ but i frames
+stored_but in_names x v [] = refl
+stored_but in_names x v (s ∷ ss) = refl
+stored_but in_closure_too x v [] = refl
+stored_but in_closure_too x v (s ∷ ss) = refl
 
 -- as many closures
 put_at_long : (n : ℕ) (x : List ℕ) (v : Val) (cs : List Bindings) → length (put_at n x v cs) ≡ length cs
@@ -288,7 +334,7 @@ put_in_long : (o : Option ℕ) (x : List ℕ) (v : Val) (cs : List Bindings) →
 put_in_long None x v cs = refl
 put_in_long (Some n) x v cs = put_at_long n x v cs
 
-enclosed_kept : (x : List ℕ) (v : Val) (w : World) → Kept w (put_enclosed x v w)
+enclosed_kept : {i : Differs} (x : List ℕ) (v : Val) (w : World) → KeptBut i w (put_enclosed x v w)
 enclosed_kept x v w =
     kept_lasting (lasts_by_closures w (put_in (own_closure w.scopes.frames) x v w.closures)
     (omega (arith, put_in_long (own_closure w.scopes.frames) x v w.closures))) refl refl refl refl
@@ -296,6 +342,14 @@ enclosed_kept x v w =
 pub own_bare : (closure : Option ℕ) (frames : List Scope) → bare (owning closure frames) ≡ bare frames
 own_bare closure [] = refl
 own_bare closure (s ∷ ss) = refl
+
+-- Scopes differ in names alone from others, from which they differed in the closure too, once they have theirs.
+pub own_again : (i : Differs) (old new : List Scope) → bare new ≡ bare old → but i (owning (own_closure old) new) ≡ but i old
+own_again in_names [] [] e = refl
+own_again in_names [] (t ∷ ts) e = absurd (cc e)
+own_again in_names (s ∷ ss) [] e = absurd (cc e)
+own_again in_names (s ∷ ss) (t ∷ ts) e = ap (owning s.own_closure) e
+own_again in_closure_too old new e = own_bare (own_closure old) new ∙ e
 
 more_closures : (frames : List Scope) (cs : List Bindings) → length cs ≤ length (one_closure_more frames cs)
 more_closures [] cs = omega arith
@@ -320,7 +374,7 @@ more_by true s ts = omega arith
 more_by false s ts = omega (arith, length-append ts (s ∷ []))
 
 -- a stream that declared a macro
-pub stream_kept : (s : StreamId) (w : World) → Kept w (record w { streams = with_stream s w.streams })
+pub stream_kept : {i : Differs} (s : StreamId) (w : World) → KeptBut i w (record w { streams = with_stream s w.streams })
 stream_kept s w = kept_lasting (record {
   same_id = refl;
   same_fuel_set = refl;
@@ -335,14 +389,14 @@ stream_kept s w = kept_lasting (record {
   same_places = refl;
 }) refl refl refl refl
 
-pub store_kept : (x : List ℕ) (v : Val) (w : World) → Kept w (store x v w)
-store_kept x v w =
+pub store_kept : {i : Differs} (x : List ℕ) (v : Val) (w : World) → KeptBut i w (store x v w)
+store_kept {i = i} x v w =
     let frames = stored_in x v w.scopes.frames in
-    kept_then (kept_named frames w (stored_bare x v w.scopes.frames)) (enclosed_kept x v (with_frames frames w))
+    kept_then (kept_named frames w (stored_but i x v w.scopes.frames)) (enclosed_kept x v (with_frames frames w))
 
-pub kept_cleared : {w world1 : World} → Kept w world1 → Kept w (cleared world1)
-kept_cleared {world1 = world1} k =
-    kept_then k (kept_named (without_locals world1.scopes.frames) world1 (bare_without world1.scopes.frames))
+pub kept_cleared : {i : Differs} {w world1 : World} → KeptBut i w world1 → KeptBut i w (cleared world1)
+kept_cleared {i = i} {world1 = world1} k =
+    kept_then k (kept_named (without_locals world1.scopes.frames) world1 (but_without i world1.scopes.frames))
 
 -- a world with one scope more
 abbrev pub within : Scope → World → World
@@ -352,44 +406,55 @@ within s w = with_frames (s ∷ w.scopes.frames) w
 abbrev pub one_more : Bool → Scope → World → Res (Unit {0})
 one_more room s w = choose room (λ _. Good tt (within s w)) (λ _. Bad (InvalidOperation ∷ []) w)
 
-pub advances_within : (s : Scope) (w : World) → Advances w (within s w)
-advances_within s w = advances_frames (s ∷ w.scopes.frames) w (s ∷ [], w.scopes.frames, refl, refl)
+-- what runs in a scope more, for which there was room, whatever differs in it
+pub advances_over : {i j : Differs} {host : HostValue} (s : Scope) (w : World) {v : World} →
+    nat_lt (depth w.scopes) host.limit ≡ true → AdvancesBut j host (within s w) v → AdvancesBut i host w v
+advances_over {i = i} {j = j} {host = host} s w {v = v} room k = record {
+  lasts = lasts_then (lasts_anywhere (record w.scopes { frames = s ∷ w.scopes.frames }) w.stream w.block w.escape w) k.lasts;
+  scopes = lie_above i j s w.scopes.frames v.scopes.frames k.scopes;
+  outer = k.outer;
+  within_limit = λ d most here. k.within_limit d most (omega (arith, ltb-true (depth w.scopes) host.limit room, most));
+  same_stream = k.same_stream;
+  same_block = k.same_block;
+}
 
 -- without it, after what keeps it
-pub kept_popped : (s : Scope) (w world1 : World) → Kept (within s w) world1 → Kept w (pop world1)
-kept_popped s w world1 k =
-    let below = below_bare s w.scopes.frames world1.scopes.frames k.same_scopes in
+pub kept_popped : {i j : Differs} (s : Scope) (w world1 : World) → KeptBut j (within s w) world1 → KeptBut i w (pop world1)
+kept_popped {i = i} {j = j} s w world1 k =
+    let below = below_but j s w.scopes.frames world1.scopes.frames k.same_scopes in
     let frames : without_first world1.scopes.frames ≡ w.scopes.frames = ap without_first below.1 in
-    let same = ap bare frames in
-    let l = k.advances in
     record {
-      advances = record {
-        lasts =
-            lasts_then (lasts_then (advances_within s w).lasts l.lasts)
-            (lasts_anywhere (record world1.scopes { frames = without_first world1.scopes.frames }) world1.stream world1.block world1.escape
-            world1);
-        scopes = lie_same w.scopes.frames (without_first world1.scopes.frames) same;
-        outer = l.outer;
-        same_stream = l.same_stream;
-        same_block = l.same_block;
-      };
-      same_scopes = same;
+      lasts =
+          lasts_then (lasts_then (lasts_anywhere (record w.scopes { frames = s ∷ w.scopes.frames }) w.stream w.block w.escape w) k.lasts)
+          (lasts_anywhere (record world1.scopes { frames = without_first world1.scopes.frames }) world1.stream world1.block world1.escape
+          world1);
+      same_scopes = ap (but i) frames;
+      outer = k.outer;
+      same_stream = k.same_stream;
+      same_block = k.same_block;
       same_escape = k.same_escape;
     }
 
-pub advances_escaped : (e : AutoEscape) (w : World) → Advances w (with_escape e w)
-advances_escaped e w = record {
+pub advances_escaped : {i : Differs} {host : HostValue} (e : AutoEscape) (w : World) → AdvancesBut i host w (with_escape e w)
+advances_escaped {i = i} e w = record {
   lasts = lasts_anywhere w.scopes w.stream w.block e w;
-  scopes = lie_same w.scopes.frames w.scopes.frames refl;
+  scopes = lie_same i w.scopes.frames w.scopes.frames refl;
   outer = refl;
+  within_limit = λ d most here. here;
   same_stream = refl;
   same_block = refl;
 }
 
 -- the escape put back, after what keeps another
-pub kept_unescaped : (e : AutoEscape) (w world1 : World) → Kept (with_escape e w) world1 → Kept w (with_escape w.escape world1)
+pub kept_unescaped : {i : Differs} (e : AutoEscape) (w world1 : World) → KeptBut i (with_escape e w) world1 →
+    KeptBut i w (with_escape w.escape world1)
 kept_unescaped e w world1 k = record {
-  advances = advances_then (advances_escaped e w) (advances_then k.advances (advances_escaped w.escape world1));
+  lasts =
+      lasts_then (lasts_then (lasts_anywhere w.scopes w.stream w.block e w) k.lasts)
+      (lasts_anywhere world1.scopes world1.stream world1.block w.escape world1);
   same_scopes = k.same_scopes;
+  outer = k.outer;
+  same_stream = k.same_stream;
+  same_block = k.same_block;
   same_escape = refl;
 }

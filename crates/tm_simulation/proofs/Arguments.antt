@@ -64,11 +64,11 @@ module _ (setting : Setting) where
       (λ x world1. Go context s (pc + 1) (x ∷ stack) world1) → Go context s pc (v ∷ stack) w
   unary_then unaries.Not s pc v stack w e h =
       at context i.Not s pc (v ∷ stack) w e (after_then context (told s) (tick w) _
-      (bind_then context (told s) w (tick w) _ _ _ (tick_gives _ w) h (λ _ world1 k h1.
+      (bind_then context (told s) w (tick w) _ _ _ (tick_gives _ _ w) h (λ _ world1 k h1.
       pushes context s pc stack (v ∷ stack) world1 (applied_unary context.program.host unaries.Not v world1) h1)))
   unary_then op s pc v stack w e h =
       at context _ s pc (v ∷ stack) w e (after_then context (told s) (tick w) _
-      (bind_then context (told s) w (tick w) _ _ _ (tick_gives _ w) h (λ _ world1 k h1.
+      (bind_then context (told s) w (tick w) _ _ _ (tick_gives _ _ w) h (λ _ world1 k h1.
       pushes context s pc stack (v ∷ stack) world1 (applied_unary context.program.host op v world1) h1)))
 
   -- an instruction that is an operator
@@ -79,7 +79,7 @@ module _ (setting : Setting) where
       (λ y world1. Go context s (pc + 1) (y ∷ stack) world1) → Go context s pc (b ∷ a ∷ stack) w
   operates op x is s pc a b stack w e h =
       at context x s pc (b ∷ a ∷ stack) w e (subst (λ n. LeadsToEnd context (told s) n) (sym (is (cfg s pc (b ∷ a ∷ stack) w)))
-      (after_then context (told s) (tick w) _ (bind_then context (told s) w (tick w) _ _ _ (tick_gives _ w) h (λ _ world1 k h1.
+      (after_then context (told s) (tick w) _ (bind_then context (told s) w (tick w) _ _ _ (tick_gives _ _ w) h (λ _ world1 k h1.
       pushes context s pc stack (b ∷ a ∷ stack) world1 (operated context.program.host op a b world1) h1))))
 
   pub binary_then : (op : BinaryOperator) (s : Spot) (pc : ℕ) (a b : Val) (stack : List Val) (w : World) →
@@ -88,10 +88,10 @@ module _ (setting : Setting) where
       (λ x world1. Go context s (beyond_all pc (binary_code op)) (x ∷ stack) world1) → Go context s pc (b ∷ a ∷ stack) w
   binary_then binaries.NotIn s pc a b stack w is h =
       at context i.In s pc (b ∷ a ∷ stack) w is.0 (after_then context (told s) (tick w) _
-      (bind_then context (told s) w (tick w) _ _ _ (tick_gives _ w) h (λ _ world1 k h1.
+      (bind_then context (told s) w (tick w) _ _ _ (tick_gives _ _ w) h (λ _ world1 k h1.
       pushes context s pc stack (b ∷ a ∷ stack) world1 (operated context.program.host binaries.In a b world1)
       (bind_then context (told s) world1 (operated context.program.host binaries.In a b world1) _ _ _
-      (operated_gives context.program.host binaries.In a b world1) h1 (λ v world2 k2 h2.
+      (operated_gives _ context.program.host binaries.In a b world1) h1 (λ v world2 k2 h2.
       unary_then unaries.Not s (pc + 1) v stack world2 is.1.0 h2)))))
   binary_then op s pc a b stack w is h = operates op _ (λ c. refl) s pc a b stack w is.0 h
 
@@ -123,9 +123,9 @@ module _ (setting : Setting) where
   passes k x f b m is run s pc vs stack w P long d e h go =
       let us = passed_on b vs stack in
       at context x s pc us w e (subst (λ q. LeadsToEnd context (told s) q) (sym (is (cfg s pc us w)))
-      (after_then context (told s) (tick w) _ (bind_then context (told s) w (tick w) _ _ _ (tick_gives _ w) h (λ _ world1 k1 h1.
+      (after_then context (told s) (tick w) _ (bind_then context (told s) w (tick w) _ _ _ (tick_gives _ _ w) h (λ _ world1 k1 h1.
       let q = applied context.program.host k f vs world1 in
-      let asks = applied_asks context.program.host k f vs world1 in
+      let asks = applied_asks _ context.program.host k f vs world1 in
       subst (λ t. LeadsToEnd context (told s) t)
       (sym (taken_by b m vs stack world1 (λ xs rest. asked context.program
       (cfg s pc us world1) rest (applied context.program.host k f xs world1)) long))
@@ -162,7 +162,7 @@ module _ (setting : Setting) where
   calls x b m call is asks run s pc vs stack w long d e h =
       let us = passed_on b vs stack in
       at context x s pc us w e (subst (λ q. LeadsToEnd context (told s) q) (sym (is (cfg s pc us w)))
-      (after_then context (told s) (tick w) _ (bind_then context (told s) w (tick w) _ _ _ (tick_gives _ w) h (λ _ world1 k1 h1.
+      (after_then context (told s) (tick w) _ (bind_then context (told s) w (tick w) _ _ _ (tick_gives _ _ w) h (λ _ world1 k1 h1.
       subst (λ t. LeadsToEnd context (told s) t)
       (sym (taken_by b m vs stack world1 (λ xs rest. asked context.program (cfg s pc us world1) rest (call xs world1)) long))
       (asked_then setting run s pc stack us world1 world1 (call vs world1) (asks vs world1) (here_kept setting run s k1 d) h1)))))
@@ -186,7 +186,7 @@ module _ (setting : Setting) where
   listed_then s pc (suc n) [] stack w e is h = absurd (omega (arith, e))
   listed_then s pc (suc n) (v ∷ vs) stack w e is h =
       at context (i.BuildList (Some (suc n))) s pc (onto (v ∷ vs) stack) w is.0 (after_then context (told s) (tick w) _
-      (bind_then context (told s) w (tick w) _ _ _ (tick_gives _ w) h (λ _ world1 k h1.
+      (bind_then context (told s) w (tick w) _ _ _ (tick_gives _ _ w) h (λ _ world1 k h1.
       built_then list_of_values s pc (suc n) (v ∷ vs) stack world1 e h1)))
 
   pub mapped_then : (s : Spot) (pc n : ℕ) (ps : List (Val × Val)) (stack : List Val) (w : World) → length ps ≡ n →
@@ -198,7 +198,7 @@ module _ (setting : Setting) where
   mapped_then s pc (suc n) [] stack w e is h = absurd (omega (arith, e))
   mapped_then s pc (suc n) (p ∷ ps) stack w e is h =
       at context (i.BuildKwargs (suc n)) s pc (onto (flat (p ∷ ps)) stack) w is.0 (after_then context (told s) (tick w) _
-      (bind_then context (told s) w (tick w) _ _ _ (tick_gives _ w) h (λ _ world1 k h1.
+      (bind_then context (told s) w (tick w) _ _ _ (tick_gives _ _ w) h (λ _ world1 k h1.
       built_then (λ vs. keyword_map (paired vs)) s pc (suc n + suc n) (flat (p ∷ ps)) stack world1 (flat_long (suc n) (p ∷ ps) e)
       (subst (λ zs. Go context s (pc + 1) (keyword_map zs ∷ stack) world1) (sym (paired_flat (p ∷ ps))) h1))))
 
@@ -209,12 +209,12 @@ module _ (setting : Setting) where
   merged_then false s pc n ms stack w e is h = h
   merged_then true s pc n ms stack w e is h =
       at context (i.MergeKwargs n) s pc (onto ms stack) w is.0 (after_then context (told s) (tick w) _
-      (bind_then context (told s) w (tick w) _ _ _ (tick_gives _ w) h (λ _ world1 k h1.
+      (bind_then context (told s) w (tick w) _ _ _ (tick_gives _ _ w) h (λ _ world1 k h1.
       subst (λ t. LeadsToEnd context (told s) (on_taken t world1 (λ vs rest. after (merged_values context.program.host vs world1)
       (λ v world2. goes (v ∷ rest) world2 (cfg s pc (onto ms stack) world1))))) (sym (taken_all ms n stack e))
       (pushes context s pc stack (onto ms stack) world1 (merged_values context.program.host ms world1)
       (bind_then context (told s) world1 (merged_values context.program.host ms world1) _ _ _
-      (merged_values_give context.program.host ms world1) h1 (λ v world2 k2 g. g))))))
+      (merged_values_give _ context.program.host ms world1) h1 (λ v world2 k2 g. g))))))
 
   -- the items of lists become a group
   grouped_then : (s : Spot) (pc n : ℕ) (ls stack : List Val) (w : World) (K : List Val → World → Type 0) → length ls ≡ n →
@@ -224,12 +224,12 @@ module _ (setting : Setting) where
       Go context s pc (onto ls stack) w
   grouped_then s pc n ls stack w K e is h go =
       at context (i.UnpackLists n) s pc (onto ls stack) w is (after_then context (told s) (tick w) _
-      (bind_then context (told s) w (tick w) _ _ _ (tick_gives _ w) h (λ _ world1 k h1.
+      (bind_then context (told s) w (tick w) _ _ _ (tick_gives _ _ w) h (λ _ world1 k h1.
       subst (λ t. LeadsToEnd context (told s) (on_taken t world1 (λ vs rest. after (items_of_lists context.program.host vs world1)
       (λ us world2. goes (group_on us rest) world2 (cfg s pc (onto ls stack) world1))))) (sym (taken_all ls n stack e))
       (after_then context (told s) (items_of_lists context.program.host ls world1) _
       (follows_map_kept context (told s) world1 (items_of_lists context.program.host ls world1) K _
-      (list_items_give context.program.host ls world1) h1
+      (list_items_give _ context.program.host ls world1) h1
       (λ vs world2 k2 g. silent context (told s) _ (go vs world2 (kept_then k k2) g)))))))
 
   -- after a false comparison its right side is dropped, which is free
@@ -239,7 +239,7 @@ module _ (setting : Setting) where
       Go context s end (v ∷ y ∷ stack) w
   dropped_then s end v y stack w is h =
       at context i.Swap s end (v ∷ y ∷ stack) w is.0 (after_then context (told s) (tick w) _
-      (bind_then context (told s) w (tick w) _ _ _ (tick_gives _ w) h (λ _ world1 k g.
+      (bind_then context (told s) w (tick w) _ _ _ (tick_gives _ _ w) h (λ _ world1 k g.
       silent context (told s) _ (at context i.DiscardTop s (end + 1) (y ∷ v ∷ stack) world1 is.1.0 (silent context (told s) _ g)))))
 
   -- code that stands in the stream of a spot, the place of each macro of which is marked so
@@ -281,7 +281,7 @@ module _ (setting : Setting) where
   row_runs run = record {
     end = row_end;
     values = mapped;
-    gives = mapped_gives context.program.host;
+    gives = mapped_gives _ context.program.host;
     long = mapped_long;
     runs = λ n row s l pc stack w e d is h. mapped_then s pc n row stack w e is h;
   }
@@ -346,14 +346,14 @@ module _ (setting : Setting) where
       before s l pc stack w d is.0
       (bind_then context (told s) w (test w) _ _ _ (tested w) h (λ v world1 k1 h1.
       at context _ s _ (v ∷ stack) world1 is.1.0.0 (after_then context (told s) (tick world1) _
-      (bind_then context (told s) world1 (tick world1) _ _ _ (tick_gives _ world1) h1 (λ _ world2 k2 h2.
+      (bind_then context (told s) world1 (tick world1) _ _ _ (tick_gives _ _ world1) h1 (λ _ world2 k2 h2.
       after_then context (told s) (truth context.program.host v world2) _ (bind_then context (told s) world2
-      (truth context.program.host v world2) _ _ _ (truth_gives context.program.host v world2) h2 (λ b world3 k3 h3.
+      (truth context.program.host v world2) _ _ _ (truth_gives _ context.program.host v world2) h2 (λ b world3 k3 h3.
       let deep3 = here_kept setting run s k3 (here_kept setting run s k2 (here_kept setting run s k1 d)) in
       choose_then context b (bind (guarded world3) (λ x world4. bind (tick world4) (λ _ world5. Good x world5))) (other world3) _ _
       (told s) _ h3
       (λ h4. silent context (told s) _ (part s _ _ stack world3 deep3 is.1.0.1
       (bind_then context (told s) world3 (guarded world3) _ _ _ (given world3) h4 (λ x world4 k4 h5.
       at context _ s _ (x ∷ stack) world4 is.1.1 (after_then context (told s) (tick world4) _
-      (bind_then context (told s) world4 (tick world4) _ _ _ (tick_gives _ world4) h5 (λ _ world5 k5 g. silent context (told s) _ g)))))))
+      (bind_then context (told s) world4 (tick world4) _ _ _ (tick_gives _ _ world4) h5 (λ _ world5 k5 g. silent context (told s) _ g)))))))
       (λ h4. silent context (told s) _ (following s _ _ stack world3 deep3 is.1.2 h4)))))))))

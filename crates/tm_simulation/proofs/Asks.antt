@@ -45,34 +45,40 @@ use Rattle.tm_simulation.specs.Chains.{is_method}
 use Rattle.tm_simulation.proofs.Raised.{unpacked_raises, escape_raises, emitted_arises, iterated_raises, range_raises, dict_raises}
 use Rattle.tm_simulation.proofs.Raised.{namespace_raises, name_raises, method_raises, text_raises, choices_raise, raised_arise}
 use Rattle.tm_simulation.proofs.Loads.{need_does, answer_does, not_true}
-use Rattle.tm_simulation.proofs.Advances.{Advances, Kept, advances_then, lasts_by_namespaces, lasts_by_temps, advances_same}
-use Rattle.tm_simulation.proofs.Advances.{kept_same, kept_then, kept_lasting, kept_depth, within, one_more}
+use Rattle.tm_simulation.specs.Kept.{Differs, in_closure_too}
+use Rattle.tm_simulation.proofs.Advances.{AdvancesBut, Advances, KeptBut, advances_then, lasts_by_namespaces, lasts_by_temps, advances_same}
+use Rattle.tm_simulation.proofs.Advances.{kept_same, kept_then, kept_lasting, kept_depth, kept_advances, within, one_more}
 use Rattle.tm_simulation.proofs.RunAdvances.{undone_kept, in_stream}
 use Rattle.tm_simulation.proofs.RunAdvances.{put_each_long, keeping_kept, undone_at, super_undone_kept, macro_undone_kept, include_undone_kept}
-use Rattle.tm_simulation.proofs.Gives.{answered_gives, Gives, refused_arises, gives_bind, operation_gives}
+use Rattle.tm_simulation.proofs.Gives.{answered_gives, GivesBut, refused_arises, gives_bind, operation_gives}
 
 -- A value keeps the world; a run starts at least one level deeper, within the limit, and however it ends what is put back after it keeps the world.
-abbrev pub Asks : HostValue → World → Asked → Type 0
-Asks host w (has v world1) = Kept w world1
-Asks host w (refused chain world1) = Advances w world1 × Arises host chain
-Asks host w (recurs n items world1) = Kept w world1
-Asks host w (runs c world1) =
+abbrev pub AsksBut : Differs → HostValue → World → Asked → Type 0
+AsksBut i host w (has v world1) = KeptBut i w world1
+AsksBut i host w (refused chain world1) = AdvancesBut i host w world1 × Arises host chain
+AsksBut i host w (recurs n items world1) = KeptBut i w world1
+AsksBut i host w (runs c world1) =
     (depth w.scopes + 1 ≤ depth world1.scopes) × (depth world1.scopes ≤ host.limit) ×
-    ((world2 : World) → Advances (in_stream world2.stream world1) world2 → Kept w (undone c.undo world2))
+    ((world2 : World) → Advances host (in_stream world2.stream world1) world2 → KeptBut i w (undone c.undo world2))
 
-asks_then : (host : HostValue) (w world1 : World) (q : Asked) → Kept w world1 → Asks host world1 q → Asks host w q
+abbrev pub Asks : HostValue → World → Asked → Type 0
+Asks host w q = AsksBut in_closure_too host w q
+
+asks_then : {i : Differs} (host : HostValue) (w world1 : World) (q : Asked) → KeptBut i w world1 → AsksBut i host world1 q →
+    AsksBut i host w q
 asks_then host w world1 (has v world2) h k = kept_then h k
-asks_then host w world1 (refused chain world2) h k = (advances_then h.advances k.0, k.1)
+asks_then host w world1 (refused chain world2) h k = (advances_then (kept_advances h) k.0, k.1)
 asks_then host w world1 (recurs n items world2) h k = kept_then h k
 asks_then host w world1 (runs c world2) h k = (omega (arith, k.0, kept_depth h), k.1, λ world3 l. kept_then h (k.2 world3 l))
 
-asks_refused : (host : HostValue) (w : World) (kind : ErrorKind) → is_raised kind ≡ true → Asks host w (refused (kind ∷ []) w)
+asks_refused : {i : Differs} (host : HostValue) (w : World) (kind : ErrorKind) → is_raised kind ≡ true →
+    AsksBut i host w (refused (kind ∷ []) w)
 asks_refused host w kind e = refused_arises host w kind e
 
-ask_then : {A : Type 0} (host : HostValue) (w : World) (m : Res A) (g : A → World → Asked) → Gives host w m →
-    ((a : A) (world1 : World) → Asks host world1 (g a world1)) → Asks host w (ask m g)
-ask_then host w (Good a world1) g h k = asks_then host w world1 (g a world1) h (k a world1)
-ask_then host w (Bad chain world1) g h k = h
+ask_then : (i : Differs) {A : Type 0} (host : HostValue) (w : World) (m : Res A) (g : A → World → Asked) → GivesBut i host w m →
+    ((a : A) (world1 : World) → AsksBut i host world1 (g a world1)) → AsksBut i host w (ask m g)
+ask_then i host w (Good a world1) g h k = asks_then host w world1 (g a world1) h (k a world1)
+ask_then i host w (Bad chain world1) g h k = h
 
 -- where something is there, the world is as it was
 need_asks : {A : Type 0} (Holds : Asked → Type 0) (w : World) (found : Option A) (kind : ErrorKind) (g : A → World → Asked) →
@@ -80,10 +86,10 @@ need_asks : {A : Type 0} (Holds : Asked → Type 0) (w : World) (found : Option 
 need_asks Holds w (Some a) kind g h k = k a refl
 need_asks Holds w None kind g h k = h
 
-ask_need : {A : Type 0} (host : HostValue) (w : World) (found : Option A) (kind : ErrorKind) (g : A → World → Asked) →
+ask_need : (i : Differs) {A : Type 0} (host : HostValue) (w : World) (found : Option A) (kind : ErrorKind) (g : A → World → Asked) →
     is_raised kind ≡ true →
-    ((a : A) → found ≡ Some a → Asks host w (g a w)) → Asks host w (ask (need found kind w) g)
-ask_need host w found kind g e k = need_asks (Asks host w) w found kind g (asks_refused host w kind e) k
+    ((a : A) → found ≡ Some a → AsksBut i host w (g a w)) → AsksBut i host w (ask (need found kind w) g)
+ask_need i host w found kind g e k = need_asks (AsksBut i host w) w found kind g (asks_refused host w kind e) k
 
 check_asks : (Holds : Asked → Type 0) (w : World) (b : Bool) (kind : ErrorKind) (g : Unit {0} → World → Asked) →
     Holds (refused (kind ∷ []) w) → Holds (g tt w) → Holds (ask (check b kind w) g)
@@ -118,9 +124,9 @@ block_asks_by Holds host b w refuses enters =
     (push_asks Holds w (plain_scope (undefined false)) (nat_lt (depth w.scopes) host.limit) _ (refuses InvalidOperation refl)
     (λ room. enters (block_of t b) room))))
 
-pub block_asks : (host : HostValue) (b : List ℕ) (w : World) → Asks host w (enter_block host b w)
-block_asks host b w =
-    block_asks_by (Asks host w) host b w (λ kind e. asks_refused host w kind e) (λ stream room. (
+pub block_asks : (i : Differs) (host : HostValue) (b : List ℕ) (w : World) → AsksBut i host w (enter_block host b w)
+block_asks i host b w =
+    block_asks_by (AsksBut i host w) host b w (λ kind e. asks_refused host w kind e) (λ stream room. (
       omega arith,
       omega (arith, ltb-true (depth w.scopes) host.limit room),
       λ world2 l. undone_kept (plain_scope (undefined false)) stream (Some b) w world2 l,
@@ -144,9 +150,9 @@ super_asks_by Holds host w refuses enters =
     push_asks Holds w (plain_scope (undefined false)) (nat_lt (depth w.scopes) host.limit) _ (refuses InvalidOperation refl)
     (λ room. enters (block_of t x) x room))))
 
-pub super_asks : (host : HostValue) (w : World) → Asks host w (enter_super host w)
-super_asks host w =
-    super_asks_by (Asks host w) host w (λ kind e. asks_refused host w kind e) (λ stream x room. (
+pub super_asks : (i : Differs) (host : HostValue) (w : World) → AsksBut i host w (enter_super host w)
+super_asks i host w =
+    super_asks_by (AsksBut i host w) host w (λ kind e. asks_refused host w kind e) (λ stream x room. (
       omega arith,
       omega (arith, ltb-true (depth w.scopes) host.limit room),
       λ world2 h. super_undone_kept (plain_scope (undefined false)) stream (put x (place_in x w.places + 1) w.places) w world2 h,
@@ -205,9 +211,10 @@ cost_positive : (apart : Bool) → 1 ≤ include_cost apart
 cost_positive true = omega arith
 cost_positive false = omega arith
 
-pub include_asks : (host : HostValue) (apart : Bool) (v : Val) (missing : Bool) (w : World) → Asks host w (enter_include host apart v missing w)
-include_asks host apart v missing w =
-    include_asks_by (Asks host w) host w (λ chain h. (advances_same w, h)) (kept_same w) apart (λ t room. (
+pub include_asks : (i : Differs) (host : HostValue) (apart : Bool) (v : Val) (missing : Bool) (w : World) →
+    AsksBut i host w (enter_include host apart v missing w)
+include_asks i host apart v missing w =
+    include_asks_by (AsksBut i host w) host w (λ chain h. (advances_same w, h)) (kept_same w) apart (λ t room. (
       omega (arith, include_deep apart host t w, cost_positive apart),
       omega (arith, room, include_deep apart host t w),
       λ world2 l. include_undone_kept apart (include_depth + w.scopes.outer) (root_of t) (template_at host t).escape
@@ -215,240 +222,260 @@ include_asks host apart v missing w =
     )) v missing
 
 -- ---------------------------------------------------------------- functions
-given_gives : (host : HostValue) (g : GlobalFunction) (args : List Val) (w : World) → Gives host w (given_by g args w)
-given_gives host own.Range args w = operation_gives host _ w (range_raises args)
-given_gives host own.Dict args w =
-    gives_bind host w (answered (dict_of (records_of w) args) w) _ (operation_gives host _ w (dict_raises (records_of w) args))
+given_gives : (i : Differs) (host : HostValue) (g : GlobalFunction) (args : List Val) (w : World) → GivesBut i host w (given_by g args w)
+given_gives i host own.Range args w = operation_gives _ host _ w (range_raises args)
+given_gives i host own.Dict args w =
+    gives_bind _ host w (answered (dict_of (records_of w) args) w) _ (operation_gives _ host _ w (dict_raises (records_of w) args))
     (λ ps world1. kept_same world1)
-given_gives host own.Namespace args w =
-    gives_bind host w (answered (namespace_of (records_of w) args) w) _ (operation_gives host _ w (namespace_raises (records_of w) args))
+given_gives i host own.Namespace args w =
+    gives_bind _ host w (answered (namespace_of (records_of w) args) w) _
+    (operation_gives _ host _ w (namespace_raises (records_of w) args))
     (λ ps world1.
     kept_lasting (lasts_by_namespaces world1 (world1.namespaces ++ ps ∷ []) (omega (arith, length-append world1.namespaces (ps ∷ []))))
     refl refl refl refl)
 
 -- What makes further calls keeps the world, as what it calls does.
-abbrev MakesAsks : HostValue → MakesFurther → Type 0
-MakesAsks host make = (c : Call) (w : World) → Asks host w (make c w)
+abbrev MakesAsks : Differs → HostValue → MakesFurther → Type 0
+MakesAsks i host make = (c : Call) (w : World) → AsksBut i host w (make c w)
 
-replied_asks : (host : HostValue) (make : MakesFurther) → MakesAsks host make → (f : Object) (args : List Val) (view : View) (w : World)
-    (reply : Reply) → IsObject host f → (f args view).reply ≡ reply → Asks host w (replied make reply w)
-replied_asks host make k f args view w (gives v) e s = kept_same w
-replied_asks host make k f args view w (faults chain) e s = (advances_same w, by_object f args view e s)
-replied_asks host make k f args view w (asks_for c) e s = k c w
+replied_asks : (i : Differs) (host : HostValue) (make : MakesFurther) → MakesAsks i host make →
+    (f : Object) (args : List Val) (view : View) (w : World)
+    (reply : Reply) → IsObject host f → (f args view).reply ≡ reply → AsksBut i host w (replied make reply w)
+replied_asks i host make k f args view w (gives v) e s = kept_same w
+replied_asks i host make k f args view w (faults chain) e s = (advances_same w, by_object f args view e s)
+replied_asks i host make k f args view w (asks_for c) e s = k c w
 
 -- values to keep are kept first
-object_asks : (host : HostValue) (make : MakesFurther) → MakesAsks host make → (f : Object) (args : List Val) (w : World) →
-    IsObject host f → Asks host w (object_call make host f args w)
-object_asks host make k f args w e =
+object_asks : (i : Differs) (host : HostValue) (make : MakesFurther) → MakesAsks i host make → (f : Object) (args : List Val) (w : World) →
+    IsObject host f → AsksBut i host w (object_call make host f args w)
+object_asks i host make k f args w e =
     let stated = f args (view_of host w) in
     let temps = put_each stated.temps w.temps in
     asks_then host w (record w { temps = temps }) (replied make stated.reply (record w { temps = temps }))
     (kept_lasting (lasts_by_temps w temps (put_each_long stated.temps w.temps)) refl refl refl refl)
-    (replied_asks host make k f args (view_of host w) _ stated.reply e refl)
+    (replied_asks _ host make k f args (view_of host w) _ stated.reply e refl)
 
-named_object_asks : (host : HostValue) (make : MakesFurther) → MakesAsks host make → (found : Option Object) (kind : ErrorKind)
+named_object_asks : (i : Differs) (host : HostValue) (make : MakesFurther) → MakesAsks i host make →
+    (found : Option Object) (kind : ErrorKind)
     (args : List Val) (w : World) → is_raised kind ≡ true → ((f : Object) → found ≡ Some f → IsObject host f) →
-    Asks host w (found_call make host found kind args w)
-named_object_asks host make k found kind args w e there =
-    ask_need host w found kind (λ f world1. object_call make host f args world1) e
-    (λ f is. object_asks host make k f args w (there f is))
+    AsksBut i host w (found_call make host found kind args w)
+named_object_asks i host make k found kind args w e there =
+    ask_need _ host w found kind (λ f world1. object_call make host f args world1) e
+    (λ f is. object_asks _ host make k f args w (there f is))
 
-pub lookup_gives : (host : HostValue) (x : List ℕ) (w : World) → Gives host w (lookup host x w)
-lookup_gives host x w = operation_gives host _ w (name_raises (view_of host w) x)
+pub lookup_gives : (i : Differs) (host : HostValue) (x : List ℕ) (w : World) → GivesBut i host w (lookup host x w)
+lookup_gives i host x w = operation_gives _ host _ w (name_raises (view_of host w) x)
 
-function_asks : (make : MakesFurther) (host : HostValue) → MakesAsks host make → (n : ℕ) (f : Function) (args : List Val) (w : World) →
-    slice_get host.functions n ≡ Some f → Asks host w (function_call make host f args w)
-function_asks make host k n (callers f) args w e = object_asks host make k f args w (is_function n e)
-function_asks make host k n (languages g) args w e =
-    ask_then host w (given_by g args w) has (given_gives host g args w) (λ v world1. kept_same world1)
+function_asks : (i : Differs) (make : MakesFurther) (host : HostValue) → MakesAsks i host make →
+    (n : ℕ) (f : Function) (args : List Val) (w : World) →
+    slice_get host.functions n ≡ Some f → AsksBut i host w (function_call make host f args w)
+function_asks i make host k n (callers f) args w e = object_asks _ host make k f args w (is_function n e)
+function_asks i make host k n (languages g) args w e =
+    ask_then _ host w (given_by g args w) has (given_gives _ host g args w) (λ v world1. kept_same world1)
 
 -- A macro is refused, or asks for a run of its own.
-macro_asks : (levels : ℕ) (host : HostValue) (m : MacroData) (args : List Val) (w : World) → Asks host w (enter_macro levels host m args w)
-macro_asks levels host m args w =
+macro_asks : (i : Differs) (levels : ℕ) (host : HostValue) (m : MacroData) (args : List Val) (w : World) →
+    AsksBut i host w (enter_macro levels host m args w)
+macro_asks i levels host m args w =
     let outer = levels + depth w.scopes + macro_depth in
-    check_asks (Asks host w) w (nat_eq m.state w.id) InvalidOperation _ (asks_refused host w InvalidOperation refl)
-    (ask_need host w (bound_to m args) TooManyArguments _ refl (λ given _.
-    ask_need host w (known_stream m w) InvalidOperation _ refl (λ s _.
-    room_asks (Asks host w) w (nat_lt (outer + 1) host.limit) InvalidOperation _ (asks_refused host w InvalidOperation refl) (λ room. (
+    check_asks (AsksBut i host w) w (nat_eq m.state w.id) InvalidOperation _ (asks_refused host w InvalidOperation refl)
+    (ask_need _ host w (bound_to m args) TooManyArguments _ refl (λ given _.
+    ask_need _ host w (known_stream m w) InvalidOperation _ refl (λ s _.
+    room_asks (AsksBut i host w) w (nat_lt (outer + 1) host.limit) InvalidOperation _ (asks_refused host w InvalidOperation refl) (λ room. (
       omega arith,
       omega (arith, ltb-true (outer + 1) host.limit room),
       λ world2 l. macro_undone_kept (macro_scopes m args w.scopes.frames outer) s w world2 l,
     )))))
 
-value_call_asks : (make : MakesFurther) (levels : ℕ) (host : HostValue) → MakesAsks host make → (v : Val) (args : List Val) (w : World) →
-    Asks host w (value_call make levels host v args w)
-value_call_asks make levels host k (macro m) args w = macro_asks levels host m args w
-value_call_asks make levels host k (function n) args w =
-    ask_need host w (slice_get host.functions n) InvalidOperation (λ f world1. function_call make host f args world1) refl
-    (λ f e. function_asks make host k n f args w e)
-value_call_asks make levels host k _ args w = asks_refused host w InvalidOperation refl
+value_call_asks : (i : Differs) (make : MakesFurther) (levels : ℕ) (host : HostValue) → MakesAsks i host make →
+    (v : Val) (args : List Val) (w : World) →
+    AsksBut i host w (value_call make levels host v args w)
+value_call_asks i make levels host k (macro m) args w = macro_asks _ levels host m args w
+value_call_asks i make levels host k (function n) args w =
+    ask_need _ host w (slice_get host.functions n) InvalidOperation (λ f world1. function_call make host f args world1) refl
+    (λ f e. function_asks _ make host k n f args w e)
+value_call_asks i make levels host k _ args w = asks_refused host w InvalidOperation refl
 
-printed_asks : (host : HostValue) (w : World) (q : Asked) → Asks host w q → Asks host w (as_printed q)
-printed_asks host w (has v world1) h =
+printed_asks : (i : Differs) (host : HostValue) (w : World) (q : Asked) → AsksBut i host w q → AsksBut i host w (as_printed q)
+printed_asks i host w (has v world1) h =
     asks_then host w world1 _ h
-    (ask_then host world1 (answered (text_answer (records_of world1) v) world1) (λ t world2. has (text t false) world2)
-    (operation_gives host _ world1 (text_raises (records_of world1) v)) (λ t world2. kept_same world2))
-printed_asks host w (refused chain world1) h = h
-printed_asks host w (runs c world1) h = h
-printed_asks host w (recurs n items world1) h = h
+    (ask_then _ host world1 (answered (text_answer (records_of world1) v) world1) (λ t world2. has (text t false) world2)
+    (operation_gives _ host _ world1 (text_raises (records_of world1) v)) (λ t world2. kept_same world2))
+printed_asks i host w (refused chain world1) h = h
+printed_asks i host w (runs c world1) h = h
+printed_asks i host w (recurs n items world1) h = h
 
 -- a block that is entered deeper
-deeper_block_asks : (n : ℕ) (host : HostValue) (b : List ℕ) (w : World) → Asks host w (from_deeper w (enter_block host b (deeper n w)))
-deeper_block_asks n host b w =
-    block_asks_by (λ q. Asks host w (from_deeper w q)) host b (deeper n w) (λ kind e. asks_refused host w kind e) (λ stream room. (
+deeper_block_asks : (i : Differs) (n : ℕ) (host : HostValue) (b : List ℕ) (w : World) →
+    AsksBut i host w (from_deeper w (enter_block host b (deeper n w)))
+deeper_block_asks i n host b w =
+    block_asks_by (λ q. AsksBut i host w (from_deeper w q)) host b (deeper n w) (λ kind e. asks_refused host w kind e) (λ stream room. (
       omega arith,
       omega (arith, ltb-true (depth (deeper n w).scopes) host.limit room),
       λ world2 l. undone_at (n + w.scopes.outer) (plain_scope (undefined false)) stream (Some b) w world2 l,
     ))
 
-further_call_asks : (make : MakesFurther) (n : ℕ) (host : HostValue) → MakesAsks host make → MakesAsks host (further_call make n host)
-further_call_asks make n host k (further.Filter x args) w =
-    named_object_asks host make k (find x host.filters) UnknownFilter args w refl (λ f e. is_filter x e)
-further_call_asks make n host k (further.Macro x args) w =
-    printed_asks host w _ (ask_then host w (lookup host x w) _ (lookup_gives host x w) (λ found world1.
-    ask_need host world1 found UnknownFunction (λ f world2. value_call make n host f args world2) refl
-    (λ f e. value_call_asks make n host k f args world1)))
-further_call_asks make n host k (further.Block b) w = deeper_block_asks n host b w
+further_call_asks : (i : Differs) (make : MakesFurther) (n : ℕ) (host : HostValue) → MakesAsks i host make →
+    MakesAsks i host (further_call make n host)
+further_call_asks i make n host k (further.Filter x args) w =
+    named_object_asks _ host make k (find x host.filters) UnknownFilter args w refl (λ f e. is_filter x e)
+further_call_asks i make n host k (further.Macro x args) w =
+    printed_asks _ host w _ (ask_then _ host w (lookup host x w) _ (lookup_gives _ host x w) (λ found world1.
+    ask_need _ host world1 found UnknownFunction (λ f world2. value_call make n host f args world2) refl
+    (λ f e. value_call_asks _ make n host k f args world1)))
+further_call_asks i make n host k (further.Block b) w = deeper_block_asks _ n host b w
 
-further_asks : (left n : ℕ) (host : HostValue) → MakesAsks host (further_calls left n host)
-further_asks zero n host c w = asks_refused host w InvalidOperation refl
-further_asks (suc left) n host c w = further_call_asks (further_calls left (suc n) host) (suc n) host (further_asks left (suc n) host) c w
+further_asks : (i : Differs) (left n : ℕ) (host : HostValue) → MakesAsks i host (further_calls left n host)
+further_asks i zero n host c w = asks_refused host w InvalidOperation refl
+further_asks i (suc left) n host c w =
+    further_call_asks _ (further_calls left (suc n) host) (suc n) host (further_asks _ left (suc n) host) c w
 
-depths_ask : (host : HostValue) (w : World) → MakesAsks host (by_depths host w)
-depths_ask host w = further_asks (depths_left host w) 0 host
+depths_ask : (i : Differs) (host : HostValue) (w : World) → MakesAsks i host (by_depths host w)
+depths_ask i host w = further_asks _ (depths_left host w) 0 host
 
-value_asks : (host : HostValue) (v : Val) (args : List Val) (w : World) → Asks host w (call_value host v args w)
-value_asks host v args w = value_call_asks (by_depths host w) 0 host (depths_ask host w) v args w
+value_asks : (i : Differs) (host : HostValue) (v : Val) (args : List Val) (w : World) → AsksBut i host w (call_value host v args w)
+value_asks i host v args w = value_call_asks _ (by_depths host w) 0 host (depths_ask _ host w) v args w
 
-pub callee_asks : (host : HostValue) (vs : List Val) (w : World) → Asks host w (call_callee host vs w)
-callee_asks host [] w = asks_refused host w InvalidOperation refl
-callee_asks host (v ∷ args) w = value_asks host v args w
+pub callee_asks : (i : Differs) (host : HostValue) (vs : List Val) (w : World) → AsksBut i host w (call_callee host vs w)
+callee_asks i host [] w = asks_refused host w InvalidOperation refl
+callee_asks i host (v ∷ args) w = value_asks _ host v args w
 
 -- the value of a name, called as a function
-pub by_name_asks : (host : HostValue) (x : List ℕ) (args : List Val) (w : World) → Asks host w (named_call (by_depths host w) 0 host x args w)
-by_name_asks host x args w =
-    ask_then host w (lookup host x w) _ (lookup_gives host x w) (λ found world1.
-    ask_need host world1 found UnknownFunction (λ f world2. value_call (by_depths host w) 0 host f args world2) refl
-    (λ f e. value_call_asks (by_depths host w) 0 host (depths_ask host w) f args world1))
+pub by_name_asks : (i : Differs) (host : HostValue) (x : List ℕ) (args : List Val) (w : World) →
+    AsksBut i host w (named_call (by_depths host w) 0 host x args w)
+by_name_asks i host x args w =
+    ask_then _ host w (lookup host x w) _ (lookup_gives _ host x w) (λ found world1.
+    ask_need _ host world1 found UnknownFunction (λ f world2. value_call (by_depths host w) 0 host f args world2) refl
+    (λ f e. value_call_asks _ (by_depths host w) 0 host (depths_ask _ host w) f args world1))
 
 -- ---------------------------------------------------------------- methods
-if_asks : (host : HostValue) (w : World) (b : Bool) (p q : Asked) → Asks host w p → Asks host w q → Asks host w (if b then p else q)
-if_asks host w true p q h k = h
-if_asks host w false p q h k = k
+if_asks : (i : Differs) (host : HostValue) (w : World) (b : Bool) (p q : Asked) → AsksBut i host w p → AsksBut i host w q →
+    AsksBut i host w (if b then p else q)
+if_asks i host w true p q h k = h
+if_asks i host w false p q h k = k
 
-of_loop_asks : (host : HostValue) (w : World) (found : Option Loop) (f : Loop → Asked) → ((l : Loop) → Asks host w (f l)) →
-    Asks host w (of_loop found w f)
-of_loop_asks host w None f k = asks_refused host w InvalidOperation refl
-of_loop_asks host w (Some l) f k = k l
+of_loop_asks : (i : Differs) (host : HostValue) (w : World) (found : Option Loop) (f : Loop → Asked) →
+    ((l : Loop) → AsksBut i host w (f l)) → AsksBut i host w (of_loop found w f)
+of_loop_asks i host w None f k = asks_refused host w InvalidOperation refl
+of_loop_asks i host w (Some l) f k = k l
 
-unknown_asks : (host : HostValue) (x : List ℕ) (v : Val) (args : List Val) (w : World) → Asks host w (unknown_method host x v args w)
-unknown_asks host x v args w =
-    named_object_asks host (by_depths host w) (depths_ask host w) (method_object host.unknown_method v x) UnknownMethod args w refl
+unknown_asks : (i : Differs) (host : HostValue) (x : List ℕ) (v : Val) (args : List Val) (w : World) →
+    AsksBut i host w (unknown_method host x v args w)
+unknown_asks i host x v args w =
+    named_object_asks _ host (by_depths host w) (depths_ask _ host w) (method_object host.unknown_method v x) UnknownMethod args w refl
     (λ f e. is_method v x e)
 
-loop_asks : (host : HostValue) (x : List ℕ) (state n : ℕ) (args : List Val) (w : World) → Asks host w (loop_method host x state n args w)
-loop_asks host x state n args w =
-    if_asks host w (same_name x (codes "changed")) _ _ (of_loop_asks host w (record_at w state n) _ (λ l. keeping_kept n args w))
-    (if_asks host w (same_name x (codes "cycle")) _ _ (of_loop_asks host w (record_at w state n) _ (λ l. kept_same w))
-    (unknown_asks host x (loop state n) args w))
+loop_asks : (i : Differs) (host : HostValue) (x : List ℕ) (state n : ℕ) (args : List Val) (w : World) →
+    AsksBut i host w (loop_method host x state n args w)
+loop_asks i host x state n args w =
+    if_asks _ host w (same_name x (codes "changed")) _ _ (of_loop_asks _ host w (record_at w state n) _ (λ l. keeping_kept n args w))
+    (if_asks _ host w (same_name x (codes "cycle")) _ _ (of_loop_asks _ host w (record_at w state n) _ (λ l. kept_same w))
+    (unknown_asks _ host x (loop state n) args w))
 
-in_asks : (host : HostValue) (x : List ℕ) (v : Val) (args : List Val) (found : Option Val) (w : World) →
-    Asks host w (call_in host x v args found w)
-in_asks host x v args None w = unknown_asks host x v args w
-in_asks host x v args (Some f) w = value_asks host f args w
+in_asks : (i : Differs) (host : HostValue) (x : List ℕ) (v : Val) (args : List Val) (found : Option Val) (w : World) →
+    AsksBut i host w (call_in host x v args found w)
+in_asks i host x v args None w = unknown_asks _ host x v args w
+in_asks i host x v args (Some f) w = value_asks _ host f args w
 
-found_asks : (host : HostValue) (x : List ℕ) (v : Val) (args : List Val) (w : World) →
-    Asks host w (ask (answered (method_in (records_of w) x v) w) (λ found world1. call_in host x v args found world1))
-found_asks host x v args w =
-    ask_then host w (answered (method_in (records_of w) x v) w) _ (operation_gives host _ w (method_raises (records_of w) x v))
-    (λ found world1. in_asks host x v args found world1)
+found_asks : (i : Differs) (host : HostValue) (x : List ℕ) (v : Val) (args : List Val) (w : World) →
+    AsksBut i host w (ask (answered (method_in (records_of w) x v) w) (λ found world1. call_in host x v args found world1))
+found_asks i host x v args w =
+    ask_then _ host w (answered (method_in (records_of w) x v) w) _ (operation_gives _ host _ w (method_raises (records_of w) x v))
+    (λ found world1. in_asks _ host x v args found world1)
 
-method_asks : (host : HostValue) (x : List ℕ) (v : Val) (args : List Val) (w : World) → Asks host w (call_method host x v args w)
-method_asks host x (loop state n) args w = loop_asks host x state n args w
-method_asks host x v args w = found_asks host x v args w
+method_asks : (i : Differs) (host : HostValue) (x : List ℕ) (v : Val) (args : List Val) (w : World) →
+    AsksBut i host w (call_method host x v args w)
+method_asks i host x (loop state n) args w = loop_asks _ host x state n args w
+method_asks i host x v args w = found_asks _ host x v args w
 
 -- ---------------------------------------------------------------- filters and tests
-first_asks : (host : HostValue) (x : List ℕ) (vs : List Val) (w : World) → Asks host w (call_first host x vs w)
-first_asks host x [] w = asks_refused host w InvalidOperation refl
-first_asks host x (v ∷ args) w = method_asks host x v args w
+first_asks : (i : Differs) (host : HostValue) (x : List ℕ) (vs : List Val) (w : World) → AsksBut i host w (call_first host x vs w)
+first_asks i host x [] w = asks_refused host w InvalidOperation refl
+first_asks i host x (v ∷ args) w = method_asks _ host x v args w
 
-filter_asks : (host : HostValue) (x : List ℕ) (args : List Val) (w : World) → Asks host w (apply_filter host x args w)
-filter_asks host x args w =
-    named_object_asks host (by_depths host w) (depths_ask host w) (find x host.filters) UnknownFilter args w refl (λ f e. is_filter x e)
+filter_asks : (i : Differs) (host : HostValue) (x : List ℕ) (args : List Val) (w : World) → AsksBut i host w (apply_filter host x args w)
+filter_asks i host x args w =
+    named_object_asks _ host (by_depths host w) (depths_ask _ host w) (find x host.filters) UnknownFilter args w refl (λ f e. is_filter x e)
 
-truth_asks : (host : HostValue) (w : World) (q : Asked) → Asks host w q → Asks host w (as_truth q)
-truth_asks host w (has v world1) h = h
-truth_asks host w (refused chain world1) h = h
-truth_asks host w (runs c world1) h = h
-truth_asks host w (recurs n items world1) h = h
+truth_asks : (i : Differs) (host : HostValue) (w : World) (q : Asked) → AsksBut i host w q → AsksBut i host w (as_truth q)
+truth_asks i host w (has v world1) h = h
+truth_asks i host w (refused chain world1) h = h
+truth_asks i host w (runs c world1) h = h
+truth_asks i host w (recurs n items world1) h = h
 
-test_asks : (host : HostValue) (x : List ℕ) (args : List Val) (w : World) → Asks host w (perform_test host x args w)
-test_asks host x args w =
-    truth_asks host w _ (named_object_asks host (by_depths host w) (depths_ask host w) (find x host.tests) UnknownTest args w refl
+test_asks : (i : Differs) (host : HostValue) (x : List ℕ) (args : List Val) (w : World) → AsksBut i host w (perform_test host x args w)
+test_asks i host x args w =
+    truth_asks _ host w _ (named_object_asks _ host (by_depths host w) (depths_ask _ host w) (find x host.tests) UnknownTest args w refl
     (λ f e. is_test x e))
 
-pub applied_asks : (host : HostValue) (k : Application) (x : List ℕ) (vs : List Val) (w : World) → Asks host w (applied host k x vs w)
-applied_asks host applications.Method x vs w = first_asks host x vs w
-applied_asks host applications.Filter x vs w = filter_asks host x vs w
-applied_asks host applications.Test x vs w = test_asks host x vs w
-applied_asks host applications.NegatedTest x vs w = test_asks host x vs w
+pub applied_asks : (i : Differs) (host : HostValue) (k : Application) (x : List ℕ) (vs : List Val) (w : World) →
+    AsksBut i host w (applied host k x vs w)
+applied_asks i host applications.Method x vs w = first_asks _ host x vs w
+applied_asks i host applications.Filter x vs w = filter_asks _ host x vs w
+applied_asks i host applications.Test x vs w = test_asks _ host x vs w
+applied_asks i host applications.NegatedTest x vs w = test_asks _ host x vs w
 
 -- ---------------------------------------------------------------- operations
-pub items_give : (host : HostValue) (v : Val) (w : World) → Gives host w (items_over host v w)
-items_give host v w = operation_gives host _ w (iterated_raises host.undefined (records_of w) v)
+pub items_give : (i : Differs) (host : HostValue) (v : Val) (w : World) → GivesBut i host w (items_over host v w)
+items_give i host v w = operation_gives _ host _ w (iterated_raises host.undefined (records_of w) v)
 
-pub unpacked_gives : (host : HostValue) (n : ℕ) (v : Val) (w : World) → Gives host w (unpacked_items n v w)
-unpacked_gives host n v w = operation_gives host _ w (unpacked_raises (records_of w) n v)
+pub unpacked_gives : (i : Differs) (host : HostValue) (n : ℕ) (v : Val) (w : World) → GivesBut i host w (unpacked_items n v w)
+unpacked_gives i host n v w = operation_gives _ host _ w (unpacked_raises (records_of w) n v)
 
-pub emitted_gives : (host : HostValue) (v : Val) (w : World) → Gives host w (emitted host v w)
-emitted_gives host v w = answered_gives host _ w (emitted_arises host v (view_of host w))
+pub emitted_gives : (i : Differs) (host : HostValue) (v : Val) (w : World) → GivesBut i host w (emitted host v w)
+emitted_gives i host v w = answered_gives _ host _ w (emitted_arises host v (view_of host w))
 
-pub escape_gives : (host : HostValue) (first : AutoEscape) (v : Val) (w : World) → Gives host w (answered (escape_for first v) w)
-escape_gives host first v w = operation_gives host _ w (escape_raises first v)
+pub escape_gives : (i : Differs) (host : HostValue) (first : AutoEscape) (v : Val) (w : World) →
+    GivesBut i host w (answered (escape_for first v) w)
+escape_gives i host first v w = operation_gives _ host _ w (escape_raises first v)
 
 -- ---------------------------------------------------------------- loops that are called
-wrapped_gives : {A : Type 0} (host : HostValue) (w : World) (m : Res A) → Gives host w m → Gives host w (wrapped_as InvalidOperation m)
-wrapped_gives host w (Good a world1) h = h
-wrapped_gives host w (Bad chain world1) h = (h.0, wraps refl h.1)
+wrapped_gives : (i : Differs) {A : Type 0} (host : HostValue) (w : World) (m : Res A) → GivesBut i host w m →
+    GivesBut i host w (wrapped_as InvalidOperation m)
+wrapped_gives i host w (Good a world1) h = h
+wrapped_gives i host w (Bad chain world1) h = (h.0, wraps refl h.1)
 
-loop_call_asks : (host : HostValue) (l : Loop) (v : Val) (w : World) → Asks host w (call_loop host l v w)
-loop_call_asks host l v w =
-    check_asks (Asks host w) w (l.recursive && same_stream l.stream w.stream) InvalidOperation _ (asks_refused host w InvalidOperation refl)
-    (ask_then host w (wrapped_as InvalidOperation (items_over host v w)) _
-    (wrapped_gives host w (items_over host v w) (items_give host v w))
+loop_call_asks : (i : Differs) (host : HostValue) (l : Loop) (v : Val) (w : World) → AsksBut i host w (call_loop host l v w)
+loop_call_asks i host l v w =
+    check_asks (AsksBut i host w) w (l.recursive && same_stream l.stream w.stream) InvalidOperation _
+    (asks_refused host w InvalidOperation refl)
+    (ask_then _ host w (wrapped_as InvalidOperation (items_over host v w)) _
+    (wrapped_gives _ host w (items_over host v w) (items_give _ host v w))
     (λ items world1. kept_same world1))
 
-pub innermost_asks : (host : HostValue) (v : Val) (w : World) → Asks host w (call_innermost host v w)
-innermost_asks host v w =
-    ask_need host w (innermost w.scopes.frames) UnknownFunction _ refl (λ n _.
-    of_loop_asks host w (slice_get w.loops n) _ (λ l. loop_call_asks host l v w))
+pub innermost_asks : (i : Differs) (host : HostValue) (v : Val) (w : World) → AsksBut i host w (call_innermost host v w)
+innermost_asks i host v w =
+    ask_need _ host w (innermost w.scopes.frames) UnknownFunction _ refl (λ n _.
+    of_loop_asks _ host w (slice_get w.loops n) _ (λ l. loop_call_asks _ host l v w))
 
-one_argument_gives : (host : HostValue) (args : List Val) (w : World) → Gives host w (one_argument args w)
-one_argument_gives host [] w = refused_arises host w InvalidOperation refl
-one_argument_gives host (v ∷ []) w = kept_same w
-one_argument_gives host (v ∷ u ∷ vs) w = refused_arises host w InvalidOperation refl
+one_argument_gives : (i : Differs) (host : HostValue) (args : List Val) (w : World) → GivesBut i host w (one_argument args w)
+one_argument_gives i host [] w = refused_arises host w InvalidOperation refl
+one_argument_gives i host (v ∷ []) w = kept_same w
+one_argument_gives i host (v ∷ u ∷ vs) w = refused_arises host w InvalidOperation refl
 
-found_call_asks : (host : HostValue) (v : Val) (args : List Val) (w : World) → Asks host w (call_found host v args w)
-found_call_asks host (loop state n) args w =
-    of_loop_asks host w (record_at w state n) _ (λ l.
-    ask_then host w (one_argument args w) _ (one_argument_gives host args w) (λ v world1. loop_call_asks host l v world1))
-found_call_asks host v args w = value_asks host v args w
+found_call_asks : (i : Differs) (host : HostValue) (v : Val) (args : List Val) (w : World) → AsksBut i host w (call_found host v args w)
+found_call_asks i host (loop state n) args w =
+    of_loop_asks _ host w (record_at w state n) _ (λ l.
+    ask_then _ host w (one_argument args w) _ (one_argument_gives _ host args w) (λ v world1. loop_call_asks _ host l v world1))
+found_call_asks i host v args w = value_asks _ host v args w
 
-looked_up_asks : (host : HostValue) (x : List ℕ) (args : List Val) (w : World) → Asks host w (call_looked_up host x args w)
-looked_up_asks host x args w =
-    ask_then host w (lookup host x w) _ (lookup_gives host x w) (λ found world1.
-    ask_need host world1 found UnknownFunction (λ f world2. call_found host f args world2) refl (λ f e. found_call_asks host f args world1))
+looked_up_asks : (i : Differs) (host : HostValue) (x : List ℕ) (args : List Val) (w : World) →
+    AsksBut i host w (call_looked_up host x args w)
+looked_up_asks i host x args w =
+    ask_then _ host w (lookup host x w) _ (lookup_gives _ host x w) (λ found world1.
+    ask_need _ host world1 found UnknownFunction (λ f world2. call_found host f args world2) refl
+    (λ f e. found_call_asks _ host f args world1))
 
-super_call_asks : (host : HostValue) (args : List Val) (w : World) → Asks host w (call_super host args w)
-super_call_asks host args w =
-    check_asks (Asks host w) w (no_values args) InvalidOperation _ (asks_refused host w InvalidOperation refl) (super_asks host w)
+super_call_asks : (i : Differs) (host : HostValue) (args : List Val) (w : World) → AsksBut i host w (call_super host args w)
+super_call_asks i host args w =
+    check_asks (AsksBut i host w) w (no_values args) InvalidOperation _ (asks_refused host w InvalidOperation refl) (super_asks _ host w)
 
-choose_asks : (host : HostValue) (w : World) (b : Bool) (p q : Asked) → Asks host w p → Asks host w q →
-    Asks host w (choose b (λ _. p) (λ _. q))
-choose_asks host w true p q h k = h
-choose_asks host w false p q h k = k
+choose_asks : (i : Differs) (host : HostValue) (w : World) (b : Bool) (p q : Asked) → AsksBut i host w p → AsksBut i host w q →
+    AsksBut i host w (choose b (λ _. p) (λ _. q))
+choose_asks i host w true p q h k = h
+choose_asks i host w false p q h k = k
 
-pub named_asks : (host : HostValue) (x : List ℕ) (args : List Val) (w : World) → Asks host w (call_named host x args w)
-named_asks host x args w =
-    choose_asks host w (same_name x (codes "super")) (call_super host args w) (call_looked_up host x args w)
-    (super_call_asks host args w) (looked_up_asks host x args w)
+pub named_asks : (i : Differs) (host : HostValue) (x : List ℕ) (args : List Val) (w : World) → AsksBut i host w (call_named host x args w)
+named_asks i host x args w =
+    choose_asks _ host w (same_name x (codes "super")) (call_super host args w) (call_looked_up host x args w)
+    (super_call_asks _ host args w) (looked_up_asks _ host x args w)

@@ -81,7 +81,7 @@ module _ (setting : Setting) where
       → Go context s pc stack w
   tag_then run s pc b stack w D L N fits d e h g =
       at context (i.CallBlock b) s pc stack w e (after_then context (told s) (tick w) _
-      (use_then context s.bed w (tick w) (as_at run s) s.out _ D L N _ (tick_gives _ w) h (λ _ world1 k h1.
+      (use_then context s.bed w (tick w) (as_at run s) s.out _ D L N _ (tick_gives _ _ w) h (λ _ world1 k h1.
       subst (λ x. LeadsToEnd context (told s) (choose (none_waits s.parent && x)
       (λ _. asked_in_place context.program context.base (cfg s pc stack world1) stack (enter_block context.program.host b world1))
       (λ _. goes stack world1 (cfg s pc stack world1))))
@@ -90,7 +90,7 @@ module _ (setting : Setting) where
       (in_place_of u (as_at run s) s.out (enter_block context.program.host b world1)) (so_far (as_at run s) s.out world1) _ _ (told s)
       s.bed D L N h1
       (λ h2. placed_then setting run s pc stack stack world1 world1 (enter_block context.program.host b world1) D L N fits.2
-      (block_asks context.program.host b world1) (deep_kept setting run s k d) h2 g)
+      (block_asks _ context.program.host b world1) (deep_kept setting run s k d) h2 g)
       (λ h2. silent context (told s) _ (g s.parent s.out world1 (so_far_then context s.bed (as_at run s) s.out world1 D L N h2)))))))
 
   -- ---------------------------------------------------------------- what is heard in a capture
@@ -153,7 +153,7 @@ module _ (setting : Setting) where
       (charged_text s run1 (tick w) (tag s.parent) g K (λ world1. tag_parent u run1 b [] world1) placed)
       (λ q out world1 there.
       at context i.EndCapture (later inner q out) (pc + 1 + 1) stack world1 is.1.1.0 (after_then context (told s) (tick world1) _
-      (bind_then context (told s) world1 (tick world1) _ _ _ (tick_gives _ world1) there.1 (λ _ world2 k g1.
+      (bind_then context (told s) world1 (tick world1) _ _ _ (tick_gives _ _ world1) there.1 (λ _ world2 k g1.
       ended_then s q out (pc + 1 + 1) stack world2 (omega (arith, d.1.1))
       (subst (λ p. Go context (later s p s.out) (pc + 1 + 1 + 1) (captured_text out world2 ∷ stack) world2) (sym there.0)
       (subst (λ v. Go context s (pc + 1 + 1 + 1) (v ∷ stack) world2) (same_text out k) g1))))))))

@@ -5,7 +5,7 @@ use Rattle.std.proofs.lemmas.Bool.Decides.{nat_tests}
 use Rattle.std.proofs.lemmas.Slice.Eq.{bytes_eq-Decides}
 use Rattle.std.specs.Prelude.{slice_get, nat_lt, nat_eq, ltb, option_and_then, ◌&&◌}
 use Rattle.std.specs.List.{prefix_len}
-use Rattle.tm_values.specs.Val.{Val, undefined, text_in}
+use Rattle.tm_values.specs.Val.{Val, undefined}
 use Rattle.tm_values.specs.declared.escape.AutoEscape.{AutoEscape}
 use Rattle.tm_syntax.specs.CacheNumbers.{no_cache}
 use Rattle.tm_syntax.specs.Loops.{loop_places, loops_before}
@@ -18,14 +18,14 @@ use Rattle.tm_syntax.specs.declared.tree.Application.TheVariants as applications
 use Rattle.tm_syntax.specs.declared.tree.BinaryOperator.TheVariants as binaries
 use Rattle.tm_syntax.specs.declared.tree.UnaryOperator.TheVariants as unaries
 use Rattle.tm_meaning.specs.World.{choose, World, Loop, HostValue, Res, Good, Bad, answered, emitted, looked_up, escape_for}
-use Rattle.tm_meaning.specs.World.{enclose, make_macro, items_over, unpacked_items, set_member, open_loop, top_mark, top_loop, push, plain_scope}
+use Rattle.tm_meaning.specs.World.{enclose, make_macro, module_with, items_over, unpacked_items, set_member, open_loop, top_mark}
+use Rattle.tm_meaning.specs.World.{top_loop, push, plain_scope}
 use Rattle.tm_meaning.specs.declared.run_text.RunText.{RunText}
 use Rattle.tm_meaning.specs.Calls.{Callee, whole, macro_of, Asked, has, refused, runs, recurs, call_named, call_callee, applied}
 use Rattle.tm_meaning.specs.Calls.{call_innermost, enter_block, enter_super, enter_include, undone}
 use Rattle.tm_meaning.specs.Meaning.{none_waits}
 use Rattle.tm_meaning.specs.Operators.{truth, applied_unary, operated, attribute, item_at, slice_of, merged_values, items_of_lists}
 use Rattle.tm_meaning.specs.Instructions.{apply_of, replaces_one, replaces_two, take_counted, on_count, count_in, on_truth, iterate_with}
-use Rattle.tm_meaning.specs.Instructions.{on_text}
 use Rattle.tm_meaning.specs.Instructions.{end_capture_with, pop_auto_escape_with, is_no_loop, on_loop, pop_loop_with, returned, returns}
 use Rattle.tm_meaning.specs.Instructions.{with_text, may_hold, holding, used, on_used, looping, on_parts, closure_in, names_in}
 use Rattle.tm_meaning.specs.Machine.{Activation, Caches, Capture, Return, Config, Program, End, Finished, Failed, Stuck, Next, More, Over, Restart}
@@ -104,11 +104,6 @@ module _ (s : StreamId) (fs ts : Caches) where
   on_count_same : (n : Option ℕ) (w : World) (f g : ℕ → Next) → ((n : ℕ) → Same (f n) (g n)) → Same (on_count n w f) (on_count n w g)
   on_count_same None w f g h = refl
   on_count_same (Some n) w f g h = h n
-
-  on_text_same : (t : Option (List ℕ)) (w : World) (f g : List ℕ → Next) → ((t : List ℕ) → Same (f t) (g t)) →
-      Same (on_text t w f) (on_text t w g)
-  on_text_same None w f g h = refl
-  on_text_same (Some t) w f g h = h t
 
   counted_same : (n : Option ℕ) (us : List Val) (w : World) (f g : List Val → List Val → Next) →
       ((vs rest : List Val) → Same (f vs rest) (g vs rest)) → Same (take_counted n us w f) (take_counted n us w g)
@@ -326,7 +321,7 @@ module _ (s : StreamId) (fs ts : Caches) where
       effect_same f i.IncludeModule none = on_top_same c.run.operands c.world _ _
           (λ v vs. placed_same f vs (enter_include host false v false c.world))
       effect_same f i.ExportLocals none = on_top_same c.run.operands c.world _ _
-          (λ v vs. on_text_same (text_in v) c.world _ _ (λ t. (here, refl)))
+          (λ v vs. after_same (module_with v c.world) _ _ (λ m w. (here, refl)))
       effect_same f i.LoadBlocks none = on_top_same c.run.operands c.world _ _ (λ v vs.
           after_same (load host v c.run.parent (nat_lt f.captures (length c.captures)) c.world) _ _ (λ t w. (here, refl)))
       effect_same f (i.StoreLocal x) none = on_top_same c.run.operands c.world _ _ (λ v vs. (here, refl))

@@ -62,7 +62,7 @@ module _ (setting : Setting) where
         let entry : entry_number (pc + 1 + 1) (context.program.code s.run.stream) ≡ nth =
         ap (λ q. entry_number (pc + 1 + 1) (context.program.code q)) d.2 ∙ eqb-true _ nth is.1.0.3 in
         at context (i.LoadConst name) s pc (onto (flat row) stack) w is.0.0 (after_then context (told s) (tick w) _
-        (bind_then context (told s) w (tick w) _ _ _ (tick_gives _ w) h (λ _ world1 k1 h1.
+        (bind_then context (told s) w (tick w) _ _ _ (tick_gives _ _ w) h (λ _ world1 k1 h1.
         silent context (told s) _
         (declared_then setting m c nth s l (pc + 1) (name ∷ onto (flat row) stack) world1 (is.1.0.0, is.1.0.1, is.1.0.2, refl) entry
         (bind_then context (told s) world1 (declared context.program.host nth m world1) _ _ _
@@ -89,7 +89,7 @@ module _ (setting : Setting) where
         let maps_long : Long setting (count_maps end 0 named) maps =
         λ world1. keywords_long u run end last.values last.long [] named world1 in
         let names : World → Res (List Val) = named_by context.program.host named maps in
-        let names_give : Given context.program.host names = named_by_gives context.program.host named maps maps_give in
+        let names_give : Given context.program.host names = named_by_gives _ context.program.host named maps maps_give in
         let names_long : Long setting (together end named) names = named_long context.program.host end named maps maps_long in
         let names_push : Pushes setting marks run (merging end named (keywords_code end 0 named)) names =
         named_runs setting marks end named run (keywords_code end 0 named) maps maps_give maps_long
@@ -117,7 +117,7 @@ module _ (setting : Setting) where
         last.runs 0 [] s l pc (v ∷ stack) w refl d is.0
         (bind_long context (told s) w many (last.values [] w) _ _ _ (last.gives [] w) (last.long [] w) h (λ ks world1 k m h1.
         calls setting (i.CallObject (Some (many + 1))) false (many + 1) (λ vs world2. call_callee context.program.host vs world2) (λ c. refl)
-        (λ vs world2. callee_asks context.program.host vs world2) run s (beyond pc (last.end.code 0)) (v ∷ ks) stack world1
+        (λ vs world2. callee_asks _ context.program.host vs world2) run s (beyond pc (last.end.code 0)) (v ∷ ks) stack world1
         (omega (arith, m)) (here_kept setting run s k d) is.1.0 h1))
 
     step_call_then : (x : Step) (s : Spot) (l : Labels) (pc : ℕ) (v : Val) (stack : List Val) (w : World) → Here setting run s w →
@@ -132,7 +132,7 @@ module _ (setting : Setting) where
         passed_so_then (v ∷ []) given named s l pc stack w _ _ d is.0 h (λ vs world1 k1 long h1.
         calls setting (i.CallObject (passed_count last.end 1 given named)) (has_spread given) (count given + together last.end named + 1)
         (λ vs1 world2. call_callee context.program.host vs1 world2) (λ c. refl)
-        (λ vs1 world2. callee_asks context.program.host vs1 world2) run s _ vs stack world1 long (here_kept setting run s k1 d) is.1.0 h1)
+        (λ vs1 world2. callee_asks _ context.program.host vs1 world2) run s _ vs stack world1 long (here_kept setting run s k1 d) is.1.0 h1)
     step_call_then x s l pc v stack w d is h =
         step_runs setting x run s l pc v stack w d (unmarked marks _ l pc (step_code x) (step_loopless x) is.0)
         (bind_then context (told s) w (eval_step u run x v w) _ _ _ (step_gives u (nest_ends setting) again_kept run x v w) h
@@ -158,7 +158,8 @@ module _ (setting : Setting) where
         passed_so_then [] given named s l pc stack w _ _ d is.0 h (λ vs world1 k1 long h1.
         calls setting (i.CallFunction f (passed_count last.end 0 given named)) (has_spread given)
         (count given + together last.end named + 0) (λ vs1 world2. call_named context.program.host f vs1 world2) (λ c. refl)
-        (λ vs1 world2. named_asks context.program.host f vs1 world2) run s _ vs stack world1 long (here_kept setting run s k1 d) is.1.0 h1)
+        (λ vs1 world2. named_asks _ context.program.host f vs1 world2) run s _ vs stack world1 long
+        (here_kept setting run s k1 d) is.1.0 h1)
     call_then (chained a _ ss) s l pc stack w d is h =
         expr_runs setting a run s l pc stack w d (unmarked marks _ l pc (expr_code a) (expr_loopless a) is.0)
         (bind_then context (told s) w (eval u run a w) _ _ _ (eval_gives u (nest_ends setting) again_kept run a w) h

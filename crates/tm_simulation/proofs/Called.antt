@@ -1,24 +1,22 @@
 -- Of which kinds the faults are of calls that a state is asked for where no template runs.
-use Rattle.std.proofs.Common.{ℕ, zero, suc, ◌+◌, List, [], ◌∷◌, Bool, true, false, Ok, Err, Option, Some, None, length, refl}
-use Rattle.std.specs.Prelude.{◌&&◌}
+use Rattle.std.proofs.Common.{ℕ, zero, suc, ◌+◌, List, [], ◌∷◌, true, Ok, Err, Option, Some, None, length, refl}
 use Rattle.tm_values.specs.Answer.{Answer}
 use Rattle.tm_values.specs.Records.{RecordData, namespace_at}
 use Rattle.tm_values.specs.Val.{Val, undefined, none, boolean, number, text, list, map, keywords, exports, function, macro, loop, namespace}
 use Rattle.tm_values.specs.Val.{Vals, no_vals, val, Pairs, no_pairs, pair}
-use Rattle.tm_values.specs.declared.error.ErrorKind.{ErrorKind}
-use Rattle.tm_values.specs.declared.error.ErrorKind.TheVariants.{InvalidOperation}
 use Rattle.tm_syntax.specs.declared.tree.Application.TheVariants as applications
-use Rattle.tm_definitions.specs.Emitted.{map_ok, text_answer}
+use Rattle.tm_definitions.specs.Emitted.{map_ok}
 use Rattle.tm_definitions.specs.Mapped.{NamespaceValues, with_ok, mapped, mapped_items, mapped_pairs, namespace_mapped, with_maps}
 use Rattle.tm_definitions.specs.Printed.{entered}
-use Rattle.tm_meaning.specs.World.{World, HostValue, Res, Good, Bad, answered, records_of, emitted}
+use Rattle.tm_meaning.specs.World.{World, HostValue, Res, Good, Bad, records_of, emitted}
 use Rattle.tm_meaning.specs.Calls.{Asked, has, refused, runs, recurs, apply_filter, perform_test, whole}
 use Rattle.tm_meaning.specs.Tree.{Trees, statements, empty}
-use Rattle.tm_meaning.specs.Meaning.{Ending, Outcome, Under, done, leave, next, fault}
+use Rattle.tm_meaning.specs.Meaning.{Ending, Under, done, leave, next, fault}
 use Rattle.tm_meaning.specs.Runs.{chain_of, evaluated, nests_of, new_run, rendered, rendered_block, under, value_left}
 use Rattle.tm_simulation.specs.Called.{called, call_by_name, as_text, maps_in, fault_of}
+use Rattle.tm_simulation.specs.Kept.{in_closure_too}
 use Rattle.tm_simulation.specs.Chains.{Arises, IfAny, raised}
-use Rattle.tm_simulation.proofs.Advances.{kept_same}
+use Rattle.tm_simulation.proofs.Advances.{kept_advances, kept_same}
 use Rattle.tm_simulation.proofs.RunAdvances.{in_stream}
 use Rattle.tm_simulation.proofs.Raised.{Raises, text_raises}
 use Rattle.tm_simulation.proofs.Gives.{Gives, EndingKeeps, ends_as, gives_bind, operation_gives, run_ends_as}
@@ -82,45 +80,45 @@ arises_in host w (Good a world1) h = tt
 arises_in host w (Bad chain world1) h = if_any (Arises host) chain h.1
 
 pub format_arises : (host : HostValue) (v : Val) (w : World) → IfAny (Arises host) (fault_of (emitted host v w))
-format_arises host v w = arises_in host w _ (emitted_gives host v w)
+format_arises host v w = arises_in host w _ (emitted_gives _ host v w)
 
-abbrev nests_here : HostValue → Trees → Under
+abbrev pub nests_here : HostValue → Trees → Under
 nests_here host trees = under host (nests_of host trees (host.limit + 1)) (statements empty)
 
-called_gives : (host : HostValue) (trees : Trees) (w : World) (q : Asked) → Asks host w q → Gives host w (called host trees q)
+pub called_gives : (host : HostValue) (trees : Trees) (w : World) (q : Asked) → Asks host w q → Gives host w (called host trees q)
 called_gives host trees w (has v world1) h = h
 called_gives host trees w (refused chain world1) h = h
-called_gives host trees w (recurs n items world1) h = (h.advances, raised refl)
+called_gives host trees w (recurs n items world1) h = (kept_advances h, raised refl)
 called_gives host trees w (runs c world1) h =
     let ends = nests_end host trees (host.limit + 1) in
-    let again = again_end host (nests_of host trees (host.limit + 1)) ends (statements empty) (host.limit + 1) in
+    let again = again_end {i = in_closure_too} host (nests_of host trees (host.limit + 1)) ends (statements empty) (host.limit + 1) in
     value_gives (nests_here host trees) ends again w (new_run true w) (runs c world1) h
 
-text_gives : (host : HostValue) (w : World) (m : Res Val) → Gives host w m → Gives host w (as_text m)
-text_gives host w m h = gives_bind host w m _ h (λ v world1. operation_gives host _ world1 (text_raises (records_of world1) v))
+pub text_gives : (host : HostValue) (w : World) (m : Res Val) → Gives host w m → Gives host w (as_text m)
+text_gives host w m h = gives_bind _ host w m _ h (λ v world1. operation_gives _ host _ world1 (text_raises (records_of world1) v))
 
 maps_give : (host : HostValue) (w : World) (m : Res Val) → Gives host w m → Gives host w (maps_in m)
-maps_give host w m h = gives_bind host w m _ h (λ v world1. operation_gives host _ world1 (maps_raise (records_of world1) v))
+maps_give host w m h = gives_bind _ host w m _ h (λ v world1. operation_gives _ host _ world1 (maps_raise (records_of world1) v))
 
 -- ---------------------------------------------------------------- of which kinds a fault is
 pub named_arises : (host : HostValue) (trees : Trees) (x : List ℕ) (args : List Val) (w : World) →
     IfAny (Arises host) (fault_of (as_text (called host trees (call_by_name host x args w))))
-named_arises host trees x args w = arises_in host w _ (text_gives host w _ (called_gives host trees w _ (by_name_asks host x args w)))
+named_arises host trees x args w = arises_in host w _ (text_gives host w _ (called_gives host trees w _ (by_name_asks _ host x args w)))
 
 pub filter_arises : (host : HostValue) (trees : Trees) (x : List ℕ) (args : List Val) (w : World) →
     IfAny (Arises host) (fault_of (called host trees (apply_filter host x args w)))
 filter_arises host trees x args w =
-    arises_in host w _ (called_gives host trees w _ (applied_asks host applications.Filter x args w))
+    arises_in host w _ (called_gives host trees w _ (applied_asks _ host applications.Filter x args w))
 
 pub test_arises : (host : HostValue) (trees : Trees) (x : List ℕ) (args : List Val) (w : World) →
     IfAny (Arises host) (fault_of (called host trees (perform_test host x args w)))
-test_arises host trees x args w = arises_in host w _ (called_gives host trees w _ (applied_asks host applications.Test x args w))
+test_arises host trees x args w = arises_in host w _ (called_gives host trees w _ (applied_asks _ host applications.Test x args w))
 
 pub block_arises : (host : HostValue) (trees : Trees) (b : List ℕ) (w : World) →
     IfAny (Arises host) (chain_of (rendered_block host trees b w))
 block_arises host trees b w =
     let ends = nests_end host trees (host.limit + 1) in
-    let again = again_end host (nests_of host trees (host.limit + 1)) ends (statements empty) (host.limit + 1) in
+    let again = again_end {i = in_closure_too} host (nests_of host trees (host.limit + 1)) ends (statements empty) (host.limit + 1) in
     let o = rendered_block host trees b w in
     ending_arises host o.ending w o.world (ends_as host w o (tag_ends (nests_here host trees) ends again (new_run true w) b [] w))
 

@@ -45,36 +45,42 @@ use Rattle.tm_meaning.specs.declared.wrapping.Wrapping.{Wrapping}
 use Rattle.tm_simulation.specs.Chains.{Arises, wrapped as wraps}
 use Rattle.tm_simulation.proofs.Raised.{truth_raises, unary_raises, binary_raises, attribute_raises, item_raises, settable_raises}
 use Rattle.tm_simulation.proofs.Raised.{Raises, sliced_raises, merged_raises, spread_items_raises}
-use Rattle.tm_simulation.proofs.Advances.{Advances, Kept, advances_then, lasts_by_namespaces, kept_same, kept_then, kept_lasting}
+use Rattle.tm_simulation.specs.Kept.{Differs, in_closure_too}
+use Rattle.tm_simulation.proofs.Advances.{AdvancesBut, Advances, KeptBut, advances_then, lasts_by_namespaces, kept_same, kept_then}
+use Rattle.tm_simulation.proofs.Advances.{kept_lasting, kept_advances}
 use Rattle.tm_simulation.proofs.RunAdvances.{in_stream}
 use Rattle.tm_simulation.proofs.Advances.{store_kept, kept_popped, kept_cleared}
 use Rattle.tm_simulation.proofs.RunAdvances.{mark_after, in_loop_of, kept_turned, advances_around}
 use Rattle.tm_simulation.proofs.RunAdvances.{opened, opened_kept}
-use Rattle.tm_simulation.proofs.Gives.{Gives, RunEnds, run_ends_as, EndingKeeps, OutcomeKeeps, ends_as, gives_bind, gives_kept}
+use Rattle.tm_simulation.proofs.Gives.{GivesBut, RunEnds, run_ends_as, EndingKeepsBut, EndingKeeps, OutcomeKeepsBut, ends_as, gives_bind}
+use Rattle.tm_simulation.proofs.Gives.{gives_kept}
 use Rattle.tm_simulation.proofs.Gives.{choose_gives, tick_gives}
 use Rattle.tm_simulation.proofs.Gives.{ticked_gives}
 use Rattle.tm_simulation.proofs.Gives.{operation_gives, ends_here, ends_fault, ends_then, choose_ends, opened_gives}
-use Rattle.tm_simulation.proofs.Asks.{unpacked_gives, applied_asks, Asks, lookup_gives, items_give, named_asks, callee_asks, block_asks}
+use Rattle.tm_simulation.proofs.Asks.{unpacked_gives, applied_asks, AsksBut, lookup_gives, items_give, named_asks, callee_asks, block_asks}
 use Rattle.tm_meaning.specs.declared.wrapping.Wrapping.TheVariants as wrapping
 
 -- ---------------------------------------------------------------- operators
-pub truth_gives : (host : HostValue) (v : Val) (w : World) → Gives host w (truth host v w)
-truth_gives host v w = operation_gives host _ w (truth_raises host.undefined v)
+pub truth_gives : (i : Differs) (host : HostValue) (v : Val) (w : World) → GivesBut i host w (truth host v w)
+truth_gives i host v w = operation_gives _ host _ w (truth_raises host.undefined v)
 
-pub unary_gives : (host : HostValue) (op : UnaryOperator) (v : Val) (w : World) → Gives host w (applied_unary host op v w)
-unary_gives host op v w = operation_gives host _ w (unary_raises op host.undefined v)
+pub unary_gives : (i : Differs) (host : HostValue) (op : UnaryOperator) (v : Val) (w : World) →
+    GivesBut i host w (applied_unary host op v w)
+unary_gives i host op v w = operation_gives _ host _ w (unary_raises op host.undefined v)
 
-pub operated_gives : (host : HostValue) (op : BinaryOperator) (x y : Val) (w : World) → Gives host w (operated host op x y w)
-operated_gives host op x y w = operation_gives host _ w (binary_raises op host.undefined (records_of w) x y)
+pub operated_gives : (i : Differs) (host : HostValue) (op : BinaryOperator) (x y : Val) (w : World) →
+    GivesBut i host w (operated host op x y w)
+operated_gives i host op x y w = operation_gives _ host _ w (binary_raises op host.undefined (records_of w) x y)
 
-pub binary_gives : (host : HostValue) (op : BinaryOperator) (x y : Val) (w : World) → Gives host w (applied_binary host op x y w)
-binary_gives host binaries.NotIn x y w =
-    gives_bind host w (operated host binaries.In x y w) _ (operated_gives host binaries.In x y w) (λ v world1.
-    ticked_gives host world1 _ (λ world2. unary_gives host unaries.Not v world2))
-binary_gives host op x y w = operated_gives host op x y w
+pub binary_gives : (i : Differs) (host : HostValue) (op : BinaryOperator) (x y : Val) (w : World) →
+    GivesBut i host w (applied_binary host op x y w)
+binary_gives i host binaries.NotIn x y w =
+    gives_bind _ host w (operated host binaries.In x y w) _ (operated_gives _ host binaries.In x y w) (λ v world1.
+    ticked_gives _ host world1 _ (λ world2. unary_gives _ host unaries.Not v world2))
+binary_gives i host op x y w = operated_gives _ host op x y w
 
-pub looked_up_gives : (host : HostValue) (x : List ℕ) (w : World) → Gives host w (looked_up host x w)
-looked_up_gives host x w = gives_bind host w (lookup host x w) _ (lookup_gives host x w) (λ found world1. kept_same world1)
+pub looked_up_gives : (i : Differs) (host : HostValue) (x : List ℕ) (w : World) → GivesBut i host w (looked_up host x w)
+looked_up_gives i host x w = gives_bind _ host w (lookup host x w) _ (lookup_gives _ host x w) (λ found world1. kept_same world1)
 
 -- ---------------------------------------------------------------- members of namespaces
 member_long : (n : ℕ) (x : List ℕ) (v : Val) (ns : List (List (Val × Val))) → length (with_member n x v ns) ≡ length ns
@@ -82,48 +88,49 @@ member_long n x v [] = refl
 member_long zero x v (ps ∷ more) = refl
 member_long (suc n) x v (ps ∷ more) = ap suc (member_long n x v more)
 
-pub member_gives : (host : HostValue) (x : List ℕ) (v o : Val) (w : World) → Gives host w (set_member x v o w)
-member_gives host x v o w =
-    gives_bind host w (answered (settable (records_of w) o) w) _ (operation_gives host _ w (settable_raises (records_of w) o)) (λ n world1.
+pub member_gives : (i : Differs) (host : HostValue) (x : List ℕ) (v o : Val) (w : World) → GivesBut i host w (set_member x v o w)
+member_gives i host x v o w =
+    gives_bind _ host w (answered (settable (records_of w) o) w) _ (operation_gives _ host _ w (settable_raises (records_of w) o))
+    (λ n world1.
     kept_lasting (lasts_by_namespaces world1 (with_member n x v world1.namespaces) (omega (arith, member_long n x v world1.namespaces)))
     refl refl refl refl)
 
--- ---------------------------------------------------------------- items under a condition
 -- ---------------------------------------------------------------- items under a condition
 one_more_raises : (fits : Bool) (v : Val) → Raises (if fits then Ok v else invalid)
 one_more_raises true v = tt
 one_more_raises false v = refl
 
-pub one_counted_gives : (host : HostValue) (n : ℕ) (w : World) → Gives host w (one_counted n w)
-one_counted_gives host n w =
-    ticked_gives host w _ (λ world1. ticked_gives host world1 _
-    (λ world2. ticked_gives host world2 _ (λ world3. operation_gives host _ world3 (one_more_raises _ _))))
+pub one_counted_gives : (i : Differs) (host : HostValue) (n : ℕ) (w : World) → GivesBut i host w (one_counted n w)
+one_counted_gives i host n w =
+    ticked_gives _ host w _ (λ world1. ticked_gives _ host world1 _
+    (λ world2. ticked_gives _ host world2 _ (λ world3. operation_gives _ host _ world3 (one_more_raises _ _))))
 
--- The pass over items leaves what lies around its loop.
-pub selected_gives : (host : HostValue) (w : World) (condition : Val → World → Res Val) →
-    ((v : Val) (x : World) → Gives host x (condition v x)) →
-    (n : ℕ) (vs : List Val) (x : World) → Kept (in_loop_of pass_flags w) x →
-    Gives host w (selected host condition n vs x)
-selected_gives host w condition given n [] x i =
-    gives_kept host w x (tick x) _ (advances_around pass_flags w x i) (tick_gives host x) (λ _ world1 h.
-    kept_popped (loop_scope (mark_after pass_flags w)) w (next_turn world1) (kept_turned pass_flags w world1 (kept_then i h)))
-selected_gives host w condition given n (v ∷ vs) x i =
-    gives_kept host w x (tick x) _ (advances_around pass_flags w x i) (tick_gives host x) (λ _ world1 h1.
+-- The pass over items leaves what lies around its loop, for whose scope there was room.
+pub selected_gives : {i : Differs} (host : HostValue) (w : World) → nat_lt (depth w.scopes) host.limit ≡ true →
+    (condition : Val → World → Res Val) → ((v : Val) (x : World) → GivesBut i host x (condition v x)) →
+    (n : ℕ) (vs : List Val) (x : World) → KeptBut i (in_loop_of pass_flags w) x →
+    GivesBut i host w (selected host condition n vs x)
+selected_gives host w room condition given n [] x j =
+    gives_kept host w x (tick x) _ (advances_around pass_flags w x room j) (tick_gives _ host x) (λ _ world1 h.
+    kept_popped (loop_scope (mark_after pass_flags w)) w (next_turn world1) (kept_turned pass_flags w world1 (kept_then j h)))
+selected_gives {i = i} host w room condition given n (v ∷ vs) x j =
+    gives_kept host w x (tick x) _ (advances_around pass_flags w x room j) (tick_gives _ host x) (λ _ world1 h1.
     let y = cleared (next_turn world1) in
-    let kept_y : Kept (in_loop_of pass_flags w) y = kept_cleared (kept_turned pass_flags w world1 (kept_then i h1)) in
-    let around : (z : World) → Kept y z → Advances w z = λ z kz. advances_around pass_flags w z (kept_then kept_y kz) in
+    let kept_y : KeptBut i (in_loop_of pass_flags w) y = kept_cleared (kept_turned pass_flags w world1 (kept_then j h1)) in
+    let around : (z : World) → KeptBut i y z → AdvancesBut i host w z =
+    λ z kz. advances_around pass_flags w z room (kept_then kept_y kz) in
     gives_kept host w y (condition v y) _ (around y (kept_same y)) (given v y) (λ c world2 h2.
-    gives_kept host w world2 (tick world2) _ (around world2 h2) (tick_gives host world2) (λ _ world3 h3.
-    gives_kept host w world3 (truth host c world3) _ (around world3 (kept_then h2 h3)) (truth_gives host c world3) (λ b world4 h4.
+    gives_kept host w world2 (tick world2) _ (around world2 h2) (tick_gives _ host world2) (λ _ world3 h3.
+    gives_kept host w world3 (truth host c world3) _ (around world3 (kept_then h2 h3)) (truth_gives _ host c world3) (λ b world4 h4.
     let kept4 = kept_then kept_y (kept_then h2 (kept_then h3 h4)) in
-    let around4 = advances_around pass_flags w world4 kept4 in
-    choose_gives host w b _ _
-    (gives_kept host w world4 (one_counted n world4) _ around4 (one_counted_gives host n world4) (λ _ world5 h5.
-    gives_kept host w world5 (tick world5) _ (advances_then around4 h5.advances) (tick_gives host world5) (λ _ world6 h6.
-    gives_bind host w (selected host condition (n + 1) vs world6) _
-    (selected_gives host w condition given (n + 1) vs world6 (kept_then kept4 (kept_then h5 h6))) (λ us world7. kept_same world7))))
-    (gives_kept host w world4 (tick world4) _ around4 (tick_gives host world4)
-    (λ _ world5 h5. selected_gives host w condition given n vs world5 (kept_then kept4 h5)))))))
+    let around4 : AdvancesBut i host w world4 = advances_around pass_flags w world4 room kept4 in
+    choose_gives _ host w b _ _
+    (gives_kept host w world4 (one_counted n world4) _ around4 (one_counted_gives _ host n world4) (λ _ world5 h5.
+    gives_kept host w world5 (tick world5) _ (advances_then around4 (kept_advances h5)) (tick_gives _ host world5) (λ _ world6 h6.
+    gives_bind _ host w (selected host condition (n + 1) vs world6) _
+    (selected_gives host w room condition given (n + 1) vs world6 (kept_then kept4 (kept_then h5 h6))) (λ us world7. kept_same world7))))
+    (gives_kept host w world4 (tick world4) _ around4 (tick_gives _ host world4)
+    (λ _ world5 h5. selected_gives host w room condition given n vs world5 (kept_then kept4 h5)))))))
 
 -- ---------------------------------------------------------------- after a run
 wrap_arises : (host : HostValue) (wrap : Option Wrapping) (chain : List ErrorKind) → Arises host chain → Arises host (wrapped wrap chain)
@@ -131,97 +138,103 @@ wrap_arises host None chain h = h
 wrap_arises host (Some wrapping.EvalBlock) chain h = wraps refl h
 wrap_arises host (Some wrapping.BadInclude) chain h = wraps refl h
 
-value_by : (host : HostValue) (w world1 : World) (c : NestedCall) (e : Ending) (o : Outcome) →
+value_by : {i : Differs} (host : HostValue) (w world1 : World) (c : NestedCall) (e : Ending) (o : Outcome) →
     EndingKeeps host (in_stream o.world.stream world1) e o.world →
-    ((world2 : World) → Advances (in_stream world2.stream world1) world2 → Kept w (undone c.undo world2)) →
-    Gives host w (value_after e c o)
-value_by host w world1 c (done vs) o h k = k o.world h.advances
-value_by host w world1 c leave o h k = k o.world h.advances
-value_by host w world1 c next o h k = k o.world h.advances
-value_by host w world1 c (fault chain) o h k = ((k o.world h.0).advances, wrap_arises host c.wrap chain h.1)
+    ((world2 : World) → Advances host (in_stream world2.stream world1) world2 → KeptBut i w (undone c.undo world2)) →
+    GivesBut i host w (value_after e c o)
+value_by host w world1 c (done vs) o h k = k o.world (kept_advances h)
+value_by host w world1 c leave o h k = k o.world (kept_advances h)
+value_by host w world1 c next o h k = k o.world (kept_advances h)
+value_by host w world1 c (fault chain) o h k = (kept_advances (k o.world h.0), wrap_arises host c.wrap chain h.1)
 
-text_by : (host : HostValue) (w world1 : World) (e : Ending) (o : Outcome) → Kept w world1 → EndingKeeps host world1 e o.world →
-    Gives host w (text_after e o)
+text_by : {i : Differs} (host : HostValue) (w world1 : World) (e : Ending) (o : Outcome) → KeptBut i w world1 →
+    EndingKeepsBut i host world1 e o.world → GivesBut i host w (text_after e o)
 text_by host w world1 (done vs) o h k = kept_then h k
 text_by host w world1 leave o h k = kept_then h k
 text_by host w world1 next o h k = kept_then h k
-text_by host w world1 (fault chain) o h k = (advances_then h.advances k.0, k.1)
+text_by host w world1 (fault chain) o h k = (advances_then (kept_advances h) k.0, k.1)
 
-place_by : (host : HostValue) (w world1 : World) (c : NestedCall) (run : Run) (e : Ending) (o : Outcome) →
+place_by : {i : Differs} (host : HostValue) (w world1 : World) (c : NestedCall) (run : Run) (e : Ending) (o : Outcome) →
     EndingKeeps host (in_stream o.world.stream world1) e o.world →
-    ((world2 : World) → Advances (in_stream world2.stream world1) world2 → Kept w (undone c.undo world2)) →
-    OutcomeKeeps host run.parent w (after e c run o)
-place_by host w world1 c run (done vs) o h k = ends_here host w _ run o.text (k o.world h.advances)
-place_by host w world1 c run leave o h k = ends_here host w _ run o.text (k o.world h.advances)
-place_by host w world1 c run next o h k = ends_here host w _ run o.text (k o.world h.advances)
+    ((world2 : World) → Advances host (in_stream world2.stream world1) world2 → KeptBut i w (undone c.undo world2)) →
+    OutcomeKeepsBut i host run.parent w (after e c run o)
+place_by host w world1 c run (done vs) o h k = ends_here host w _ run o.text (k o.world (kept_advances h))
+place_by host w world1 c run leave o h k = ends_here host w _ run o.text (k o.world (kept_advances h))
+place_by host w world1 c run next o h k = ends_here host w _ run o.text (k o.world (kept_advances h))
 place_by host w world1 c run (fault chain) o h k =
-    ends_fault host w _ run o.text (wrapped c.wrap chain) (k o.world h.0).advances (wrap_arises host c.wrap chain h.1)
+    ends_fault host w _ run o.text (wrapped c.wrap chain) (kept_advances (k o.world h.0)) (wrap_arises host c.wrap chain h.1)
 
 -- ---------------------------------------------------------------- arguments
-pub merged_values_give : (host : HostValue) (vs : List Val) (w : World) → Gives host w (merged_values host vs w)
-merged_values_give host vs w =
-    gives_bind host w (answered (merged host.undefined (records_of w) vs) w) _
-    (operation_gives host _ w (merged_raises host.undefined (records_of w) vs)) (λ ps world1. kept_same world1)
+pub merged_values_give : (i : Differs) (host : HostValue) (vs : List Val) (w : World) → GivesBut i host w (merged_values host vs w)
+merged_values_give i host vs w =
+    gives_bind _ host w (answered (merged host.undefined (records_of w) vs) w) _
+    (operation_gives _ host _ w (merged_raises host.undefined (records_of w) vs)) (λ ps world1. kept_same world1)
 
-pub list_items_give : (host : HostValue) (vs : List Val) (w : World) → Gives host w (items_of_lists host vs w)
-list_items_give host vs w = operation_gives host _ w (spread_items_raises host.undefined (records_of w) vs)
+pub list_items_give : (i : Differs) (host : HostValue) (vs : List Val) (w : World) → GivesBut i host w (items_of_lists host vs w)
+list_items_give i host vs w = operation_gives _ host _ w (spread_items_raises host.undefined (records_of w) vs)
 
-pub listed_gives : (host : HostValue) (vs : List Val) (w : World) → Gives host w (listed vs w)
-listed_gives host [] w = kept_same w
-listed_gives host (v ∷ vs) w = ticked_gives host w _ (λ world1. kept_same world1)
+pub listed_gives : (i : Differs) (host : HostValue) (vs : List Val) (w : World) → GivesBut i host w (listed vs w)
+listed_gives i host [] w = kept_same w
+listed_gives i host (v ∷ vs) w = ticked_gives _ host w _ (λ world1. kept_same world1)
 
-pub mapped_gives : (host : HostValue) (ps : List (Val × Val)) (w : World) → Gives host w (mapped ps w)
-mapped_gives host [] w = kept_same w
-mapped_gives host (p ∷ ps) w = ticked_gives host w _ (λ world1. kept_same world1)
+pub mapped_gives : (i : Differs) (host : HostValue) (ps : List (Val × Val)) (w : World) → GivesBut i host w (mapped ps w)
+mapped_gives i host [] w = kept_same w
+mapped_gives i host (p ∷ ps) w = ticked_gives _ host w _ (λ world1. kept_same world1)
 
-pub merged_by_gives : (b : Bool) (host : HostValue) (ms : List Val) (w : World) → Gives host w (merged_by b host ms w)
-merged_by_gives false host ms w = kept_same w
-merged_by_gives true host ms w =
-    ticked_gives host w _ (λ world1.
-    gives_bind host world1 (merged_values host ms world1) _ (merged_values_give host ms world1) (λ v world2. kept_same world2))
+pub merged_by_gives : (i : Differs) (b : Bool) (host : HostValue) (ms : List Val) (w : World) → GivesBut i host w (merged_by b host ms w)
+merged_by_gives i false host ms w = kept_same w
+merged_by_gives i true host ms w =
+    ticked_gives _ host w _ (λ world1.
+    gives_bind _ host world1 (merged_values host ms world1) _ (merged_values_give _ host ms world1) (λ v world2. kept_same world2))
 
 -- what values of arguments give, whatever the world
+abbrev pub GivenBut : Differs → HostValue → (World → Res (List Val)) → Type 0
+GivenBut i host value = (w : World) → GivesBut i host w (value w)
+
 abbrev pub Given : HostValue → (World → Res (List Val)) → Type 0
-Given host value = (w : World) → Gives host w (value w)
+Given host value = GivenBut in_closure_too host value
 
-pub named_by_gives : {n : _} → (host : HostValue) (ks : Row_of-Keyword n) (maps : World → Res (List Val)) → Given host maps →
-    Given host (named_by host ks maps)
-named_by_gives host ks maps given w =
-    gives_bind host w (maps w) _ (given w) (λ ms world1. merged_by_gives (has_spread_keyword ks) host ms world1)
+pub named_by_gives : (i : Differs) {n : _} → (host : HostValue) (ks : Row_of-Keyword n) (maps : World → Res (List Val)) →
+    GivenBut i host maps →
+    GivenBut i host (named_by host ks maps)
+named_by_gives i host ks maps given w =
+    gives_bind _ host w (maps w) _ (given w) (λ ms world1. merged_by_gives _ (has_spread_keyword ks) host ms world1)
 
-pub passed_by_gives : (b : Bool) (host : HostValue) (before : List Val) (by_place by_name : World → Res (List Val))
-    (lists : (World → Res (List Val)) → World → Res (List Val)) → Given host by_place → Given host by_name → Given host (lists by_name) →
-    Given host (passed_by b host before by_place by_name lists)
-passed_by_gives false host before by_place by_name lists h k m w =
-    gives_bind host w (by_place w) _ (h w) (λ vs world1.
-    gives_bind host world1 (by_name world1) _ (k world1) (λ ks world2. kept_same world2))
-passed_by_gives true host before by_place by_name lists h k m w =
-    gives_bind host w (lists by_name w) _ (m w) (λ ls world1.
-    ticked_gives host world1 _ (λ world2. list_items_give host ls world2))
+pub passed_by_gives : (i : Differs) (b : Bool) (host : HostValue) (before : List Val) (by_place by_name : World → Res (List Val))
+    (lists : (World → Res (List Val)) → World → Res (List Val)) → GivenBut i host by_place → GivenBut i host by_name →
+    GivenBut i host (lists by_name) →
+    GivenBut i host (passed_by b host before by_place by_name lists)
+passed_by_gives i false host before by_place by_name lists h k m w =
+    gives_bind _ host w (by_place w) _ (h w) (λ vs world1.
+    gives_bind _ host world1 (by_name world1) _ (k world1) (λ ks world2. kept_same world2))
+passed_by_gives i true host before by_place by_name lists h k m w =
+    gives_bind _ host w (lists by_name w) _ (m w) (λ ls world1.
+    ticked_gives _ host world1 _ (λ world2. list_items_give _ host ls world2))
 
 -- what a test answered, turned round or not
-pub turned_gives : (host : HostValue) (k : Application) (v : Val) (w : World) → Gives host w (turned host k v w)
-turned_gives host applications.Method v w = kept_same w
-turned_gives host applications.Filter v w = kept_same w
-turned_gives host applications.Test v w = kept_same w
-turned_gives host applications.NegatedTest v w = ticked_gives host w _ (λ world1. unary_gives host unaries.Not v world1)
+pub turned_gives : (i : Differs) (host : HostValue) (k : Application) (v : Val) (w : World) → GivesBut i host w (turned host k v w)
+turned_gives i host applications.Method v w = kept_same w
+turned_gives i host applications.Filter v w = kept_same w
+turned_gives i host applications.Test v w = kept_same w
+turned_gives i host applications.NegatedTest v w = ticked_gives _ host w _ (λ world1. unary_gives _ host unaries.Not v world1)
 
 -- ---------------------------------------------------------------- trees
 -- where the test, what is guarded and what stands for it do
-pub condition_gives : (host : HostValue) (test guarded other : World → Res Val) → ((w : World) → Gives host w (test w)) →
-    ((w : World) → Gives host w (guarded w)) → ((w : World) → Gives host w (other w)) →
-    (w : World) → Gives host w (under_condition host test guarded other w)
-condition_gives host test guarded other first given last w =
-    gives_bind host w (test w) _ (first w) (λ v world1.
-    ticked_gives host world1 _ (λ world2.
-    gives_bind host world2 (truth host v world2) _ (truth_gives host v world2) (λ b world3.
-    choose_gives host world3 b _ _ (gives_bind host world3 (guarded world3) _ (given world3)
-    (λ x world4. ticked_gives host world4 _ (λ world5. kept_same world5))) (last world3))))
+pub condition_gives : (i : Differs) (host : HostValue) (test guarded other : World → Res Val) → ((w : World) → GivesBut i host w (test w)) →
+    ((w : World) → GivesBut i host w (guarded w)) → ((w : World) → GivesBut i host w (other w)) →
+    (w : World) → GivesBut i host w (under_condition host test guarded other w)
+condition_gives i host test guarded other first given last w =
+    gives_bind _ host w (test w) _ (first w) (λ v world1.
+    ticked_gives _ host world1 _ (λ world2.
+    gives_bind _ host world2 (truth host v world2) _ (truth_gives _ host v world2) (λ b world3.
+    choose_gives _ host world3 b _ _ (gives_bind _ host world3 (guarded world3) _ (given world3)
+    (λ x world4. ticked_gives _ host world4 _ (λ world5. kept_same world5))) (last world3))))
 
-module _ (u : Under) (nest_ends : (k : Callee) (heard : Bool) (out : List ℕ) (w : World) → RunEnds u.host w (u.nests k heard out w))
+module _ {i : Differs} (u : Under)
+    (nest_ends : (k : Callee) (heard : Bool) (out : List ℕ) (w : World) → RunEnds u.host w (u.nests k heard out w))
     (again_ends : (n : ℕ) (items : List Val) (run : Run) (out : List ℕ) (w : World) →
-    OutcomeKeeps u.host run.parent w (u.again n items run out w)) where
-  pub value_gives : (w : World) (run : Run) (q : Asked) → Asks u.host w q → Gives u.host w (value_of u run q)
+    OutcomeKeepsBut i u.host run.parent w (u.again n items run out w)) where
+  pub value_gives : (w : World) (run : Run) (q : Asked) → AsksBut i u.host w q → GivesBut i u.host w (value_of u run q)
   value_gives w run (has v world1) h = h
   value_gives w run (refused chain world1) h = h
   value_gives w run (recurs n items world1) h =
@@ -231,7 +244,8 @@ module _ (u : Under) (nest_ends : (k : Callee) (heard : Bool) (out : List ℕ) (
       let o = u.nests c.callee true [] world1 in
       value_by u.host w world1 c o.ending o (run_ends_as u.host world1 o (nest_ends c.callee true [] world1)) h.2
 
-  pub place_ends : (w : World) (run : Run) (out : List ℕ) (q : Asked) → Asks u.host w q → OutcomeKeeps u.host run.parent w (in_place_of u run out q)
+  pub place_ends : (w : World) (run : Run) (out : List ℕ) (q : Asked) → AsksBut i u.host w q →
+      OutcomeKeepsBut i u.host run.parent w (in_place_of u run out q)
   place_ends w run out (has v world1) h = ends_here u.host w world1 run out h
   place_ends w run out (refused chain world1) h = ends_fault u.host w world1 run out chain h.0 h.1
   place_ends w run out (recurs n items world1) h =
@@ -240,204 +254,208 @@ module _ (u : Under) (nest_ends : (k : Callee) (heard : Bool) (out : List ℕ) (
       let o = u.nests c.callee (audible run) out world1 in
       place_by u.host w world1 c run o.ending o (run_ends_as u.host world1 o (nest_ends c.callee (audible run) out world1)) h.2
 
-  pub tag_ends : (run : Run) (b : List ℕ) (out : List ℕ) (w : World) → OutcomeKeeps u.host run.parent w (block_tag u run b out w)
-  tag_ends run b out w = choose_ends u.host w _ _ _ (place_ends w run out _ (block_asks u.host b w)) (ends_here u.host w w run out (kept_same w))
+  pub tag_ends : (run : Run) (b : List ℕ) (out : List ℕ) (w : World) → OutcomeKeepsBut i u.host run.parent w (block_tag u run b out w)
+  tag_ends run b out w =
+      choose_ends u.host w _ _ _ (place_ends w run out _ (block_asks _ u.host b w)) (ends_here u.host w w run out (kept_same w))
 
   mutual
-    pub eval_gives : (run : Run) (e : Expr) (w : World) → Gives u.host w (eval u run e w)
-    eval_gives run (Var x) w = ticked_gives u.host w _ (λ world1. looked_up_gives u.host x world1)
-    eval_gives run (Const v) w = ticked_gives u.host w _ (λ world1. kept_same world1)
+    pub eval_gives : (run : Run) (e : Expr) (w : World) → GivesBut i u.host w (eval u run e w)
+    eval_gives run (Var x) w = ticked_gives _ u.host w _ (λ world1. looked_up_gives _ u.host x world1)
+    eval_gives run (Const v) w = ticked_gives _ u.host w _ (λ world1. kept_same world1)
     eval_gives run (List' _ es) w =
-        gives_bind u.host w (eval_all u run es w) _ (all_give run es w)
-        (λ vs world1. ticked_gives u.host world1 _ (λ world2. kept_same world2))
+        gives_bind _ u.host w (eval_all u run es w) _ (all_give run es w)
+        (λ vs world1. ticked_gives _ u.host world1 _ (λ world2. kept_same world2))
     eval_gives run (Tuple' _ es) w =
-        gives_bind u.host w (eval_all u run es w) _ (all_give run es w)
-        (λ vs world1. ticked_gives u.host world1 _ (λ world2. kept_same world2))
+        gives_bind _ u.host w (eval_all u run es w) _ (all_give run es w)
+        (λ vs world1. ticked_gives _ u.host world1 _ (λ world2. kept_same world2))
     eval_gives run (Map' _ ps) w =
-        gives_bind u.host w (eval_pairs u run ps w) _ (pairs_give run ps w)
-        (λ xs world1. ticked_gives u.host world1 _ (λ world2. kept_same world2))
+        gives_bind _ u.host w (eval_pairs u run ps w) _ (pairs_give run ps w)
+        (λ xs world1. ticked_gives _ u.host world1 _ (λ world2. kept_same world2))
     eval_gives run (Call' f _ given _ named) w =
         let by_name = named_by u.host named (λ world1. eval_keywords u run mapped [] named world1) in
-        let names = named_by_gives u.host named _ (λ world1. keywords_give run mapped (mapped_gives u.host) [] named world1) in
-        gives_bind u.host w (passed_by (has_spread given) u.host [] (λ world1. eval_arguments u run given world1) by_name
+        let names = named_by_gives _ u.host named _ (λ world1. keywords_give run mapped (mapped_gives _ u.host) [] named world1) in
+        gives_bind _ u.host w (passed_by (has_spread given) u.host [] (λ world1. eval_arguments u run given world1) by_name
         (λ by_name1 world1. eval_lists u run [] given by_name1 world1) w) _
-        (passed_by_gives (has_spread given) u.host [] _ by_name _ (λ world1. arguments_give run given world1) names
+        (passed_by_gives _ (has_spread given) u.host [] _ by_name _ (λ world1. arguments_give run given world1) names
         (λ world1. lists_give run [] given by_name names world1) w) (λ vs world1.
-        ticked_gives u.host world1 _ (λ world2. value_gives world2 run _ (named_asks u.host f vs world2)))
+        ticked_gives _ u.host world1 _ (λ world2. value_gives world2 run _ (named_asks _ u.host f vs world2)))
     eval_gives run (SelfBlock b) w =
-        ticked_gives u.host w _ (λ world1.
+        ticked_gives _ u.host w _ (λ world1.
         let o = block_tag u (capturing true run) b [] world1 in
-        gives_bind u.host world1 (text_after o.ending o) _
+        gives_bind _ u.host world1 (text_after o.ending o) _
         (text_by u.host world1 world1 o.ending o (kept_same world1) (ends_as u.host world1 o (tag_ends (capturing true run) b [] world1)))
-        (λ v world2. ticked_gives u.host world2 _ (λ world3. kept_same world3)))
+        (λ v world2. ticked_gives _ u.host world2 _ (λ world3. kept_same world3)))
     eval_gives run (unary op a) w =
-        gives_bind u.host w (eval u run a w) _ (eval_gives run a w)
-        (λ v world1. ticked_gives u.host world1 _ (λ world2. unary_gives u.host op v world2))
-    eval_gives run (chained a _ ss) w = gives_bind u.host w (eval u run a w) _ (eval_gives run a w) (λ v world1. steps_give run ss v world1)
+        gives_bind _ u.host w (eval u run a w) _ (eval_gives run a w)
+        (λ v world1. ticked_gives _ u.host world1 _ (λ world2. unary_gives _ u.host op v world2))
+    eval_gives run (chained a _ ss) w =
+        gives_bind _ u.host w (eval u run a w) _ (eval_gives run a w) (λ v world1. steps_give run ss v world1)
     eval_gives run (conditional a _ cs) w = conditions_give run cs (λ world1. eval u run a world1) (λ world1. eval_gives run a world1) w
 
     pub conditions_give : {n : _} → (run : Run) (cs : Row_of-Condition n) (guarded : World → Res Val) →
-        ((w : World) → Gives u.host w (guarded w)) → (w : World) → Gives u.host w (eval_conditions u run cs guarded w)
+        ((w : World) → GivesBut i u.host w (guarded w)) → (w : World) → GivesBut i u.host w (eval_conditions u run cs guarded w)
     conditions_give run no_condition guarded given w = given w
     conditions_give run (with_condition c e more) guarded given w =
         conditions_give run more (λ world1. under_condition u.host (λ world2. eval u run c world2) guarded (λ world2. eval u run e world2)
         world1)
-        (λ world1. condition_gives u.host _ _ _ (λ world2. eval_gives run c world2) given (λ world2. eval_gives run e world2) world1) w
+        (λ world1. condition_gives _ u.host _ _ _ (λ world2. eval_gives run c world2) given (λ world2. eval_gives run e world2) world1) w
 
-    pub all_give : {n : _} → (run : Run) (es : Row_of-Expr n) (w : World) → Gives u.host w (eval_all u run es w)
+    pub all_give : {n : _} → (run : Run) (es : Row_of-Expr n) (w : World) → GivesBut i u.host w (eval_all u run es w)
     all_give run no_expr w = kept_same w
     all_give run (expr e more) w =
-        gives_bind u.host w (eval u run e w) _ (eval_gives run e w)
-        (λ v world1. gives_bind u.host world1 (eval_all u run more world1) _ (all_give run more world1) (λ vs world2. kept_same world2))
+        gives_bind _ u.host w (eval u run e w) _ (eval_gives run e w)
+        (λ v world1. gives_bind _ u.host world1 (eval_all u run more world1) _ (all_give run more world1) (λ vs world2. kept_same world2))
 
-    pub pairs_give : {n : _} → (run : Run) (ps : Row_of-Pair n) (w : World) → Gives u.host w (eval_pairs u run ps w)
+    pub pairs_give : {n : _} → (run : Run) (ps : Row_of-Pair n) (w : World) → GivesBut i u.host w (eval_pairs u run ps w)
     pairs_give run no_pair w = kept_same w
     pairs_give run (with_pair k v more) w =
-        gives_bind u.host w (eval u run k w) _ (eval_gives run k w) (λ x world1.
-        gives_bind u.host world1 (eval u run v world1) _ (eval_gives run v world1) (λ y world2.
-        gives_bind u.host world2 (eval_pairs u run more world2) _ (pairs_give run more world2) (λ xs world3. kept_same world3)))
+        gives_bind _ u.host w (eval u run k w) _ (eval_gives run k w) (λ x world1.
+        gives_bind _ u.host world1 (eval u run v world1) _ (eval_gives run v world1) (λ y world2.
+        gives_bind _ u.host world2 (eval_pairs u run more world2) _ (pairs_give run more world2) (λ xs world3. kept_same world3)))
 
-    pub argument_gives : (run : Run) (a : Argument) (w : World) → Gives u.host w (eval_argument u run a w)
+    pub argument_gives : (run : Run) (a : Argument) (w : World) → GivesBut i u.host w (eval_argument u run a w)
     argument_gives run (plain a) w = eval_gives run a w
     argument_gives run (spread a) w = eval_gives run a w
 
-    pub arguments_give : {n : _} → (run : Run) (given : Row_of-Argument n) (w : World) → Gives u.host w (eval_arguments u run given w)
+    pub arguments_give : {n : _} → (run : Run) (given : Row_of-Argument n) (w : World) → GivesBut i u.host w (eval_arguments u run given w)
     arguments_give run no_argument w = kept_same w
     arguments_give run (argument a more) w =
-        gives_bind u.host w (eval_argument u run a w) _ (argument_gives run a w) (λ v world1.
-        gives_bind u.host world1 (eval_arguments u run more world1) _ (arguments_give run more world1) (λ vs world2. kept_same world2))
+        gives_bind _ u.host w (eval_argument u run a w) _ (argument_gives run a w) (λ v world1.
+        gives_bind _ u.host world1 (eval_arguments u run more world1) _ (arguments_give run more world1) (λ vs world2. kept_same world2))
 
     pub lists_give : {n : _} → (run : Run) (row : List Val) (given : Row_of-Argument n) (by_name : World → Res (List Val)) →
-        Given u.host by_name → (w : World) → Gives u.host w (eval_lists u run row given by_name w)
+        GivenBut i u.host by_name → (w : World) → GivesBut i u.host w (eval_lists u run row given by_name w)
     lists_give run row no_argument by_name h w =
-        gives_bind u.host w (by_name w) _ (h w) (λ ks world1. listed_gives u.host (row ++ ks) world1)
+        gives_bind _ u.host w (by_name w) _ (h w) (λ ks world1. listed_gives _ u.host (row ++ ks) world1)
     lists_give run row (argument (plain a) more) by_name h w =
-        gives_bind u.host w (eval u run a w) _ (eval_gives run a w) (λ v world1. lists_give run (row ++ v ∷ []) more by_name h world1)
+        gives_bind _ u.host w (eval u run a w) _ (eval_gives run a w) (λ v world1. lists_give run (row ++ v ∷ []) more by_name h world1)
     lists_give run row (argument (spread a) more) by_name h w =
-        gives_bind u.host w (listed row w) _ (listed_gives u.host row w) (λ ls world1.
-        gives_bind u.host world1 (eval u run a world1) _ (eval_gives run a world1) (λ v world2.
-        gives_bind u.host world2 (eval_lists u run [] more by_name world2) _ (lists_give run [] more by_name h world2)
+        gives_bind _ u.host w (listed row w) _ (listed_gives _ u.host row w) (λ ls world1.
+        gives_bind _ u.host world1 (eval u run a world1) _ (eval_gives run a world1) (λ v world2.
+        gives_bind _ u.host world2 (eval_lists u run [] more by_name world2) _ (lists_give run [] more by_name h world2)
         (λ vs world3. kept_same world3)))
 
-    pub keywords_give : {n : _} → (run : Run) (end : RowValues) → ((row : List (Val × Val)) (w : World) → Gives u.host w (end row w)) →
-        (row : List (Val × Val)) (ks : Row_of-Keyword n) (w : World) → Gives u.host w (eval_keywords u run end row ks w)
+    pub keywords_give : {n : _} → (run : Run) (end : RowValues) → ((row : List (Val × Val)) (w : World) → GivesBut i u.host w (end row w)) →
+        (row : List (Val × Val)) (ks : Row_of-Keyword n) (w : World) → GivesBut i u.host w (eval_keywords u run end row ks w)
     keywords_give run end last row no_keyword w = last row w
     keywords_give run end last row (keyword_and (keyword x a) more) w =
-        ticked_gives u.host w _ (λ world1. gives_bind u.host world1 (eval u run a world1) _ (eval_gives run a world1)
+        ticked_gives _ u.host w _ (λ world1. gives_bind _ u.host world1 (eval u run a world1) _ (eval_gives run a world1)
         (λ v world2. keywords_give run end last (row ++ (text x false, v) ∷ []) more world2))
     keywords_give run end last row (keyword_and (spread_keywords a) more) w =
-        gives_bind u.host w (mapped row w) _ (mapped_gives u.host row w) (λ ms world1.
-        gives_bind u.host world1 (eval u run a world1) _ (eval_gives run a world1) (λ v world2.
-        gives_bind u.host world2 (eval_keywords u run end [] more world2) _ (keywords_give run end last [] more world2)
+        gives_bind _ u.host w (mapped row w) _ (mapped_gives _ u.host row w) (λ ms world1.
+        gives_bind _ u.host world1 (eval u run a world1) _ (eval_gives run a world1) (λ v world2.
+        gives_bind _ u.host world2 (eval_keywords u run end [] more world2) _ (keywords_give run end last [] more world2)
         (λ ns world3. kept_same world3)))
 
-    pub step_gives : (run : Run) (s : Step) (v : Val) (w : World) → Gives u.host w (eval_step u run s v w)
-    step_gives run (Attribute x) v w = ticked_gives u.host w _
-        (λ world1. operation_gives u.host _ world1 (attribute_raises u.host.undefined (records_of world1) v x))
+    pub step_gives : (run : Run) (s : Step) (v : Val) (w : World) → GivesBut i u.host w (eval_step u run s v w)
+    step_gives run (Attribute x) v w = ticked_gives _ u.host w _
+        (λ world1. operation_gives _ u.host _ world1 (attribute_raises u.host.undefined (records_of world1) v x))
     step_gives run (Apply' k x _ given _ named) v w =
         let by_name = named_by u.host named (λ world1. eval_keywords u run mapped [] named world1) in
-        let names = named_by_gives u.host named _ (λ world1. keywords_give run mapped (mapped_gives u.host) [] named world1) in
-        gives_bind u.host w (passed_by (has_spread given) u.host (v ∷ []) (λ world1. eval_arguments u run given world1) by_name
+        let names = named_by_gives _ u.host named _ (λ world1. keywords_give run mapped (mapped_gives _ u.host) [] named world1) in
+        gives_bind _ u.host w (passed_by (has_spread given) u.host (v ∷ []) (λ world1. eval_arguments u run given world1) by_name
         (λ by_name1 world1. eval_lists u run (v ∷ []) given by_name1 world1) w) _
-        (passed_by_gives (has_spread given) u.host (v ∷ []) _ by_name _ (λ world1. arguments_give run given world1) names
+        (passed_by_gives _ (has_spread given) u.host (v ∷ []) _ by_name _ (λ world1. arguments_give run given world1) names
         (λ world1. lists_give run (v ∷ []) given by_name names world1) w) (λ vs world1.
-        ticked_gives u.host world1 _ (λ world2.
+        ticked_gives _ u.host world1 _ (λ world2.
         let q = applied u.host k x vs world2 in
-        gives_bind u.host world2 (value_of u run q) _ (value_gives world2 run q (applied_asks u.host k x vs world2))
-        (λ y world3. turned_gives u.host k y world3)))
+        gives_bind _ u.host world2 (value_of u run q) _ (value_gives world2 run q (applied_asks _ u.host k x vs world2))
+        (λ y world3. turned_gives _ u.host k y world3)))
     step_gives run (Called _ given _ named) v w =
         let by_name = named_by u.host named (λ world1. eval_keywords u run mapped [] named world1) in
-        let names = named_by_gives u.host named _ (λ world1. keywords_give run mapped (mapped_gives u.host) [] named world1) in
-        gives_bind u.host w (passed_by (has_spread given) u.host (v ∷ []) (λ world1. eval_arguments u run given world1) by_name
+        let names = named_by_gives _ u.host named _ (λ world1. keywords_give run mapped (mapped_gives _ u.host) [] named world1) in
+        gives_bind _ u.host w (passed_by (has_spread given) u.host (v ∷ []) (λ world1. eval_arguments u run given world1) by_name
         (λ by_name1 world1. eval_lists u run (v ∷ []) given by_name1 world1) w) _
-        (passed_by_gives (has_spread given) u.host (v ∷ []) _ by_name _ (λ world1. arguments_give run given world1) names
+        (passed_by_gives _ (has_spread given) u.host (v ∷ []) _ by_name _ (λ world1. arguments_give run given world1) names
         (λ world1. lists_give run (v ∷ []) given by_name names world1) w) (λ vs world1.
-        ticked_gives u.host world1 _ (λ world2. value_gives world2 run _ (callee_asks u.host vs world2)))
+        ticked_gives _ u.host world1 _ (λ world2. value_gives world2 run _ (callee_asks _ u.host vs world2)))
     step_gives run (item a) v w =
-        gives_bind u.host w (eval u run a w) _ (eval_gives run a w) (λ k world1. ticked_gives u.host world1 _ (λ world2.
-        operation_gives u.host _ world2 (item_raises u.host.undefined (records_of world2) v k)))
+        gives_bind _ u.host w (eval u run a w) _ (eval_gives run a w) (λ k world1. ticked_gives _ u.host world1 _ (λ world2.
+        operation_gives _ u.host _ world2 (item_raises u.host.undefined (records_of world2) v k)))
     step_gives run (slice a b c) v w =
-        gives_bind u.host w (eval u run a w) _ (eval_gives run a w) (λ x world1.
-        gives_bind u.host world1 (eval u run b world1) _ (eval_gives run b world1) (λ y world2.
-        gives_bind u.host world2 (eval u run c world2) _ (eval_gives run c world2) (λ z world3. ticked_gives u.host world3 _ (λ world4.
-        operation_gives u.host _ world4 (sliced_raises u.host.undefined v x y z)))))
+        gives_bind _ u.host w (eval u run a w) _ (eval_gives run a w) (λ x world1.
+        gives_bind _ u.host world1 (eval u run b world1) _ (eval_gives run b world1) (λ y world2.
+        gives_bind _ u.host world2 (eval u run c world2) _ (eval_gives run c world2) (λ z world3. ticked_gives _ u.host world3 _ (λ world4.
+        operation_gives _ u.host _ world4 (sliced_raises u.host.undefined v x y z)))))
     step_gives run (binary op a) v w =
-        gives_bind u.host w (eval u run a w) _ (eval_gives run a w)
-        (λ y world1. ticked_gives u.host world1 _ (λ world2. binary_gives u.host op v y world2))
-    step_gives run (compare op a _ cs) v w = gives_bind u.host w (eval u run a w) _ (eval_gives run a w)
+        gives_bind _ u.host w (eval u run a w) _ (eval_gives run a w)
+        (λ y world1. ticked_gives _ u.host world1 _ (λ world2. binary_gives _ u.host op v y world2))
+    step_gives run (compare op a _ cs) v w = gives_bind _ u.host w (eval u run a w) _ (eval_gives run a w)
         (λ y world1. links_give run op cs v y world1)
     step_gives run (and_then a) v w =
-        ticked_gives u.host w _ (λ world1. gives_bind u.host world1 (truth u.host v world1) _ (truth_gives u.host v world1)
-        (λ b world2. choose_gives u.host world2 b _ _ (eval_gives run a world2) (kept_same world2)))
+        ticked_gives _ u.host w _ (λ world1. gives_bind _ u.host world1 (truth u.host v world1) _ (truth_gives _ u.host v world1)
+        (λ b world2. choose_gives _ u.host world2 b _ _ (eval_gives run a world2) (kept_same world2)))
     step_gives run (or_else a) v w =
-        ticked_gives u.host w _ (λ world1. gives_bind u.host world1 (truth u.host v world1) _ (truth_gives u.host v world1)
-        (λ b world2. choose_gives u.host world2 b _ _ (kept_same world2) (eval_gives run a world2)))
+        ticked_gives _ u.host w _ (λ world1. gives_bind _ u.host world1 (truth u.host v world1) _ (truth_gives _ u.host v world1)
+        (λ b world2. choose_gives _ u.host world2 b _ _ (kept_same world2) (eval_gives run a world2)))
 
     pub links_give : {n : _} → (run : Run) (op : BinaryOperator) (cs : Row_of-Comparison n) (x y : Val) (w : World) →
-        Gives u.host w (eval_links u run op cs x y w)
+        GivesBut i u.host w (eval_links u run op cs x y w)
     links_give run op no_comparison x y w =
-        ticked_gives u.host w _ (λ world1.
-        gives_bind u.host world1 (applied_binary u.host op x y world1) _ (binary_gives u.host op x y world1)
-        (λ v world2. ticked_gives u.host world2 _ (λ world3. kept_same world3)))
+        ticked_gives _ u.host w _ (λ world1.
+        gives_bind _ u.host world1 (applied_binary u.host op x y world1) _ (binary_gives _ u.host op x y world1)
+        (λ v world2. ticked_gives _ u.host world2 _ (λ world3. kept_same world3)))
     links_give run op (with_comparison op1 a more) x y w =
-        ticked_gives u.host w _ (λ world1.
-        gives_bind u.host world1 (operated u.host op x y world1) _ (operated_gives u.host op x y world1) (λ v world2.
-        ticked_gives u.host world2 _ (λ world3.
-        gives_bind u.host world3 (truth u.host v world3) _ (truth_gives u.host v world3) (λ b world4.
-        choose_gives u.host world4 b _ _
-        (gives_bind u.host world4 (eval u run a world4) _ (eval_gives run a world4) (λ z world5. links_give run op1 more y z world5))
-        (ticked_gives u.host world4 _ (λ world5. kept_same world5))))))
+        ticked_gives _ u.host w _ (λ world1.
+        gives_bind _ u.host world1 (operated u.host op x y world1) _ (operated_gives _ u.host op x y world1) (λ v world2.
+        ticked_gives _ u.host world2 _ (λ world3.
+        gives_bind _ u.host world3 (truth u.host v world3) _ (truth_gives _ u.host v world3) (λ b world4.
+        choose_gives _ u.host world4 b _ _
+        (gives_bind _ u.host world4 (eval u run a world4) _ (eval_gives run a world4) (λ z world5. links_give run op1 more y z world5))
+        (ticked_gives _ u.host world4 _ (λ world5. kept_same world5))))))
 
-    pub steps_give : {n : _} → (run : Run) (ss : Row_of-Step n) (v : Val) (w : World) → Gives u.host w (eval_steps u run ss v w)
+    pub steps_give : {n : _} → (run : Run) (ss : Row_of-Step n) (v : Val) (w : World) → GivesBut i u.host w (eval_steps u run ss v w)
     steps_give run no_step v w = kept_same w
-    steps_give run (step s ss) v w = gives_bind u.host w (eval_step u run s v w) _ (step_gives run s v w)
+    steps_give run (step s ss) v w = gives_bind _ u.host w (eval_step u run s v w) _ (step_gives run s v w)
         (λ x world1. steps_give run ss x world1)
 
   mutual
-    pub assign_gives : (run : Run) (t : AssignmentTarget) (v : Val) (w : World) → Gives u.host w (assign u run t v w)
-    assign_gives run (To x) v w = ticked_gives u.host w _ (λ world1. store_kept x v world1)
+    pub assign_gives : (run : Run) (t : AssignmentTarget) (v : Val) (w : World) → GivesBut i u.host w (assign u run t v w)
+    assign_gives run (To x) v w = ticked_gives _ u.host w _ (λ world1. store_kept x v world1)
     assign_gives run (Items _ ts) v w =
-        ticked_gives u.host w _ (λ world1. gives_bind u.host world1 (unpacked_items (count_targets ts) v world1) _
-        (unpacked_gives u.host (count_targets ts) v world1)
+        ticked_gives _ u.host w _ (λ world1. gives_bind _ u.host world1 (unpacked_items (count_targets ts) v world1) _
+        (unpacked_gives _ u.host (count_targets ts) v world1)
         (λ vs world2. assign_all_gives run ts vs world2))
     assign_gives run (Member e x) v w =
-        gives_bind u.host w (eval u run e w) _ (eval_gives run e w)
-        (λ o world1. ticked_gives u.host world1 _ (λ world2. member_gives u.host x v o world2))
+        gives_bind _ u.host w (eval u run e w) _ (eval_gives run e w)
+        (λ o world1. ticked_gives _ u.host world1 _ (λ world2. member_gives _ u.host x v o world2))
 
     pub assign_all_gives : {n : _} → (run : Run) (ts : Row_of-AssignmentTarget n) (vs : List Val) (w : World) →
-        Gives u.host w (assign_all u run ts vs w)
+        GivesBut i u.host w (assign_all u run ts vs w)
     assign_all_gives run no_target vs w = kept_same w
     assign_all_gives run (target t ts) [] w = kept_same w
-    assign_all_gives run (target t ts) (v ∷ vs) w = gives_bind u.host w (assign u run t v w) _ (assign_gives run t v w)
+    assign_all_gives run (target t ts) (v ∷ vs) w = gives_bind _ u.host w (assign u run t v w) _ (assign_gives run t v w)
         (λ _ world1. assign_all_gives run ts vs world1)
 
-  pub set_gives : (run : Run) (t : AssignmentTarget) (e : Expr) (w : World) → Gives u.host w (set_to u run t e w)
-  set_gives run t e w = gives_bind u.host w (eval u run e w) _ (eval_gives run e w) (λ v world1. assign_gives run t v world1)
+  pub set_gives : (run : Run) (t : AssignmentTarget) (e : Expr) (w : World) → GivesBut i u.host w (set_to u run t e w)
+  set_gives run t e w = gives_bind _ u.host w (eval u run e w) _ (eval_gives run e w) (λ v world1. assign_gives run t v world1)
 
-  pub filtered_gives : (run : Run) (filters : List Step) (v : Val) (w : World) → Gives u.host w (filtered u run filters v w)
+  pub filtered_gives : (run : Run) (filters : List Step) (v : Val) (w : World) → GivesBut i u.host w (filtered u run filters v w)
   filtered_gives run [] v w = kept_same w
-  filtered_gives run (f ∷ more) v w = gives_bind u.host w (eval_step u run f v w) _ (step_gives run f v w)
+  filtered_gives run (f ∷ more) v w = gives_bind _ u.host w (eval_step u run f v w) _ (step_gives run f v w)
       (λ x world1. filtered_gives run more x world1)
 
-  pub set_each_gives : (run : Run) (given : List Assignment) (w : World) → Gives u.host w (set_each u run given w)
+  pub set_each_gives : (run : Run) (given : List Assignment) (w : World) → GivesBut i u.host w (set_each u run given w)
   set_each_gives run [] w = kept_same w
-  set_each_gives run (a ∷ more) w = gives_bind u.host w (set_to u run a.target a.value w) _ (set_gives run a.target a.value w)
+  set_each_gives run (a ∷ more) w = gives_bind _ u.host w (set_to u run a.target a.value w) _ (set_gives run a.target a.value w)
       (λ _ world1. set_each_gives run more world1)
 
   pub condition_of_gives : (run : Run) (t : AssignmentTarget) (c : Expr) (v : Val) (w : World) →
-      Gives u.host w (bind (assign u run t v w) (λ _ world1. eval u run c world1))
-  condition_of_gives run t c v w = gives_bind u.host w (assign u run t v w) _ (assign_gives run t v w) (λ _ world1. eval_gives run c world1)
+      GivesBut i u.host w (bind (assign u run t v w) (λ _ world1. eval u run c world1))
+  condition_of_gives run t c v w =
+      gives_bind _ u.host w (assign u run t v w) _ (assign_gives run t v w) (λ _ world1. eval_gives run c world1)
 
   pub loop_items_give : (at : ℕ) (run : Run) (t : AssignmentTarget) (e : Expr) (c : Option Expr) (w : World) →
-      Gives u.host w (loop_items u at run t e c w)
-  loop_items_give at run t e None w = gives_bind u.host w (eval u run e w) _ (eval_gives run e w) (λ v world1. items_give u.host v world1)
+      GivesBut i u.host w (loop_items u at run t e c w)
+  loop_items_give at run t e None w =
+      gives_bind _ u.host w (eval u run e w) _ (eval_gives run e w) (λ v world1. items_give _ u.host v world1)
   loop_items_give at run t e (Some c) w =
-      ticked_gives u.host w _ (λ world1.
-      gives_bind u.host world1 (eval u run e world1) _ (eval_gives run e world1) (λ v world2.
-      gives_bind u.host world2 (items_over u.host v world2) _ (items_give u.host v world2) (λ vs world3.
-      opened_gives u.host pass_flags at world3 vs (nat_lt (depth world3.scopes) u.host.limit) _
-      (gives_bind u.host world3 (selected u.host (λ x world5. bind (assign u run t x world5) (λ _ world6. eval u run c world6)) 0 vs
+      ticked_gives _ u.host w _ (λ world1.
+      gives_bind _ u.host world1 (eval u run e world1) _ (eval_gives run e world1) (λ v world2.
+      gives_bind _ u.host world2 (items_over u.host v world2) _ (items_give _ u.host v world2) (λ vs world3.
+      opened_gives _ u.host pass_flags at world3 vs (nat_lt (depth world3.scopes) u.host.limit) _ (λ room.
+      gives_bind _ u.host world3 (selected u.host (λ x world5. bind (assign u run t x world5) (λ _ world6. eval u run c world6)) 0 vs
       (opened pass_flags at world3 vs)) _
-      (selected_gives u.host world3 _ (λ x world5. condition_of_gives run t c x world5) 0 vs (opened pass_flags at world3 vs)
+      (selected_gives u.host world3 room _ (λ x world5. condition_of_gives run t c x world5) 0 vs (opened pass_flags at world3 vs)
       (opened_kept pass_flags at world3 vs)) (λ us world5.
-      ticked_gives u.host world5 _ (λ world6. kept_same world6))))))
+      ticked_gives _ u.host world5 _ (λ world6. kept_same world6))))))

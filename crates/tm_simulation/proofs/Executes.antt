@@ -24,8 +24,9 @@ use Rattle.tm_meaning.specs.Meaning.{import, import_names}
 use Rattle.tm_meaning.specs.Meaning.{after_first, exec, exec_all, exec_else, declared, take_parameters, call, with_caller}
 use Rattle.tm_meaning.specs.Runs.{macro_body}
 use Rattle.std.specs.Prelude.{codes}
-use Rattle.tm_simulation.proofs.Advances.{kept_same, within, advances_within, kept_popped, advances_escaped, kept_unescaped}
-use Rattle.tm_simulation.proofs.Gives.{OutcomeKeeps, RunEnds, tick_gives, ends_here, ends_refused, ends_then, ends_use}
+use Rattle.tm_simulation.specs.Kept.{Differs, in_closure_too}
+use Rattle.tm_simulation.proofs.Advances.{kept_same, within, advances_over, advances_same, kept_popped, advances_escaped, kept_unescaped}
+use Rattle.tm_simulation.proofs.Gives.{OutcomeKeepsBut, OutcomeKeeps, RunEnds, tick_gives, ends_here, ends_refused, ends_then, ends_use}
 use Rattle.tm_simulation.proofs.Gives.{ends_do, ends_leave, ends_next, choose_ends, ends_kept, ends_within, closing_ends, captured_ends}
 use Rattle.tm_simulation.proofs.Gives.{loop_ends}
 use Rattle.tm_simulation.proofs.Asks.{emitted_gives, escape_gives, super_asks, innermost_asks}
@@ -42,15 +43,15 @@ module _ (u : Under) (nest_ends : (k : Callee) (heard : Bool) (out : List ℕ) (
     OutcomeKeeps u.host run.parent w (u.again n items run out w)) where
   emit_ends : (run : Run) (out : List ℕ) (v : Val) (w : World) → OutcomeKeeps u.host run.parent w (emit u run out v w)
   emit_ends run out v w =
-      ends_use u.host w (tick w) run out _ (tick_gives u.host w) (λ _ world1. ends_use u.host world1 (emitted u.host v world1) run out _
-      (emitted_gives u.host v world1)
+      ends_use u.host w (tick w) run out _ (tick_gives _ u.host w) (λ _ world1. ends_use u.host world1 (emitted u.host v world1) run out _
+      (emitted_gives _ u.host v world1)
       (λ t world2. ends_here u.host world2 world2 run (say run t out) (kept_same world2)))
 
   after_first_ends : {q : Option TemplateId} (other : Otherwise) (run : Run) (w : World) (o : Outcome) → OutcomeKeeps u.host q w o →
       OutcomeKeeps u.host q w (after_first other run o)
   after_first_ends no_else run w o h = h
   after_first_ends (otherwise _ body) run w o h =
-      ends_do u.host w run o _ h (λ run1 out1 world1. ends_use u.host world1 (tick world1) run1 out1 _ (tick_gives u.host world1)
+      ends_do u.host w run o _ h (λ run1 out1 world1. ends_use u.host world1 (tick world1) run1 out1 _ (tick_gives _ u.host world1)
       (λ _ world2. ends_here u.host world2 world2 run1 out1 (kept_same world2)))
 
   use_ends : (run : Run) (becomes : CaptureUse) (v : Val) (out : List ℕ) (w : World) →
@@ -62,37 +63,38 @@ module _ (u : Under) (nest_ends : (k : Callee) (heard : Bool) (out : List ℕ) (
 
   mutual
     pub exec_ends : (at : Numbers) (s : Stmt) (run : Run) (out : List ℕ) (w : World) → OutcomeKeeps u.host run.parent w (exec u at s run out w)
-    exec_ends at (EmitRaw t) run out w = ends_use u.host w (tick w) run out _ (tick_gives u.host w)
+    exec_ends at (EmitRaw t) run out w = ends_use u.host w (tick w) run out _ (tick_gives _ u.host w)
         (λ _ world1. ends_here u.host world1 world1 run (say run t out) (kept_same world1))
     exec_ends at (EmitExpr e) run out w = ends_use u.host w (eval u run e w) run out _ (eval_gives u nest_ends again_ends run e w)
         (λ v world1. emit_ends run out v world1)
     exec_ends at (EmitLoop e) run out w =
         ends_use u.host w (eval u run e w) run out _ (eval_gives u nest_ends again_ends run e w)
-        (λ v world1. ends_use u.host world1 (tick world1) run out _ (tick_gives u.host world1)
-        (λ _ world2. place_ends u nest_ends again_ends world2 run out _ (innermost_asks u.host v world2)))
+        (λ v world1. ends_use u.host world1 (tick world1) run out _ (tick_gives _ u.host world1)
+        (λ _ world2. place_ends u nest_ends again_ends world2 run out _ (innermost_asks _ u.host v world2)))
     exec_ends at (If' c _ body other) run out w =
         ends_use u.host w (eval u run c w) run out _ (eval_gives u nest_ends again_ends run c w) (λ v world1.
-        ends_use u.host world1 (tick world1) run out _ (tick_gives u.host world1) (λ _ world2.
-        ends_use u.host world2 (truth u.host v world2) run out _ (truth_gives u.host v world2) (λ b world3.
+        ends_use u.host world1 (tick world1) run out _ (tick_gives _ u.host world1) (λ _ world2.
+        ends_use u.host world2 (truth u.host v world2) run out _ (truth_gives _ u.host v world2) (λ b world3.
         choose_ends u.host world3 b _ _ (after_first_ends other run world3 _ (execs_end at body run out world3))
         (else_ends (pasts at body) other run out world3))))
-    exec_ends at (EmitBlock b) run out w = ends_use u.host w (tick w) run out _ (tick_gives u.host w)
+    exec_ends at (EmitBlock b) run out w = ends_use u.host w (tick w) run out _ (tick_gives _ u.host w)
         (λ _ world1. tag_ends u nest_ends again_ends run b out world1)
-    exec_ends at EmitSuper run out w = ends_use u.host w (tick w) run out _ (tick_gives u.host w)
-        (λ _ world1. place_ends u nest_ends again_ends world1 run out _ (super_asks u.host world1))
+    exec_ends at EmitSuper run out w = ends_use u.host w (tick w) run out _ (tick_gives _ u.host w)
+        (λ _ world1. place_ends u nest_ends again_ends world1 run out _ (super_asks _ u.host world1))
     exec_ends at (Extends e) run out w =
         ends_use u.host w (eval u run e w) run out _ (eval_gives u nest_ends again_ends run e w) (λ v world1.
         waits_ends u.host world1 run out _ (load_does u.host v run.parent run.inside world1))
-    exec_ends at (Block' b required _ body) run out w = ends_use u.host w (tick w) run out _ (tick_gives u.host w)
+    exec_ends at (Block' b required _ body) run out w = ends_use u.host w (tick w) run out _ (tick_gives _ u.host w)
         (λ _ world1. tag_ends u nest_ends again_ends run b out world1)
     exec_ends at (Set t e) run out w = ends_use u.host w (set_to u run t e w) run out _ (set_gives u nest_ends again_ends run t e w)
         (λ _ world1. ends_here u.host world1 world1 run out (kept_same world1))
     exec_ends at (With' given _ body) run out w =
         let s = plain_scope (undefined false) in
-        ends_within u.host w s (nat_lt (depth w.scopes) u.host.limit) run out _
-        (ends_kept u.host w (within s w) (set_each u run given (within s w)) run out _ (advances_within s w)
+        ends_within u.host w s (nat_lt (depth w.scopes) u.host.limit) run out _ (λ room.
+        let above = advances_over {i = in_closure_too} {j = in_closure_too} {host = u.host} s w room (advances_same (within s w)) in
+        ends_kept u.host w (within s w) (set_each u run given (within s w)) run out _ above
         (set_each_gives u nest_ends again_ends run given (within s w)) (λ _ world2 k.
-        closing_ends u.host w (within s w) pop (advances_within s w) (kept_popped s w) (λ x. refl) (exec_all u at body run out world2)
+        closing_ends u.host w (within s w) pop above (kept_popped s w) (λ x. refl) (exec_all u at body run out world2)
         (ends_then u.host (within s w) world2 (exec_all u at body run out world2) k (execs_end at body run out world2))))
     exec_ends at (For' t e c recursive _ body other) run out w =
         ends_use u.host w (loop_items u at.loops run t e c w) run out _ (loop_items_give u nest_ends again_ends at.loops run t e c w)
@@ -110,14 +112,14 @@ module _ (u : Under) (nest_ends : (k : Callee) (heard : Bool) (out : List ℕ) (
     exec_ends at (CaptureBlock' becomes filters _ body) run out w =
         captured_ends u.host w run out (exec_all u at body (capturing true run) [] w) _ (execs_end at body (capturing true run) [] w)
         (λ run1 x world1.
-        ends_use u.host world1 (tick world1) run1 out _ (tick_gives u.host world1) (λ _ world2.
+        ends_use u.host world1 (tick world1) run1 out _ (tick_gives _ u.host world1) (λ _ world2.
         ends_use u.host world2 (filtered u run1 filters (captured_text x world2) world2) run1 out _
         (filtered_gives u nest_ends again_ends run1 filters (captured_text x world2) world2)
         (λ v world3. use_ends run1 becomes v out world3)))
     exec_ends at (AutoEscape' e _ body) run out w =
         ends_use u.host w (eval u run e w) run out _ (eval_gives u nest_ends again_ends run e w) (λ v world1.
         ends_use u.host world1 (answered (escape_for run.first v) world1) run out _
-        (escape_gives u.host run.first v world1) (λ x world2.
+        (escape_gives _ u.host run.first v world1) (λ x world2.
         closing_ends u.host world2 (with_escape x world2) (with_escape world2.escape) (advances_escaped x world2) (kept_unescaped x world2)
         (λ y. refl) (exec_all u at body run out (with_escape x world2)) (execs_end at body run out (with_escape x world2))))
     exec_ends at (Do e) run out w = ends_use u.host w (eval u run e w) run out _ (eval_gives u nest_ends again_ends run e w)
@@ -154,7 +156,7 @@ module _ (u : Under) (nest_ends : (k : Callee) (heard : Bool) (out : List ℕ) (
         OutcomeKeeps u.host run.parent w (exec_after_loop u at other none_taken run out w)
     after_loop_ends at no_else none_taken run out w = ends_here u.host w w run out (kept_same w)
     after_loop_ends at (otherwise _ body) none_taken run out w =
-        ends_use u.host w (tick w) run out _ (tick_gives u.host w)
+        ends_use u.host w (tick w) run out _ (tick_gives _ u.host w)
         (λ _ world1. choose_ends u.host world1 none_taken _ _ (execs_end at body run out world1)
         (ends_here u.host world1 world1 run out (kept_same world1)))
 
@@ -167,8 +169,8 @@ module _ (u : Under) (nest_ends : (k : Callee) (heard : Bool) (out : List ℕ) (
       (λ _ world1. execs_end m.at m.body.row run out world1)
 
   -- a loop that is called
-  pub called_end : (l : Option FoundLoop) (n : ℕ) (items : List Val) (run : Run) (out : List ℕ) (w : World) →
-      OutcomeKeeps u.host run.parent w (again_in u l n items run out w)
+  pub called_end : {i : Differs} (l : Option FoundLoop) (n : ℕ) (items : List Val) (run : Run) (out : List ℕ) (w : World) →
+      OutcomeKeepsBut i u.host run.parent w (again_in u l n items run out w)
   called_end None n items run out w = ends_refused u.host w run out InvalidOperation refl
   called_end (Some l) n items run out w =
       choose_ends u.host w l.recursive _ _

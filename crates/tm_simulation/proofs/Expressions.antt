@@ -74,25 +74,25 @@ module _ (setting : Setting) where
         Go context s pc stack w
     expr_runs (Var x) run s l pc stack w d is h =
         at context (i.Lookup x) s pc stack w is.0 (after_then context (told s) (tick w) _
-        (bind_then context (told s) w (tick w) _ _ _ (tick_gives _ w) h (λ _ world1 k h1.
+        (bind_then context (told s) w (tick w) _ _ _ (tick_gives _ _ w) h (λ _ world1 k h1.
         pushes context s pc stack stack world1 (looked_up context.program.host x world1) h1)))
     expr_runs (Const v) run s l pc stack w d is h =
         at context (i.LoadConst v) s pc stack w is.0 (after_then context (told s) (tick w) _
-        (bind_then context (told s) w (tick w) _ _ _ (tick_gives _ w) h (λ _ world1 k h1.
+        (bind_then context (told s) w (tick w) _ _ _ (tick_gives _ _ w) h (λ _ world1 k h1.
         silent context (told s) _ h1)))
     expr_runs (List' _ es) run s l pc stack w d is h =
         exprs_run es run s l pc stack w d is.0
         (bind_long context (told s) w (count_exprs es) (eval_all u run es w) _ _ _ (all_give u (nest_ends setting) again_kept run es w)
         (all_long u run es w) h (λ vs world1 k n h1.
         at context _ s _ (onto vs stack) world1 is.1.0 (after_then context (told s) (tick world1) _
-        (bind_then context (told s) world1 (tick world1) _ _ _ (tick_gives _ world1) h1 (λ _ world2 k2 h2.
+        (bind_then context (told s) world1 (tick world1) _ _ _ (tick_gives _ _ world1) h1 (λ _ world2 k2 h2.
         built_then setting list_of_values s _ (count_exprs es) vs stack world2 n h2)))))
     expr_runs (Tuple' _ es) run s l pc stack w d is h =
         exprs_run es run s l pc stack w d is.0
         (bind_long context (told s) w (count_exprs es) (eval_all u run es w) _ _ _ (all_give u (nest_ends setting) again_kept run es w)
         (all_long u run es w) h (λ vs world1 k n h1.
         at context _ s _ (onto vs stack) world1 is.1.0 (after_then context (told s) (tick world1) _
-        (bind_then context (told s) world1 (tick world1) _ _ _ (tick_gives _ world1) h1 (λ _ world2 k2 h2.
+        (bind_then context (told s) world1 (tick world1) _ _ _ (tick_gives _ _ world1) h1 (λ _ world2 k2 h2.
         built_then setting list_of_values s _ (count_exprs es) vs stack world2 n h2)))))
     expr_runs (Map' _ ps) run s l pc stack w d is h =
         let n = count_pairs ps in
@@ -101,16 +101,17 @@ module _ (setting : Setting) where
         (bind_long context (told s) w n (eval_pairs u run ps w) _ _ _ (pairs_give u (nest_ends setting) again_kept run ps w)
         (pairs_long u run ps w) h (λ xs world1 k m h1.
         at context _ s _ (onto (flat xs) stack) world1 is.1.0 (after_then context (told s) (tick world1) _
-        (bind_then context (told s) world1 (tick world1) _ _ _ (tick_gives _ world1) h1 (λ _ world2 k2 h2.
+        (bind_then context (told s) world1 (tick world1) _ _ _ (tick_gives _ _ world1) h1 (λ _ world2 k2 h2.
         built_then setting (λ vs. map_of_pairs (paired vs)) s pc1 (n + n) (flat xs) stack world2 (flat_long n xs m)
         (subst (λ ys. Go context s (pc1 + 1) (map_of_pairs ys ∷ stack) world2) (sym (paired_flat xs)) h2))))))
     expr_runs (SelfBlock b) run s l pc stack w d is h = self_then setting run s pc b stack w d is h
     expr_runs (Call' g _ given _ named) run s l pc stack w d is h =
         let maps : World → Res (List Val) = λ world1. eval_keywords u run mapped [] named world1 in
-        let maps_give : Given context.program.host maps = λ world1. keywords_give u (nest_ends setting) again_kept run mapped (mapped_gives context.program.host) [] named world1 in
+        let maps_give : Given context.program.host maps = λ world1. keywords_give u (nest_ends setting) again_kept run mapped
+        (mapped_gives _ context.program.host) [] named world1 in
         let maps_long : Long setting (count_maps row_end 0 named) maps = λ world1. keywords_long u run row_end mapped mapped_long [] named world1 in
         let names : World → Res (List Val) = named_by context.program.host named maps in
-        let names_give : Given context.program.host names = named_by_gives context.program.host named maps maps_give in
+        let names_give : Given context.program.host names = named_by_gives _ context.program.host named maps maps_give in
         let names_long : Long setting (together row_end named) names =
         named_long context.program.host row_end named maps maps_long in
         let names_push : Pushes setting everywhere run (merging row_end named (keywords_code row_end 0 named)) names =
@@ -131,7 +132,7 @@ module _ (setting : Setting) where
         (λ vs world1 k long h1.
         calls setting (i.CallFunction g (passed_count row_end 0 given named)) (has_spread given) (count given + together row_end named + 0)
         (λ vs1 world2. call_named context.program.host g vs1 world2) (λ c. refl)
-        (λ vs1 world2. named_asks context.program.host g vs1 world2)
+        (λ vs1 world2. named_asks _ context.program.host g vs1 world2)
         run s _ vs stack world1 long (here_kept setting run s k d) is.1.0 h1)
     expr_runs (unary op a) run s l pc stack w d is h =
         expr_runs a run s l pc stack w d is.0
@@ -154,7 +155,7 @@ module _ (setting : Setting) where
     conditions_run (with_condition c e more) run code guarded given part s l pc stack w d is h =
         conditions_run more run (expr_code c ⨾ either code (expr_code e)) (λ world1. under_condition u.host
         (λ world2. eval u run c world2) guarded (λ world2. eval u run e world2) world1)
-        (λ world1. condition_gives u.host _ _ _ (λ world2. eval_gives u (nest_ends setting) again_kept run c world2) given
+        (λ world1. condition_gives _ u.host _ _ _ (λ world2. eval_gives u (nest_ends setting) again_kept run c world2) given
         (λ world2. eval_gives u (nest_ends setting) again_kept run e world2) world1)
         (λ s1 l1 pc1 stack1 world1 deep1 is1 h1.
         condition_runs setting run (expr_code c) code (expr_code e) (λ world2. eval u run c world2) guarded (λ world2. eval u run e world2)
@@ -232,7 +233,7 @@ module _ (setting : Setting) where
         (omega (arith, length-append row (v ∷ []), e)) (here_kept setting run s k d) is.1 h1)))
     lists_run marks n row (argument (spread a) rest) run more code by_name gives long push s l pc stack w e d is h =
         listed_then setting s pc n row stack w e is.0.0
-        (bind_then context (told s) w (listed row w) _ _ _ (listed_gives context.program.host row w) h (λ ls world1 k1 h1.
+        (bind_then context (told s) w (listed row w) _ _ _ (listed_gives _ context.program.host row w) h (λ ls world1 k1 h1.
         expr_runs a run s l _ (onto ls stack) world1 (here_kept setting run s k1 d)
         (unmarked marks _ l _ (expr_code a) (expr_loopless a) is.0.1)
         (bind_then context (told s) world1 (eval u run a world1) _ _ _ (eval_gives u (nest_ends setting) again_kept run a world1) h1
@@ -255,7 +256,7 @@ module _ (setting : Setting) where
     keywords_run marks run last n row no_keyword s l pc stack w e d is h = last.runs n row s l pc stack w e d is h
     keywords_run marks run last n row (keyword_and (keyword x a) more) s l pc stack w e d is h =
         at context (i.LoadConst (text x false)) s pc (onto (flat row) stack) w is.0.0.0 (after_then context (told s) (tick w) _
-        (bind_then context (told s) w (tick w) _ _ _ (tick_gives _ w) h (λ _ world1 k1 h1.
+        (bind_then context (told s) w (tick w) _ _ _ (tick_gives _ _ w) h (λ _ world1 k1 h1.
         silent context (told s) _
         (expr_runs a run s l (pc + 1) (text x false ∷ onto (flat row) stack) world1 (here_kept setting run s k1 d)
         (unmarked marks _ l (pc + 1) (expr_code a) (expr_loopless a) is.0.1)
@@ -267,7 +268,7 @@ module _ (setting : Setting) where
         h2)))))))
     keywords_run marks run last n row (keyword_and (spread_keywords a) more) s l pc stack w e d is h =
         mapped_then setting s pc n row stack w e is.0.0
-        (bind_then context (told s) w (mapped row w) _ _ _ (mapped_gives context.program.host row w) h (λ ms world1 k1 h1.
+        (bind_then context (told s) w (mapped row w) _ _ _ (mapped_gives _ context.program.host row w) h (λ ms world1 k1 h1.
         expr_runs a run s l _ (onto ms stack) world1 (here_kept setting run s k1 d)
         (unmarked marks _ l _ (expr_code a) (expr_loopless a) is.0.1)
         (bind_then context (told s) world1 (eval u run a world1) _ _ _ (eval_gives u (nest_ends setting) again_kept run a world1) h1
@@ -286,14 +287,15 @@ module _ (setting : Setting) where
         Go context s pc (v ∷ stack) w
     step_runs (Attribute x) run s l pc v stack w d is h =
         at context (i.GetAttr x) s pc (v ∷ stack) w is.0 (after_then context (told s) (tick w) _
-        (bind_then context (told s) w (tick w) _ _ _ (tick_gives _ w) h (λ _ world1 k h1.
+        (bind_then context (told s) w (tick w) _ _ _ (tick_gives _ _ w) h (λ _ world1 k h1.
         pushes context s pc stack (v ∷ stack) world1 (attribute context.program.host v x world1) h1)))
     step_runs (Apply' k x _ given _ named) run s l pc v stack w d is h =
         let maps : World → Res (List Val) = λ world1. eval_keywords u run mapped [] named world1 in
-        let maps_give : Given context.program.host maps = λ world1. keywords_give u (nest_ends setting) again_kept run mapped (mapped_gives context.program.host) [] named world1 in
+        let maps_give : Given context.program.host maps = λ world1. keywords_give u (nest_ends setting) again_kept run mapped
+        (mapped_gives _ context.program.host) [] named world1 in
         let maps_long : Long setting (count_maps row_end 0 named) maps = λ world1. keywords_long u run row_end mapped mapped_long [] named world1 in
         let names : World → Res (List Val) = named_by context.program.host named maps in
-        let names_give : Given context.program.host names = named_by_gives context.program.host named maps maps_give in
+        let names_give : Given context.program.host names = named_by_gives _ context.program.host named maps maps_give in
         let names_long : Long setting (together row_end named) names =
         named_long context.program.host row_end named maps maps_long in
         let names_push : Pushes setting everywhere run (merging row_end named (keywords_code row_end 0 named)) names =
@@ -316,10 +318,11 @@ module _ (setting : Setting) where
         is.1 h1)
     step_runs (Called _ given _ named) run s l pc v stack w d is h =
         let maps : World → Res (List Val) = λ world1. eval_keywords u run mapped [] named world1 in
-        let maps_give : Given context.program.host maps = λ world1. keywords_give u (nest_ends setting) again_kept run mapped (mapped_gives context.program.host) [] named world1 in
+        let maps_give : Given context.program.host maps = λ world1. keywords_give u (nest_ends setting) again_kept run mapped
+        (mapped_gives _ context.program.host) [] named world1 in
         let maps_long : Long setting (count_maps row_end 0 named) maps = λ world1. keywords_long u run row_end mapped mapped_long [] named world1 in
         let names : World → Res (List Val) = named_by context.program.host named maps in
-        let names_give : Given context.program.host names = named_by_gives context.program.host named maps maps_give in
+        let names_give : Given context.program.host names = named_by_gives _ context.program.host named maps maps_give in
         let names_long : Long setting (together row_end named) names =
         named_long context.program.host row_end named maps maps_long in
         let names_push : Pushes setting everywhere run (merging row_end named (keywords_code row_end 0 named)) names =
@@ -340,13 +343,13 @@ module _ (setting : Setting) where
         (λ vs world1 k1 long h1.
         calls setting (i.CallObject (passed_count row_end 1 given named)) (has_spread given) (count given + together row_end named + 1)
         (λ vs1 world2. call_callee context.program.host vs1 world2) (λ c. refl)
-        (λ vs1 world2. callee_asks context.program.host vs1 world2)
+        (λ vs1 world2. callee_asks _ context.program.host vs1 world2)
         run s _ vs stack world1 long (here_kept setting run s k1 d) is.1.0 h1)
     step_runs (item a) run s l pc v stack w d is h =
         expr_runs a run s l pc (v ∷ stack) w d is.0
         (bind_then context (told s) w (eval u run a w) _ _ _ (eval_gives u (nest_ends setting) again_kept run a w) h (λ k world1 e h1.
         at context i.GetItem s _ (k ∷ v ∷ stack) world1 is.1.0 (after_then context (told s) (tick world1) _
-        (bind_then context (told s) world1 (tick world1) _ _ _ (tick_gives _ world1) h1 (λ _ world2 e2 h2.
+        (bind_then context (told s) world1 (tick world1) _ _ _ (tick_gives _ _ world1) h1 (λ _ world2 e2 h2.
         pushes context s _ stack (k ∷ v ∷ stack) world2 (item_at context.program.host v k world2) h2)))))
     step_runs (slice a b c) run s l pc v stack w d is h =
         expr_runs a run s l pc (v ∷ stack) w d is.0
@@ -358,7 +361,7 @@ module _ (setting : Setting) where
         (bind_then context (told s) world2 (eval u run c world2) _ _ _ (eval_gives u (nest_ends setting) again_kept run c world2) h2
         (λ z world3 k3 h3.
         at context i.Slice s _ (z ∷ y ∷ x ∷ v ∷ stack) world3 is.1.1.1.0 (after_then context (told s) (tick world3) _
-        (bind_then context (told s) world3 (tick world3) _ _ _ (tick_gives _ world3) h3 (λ _ world4 k4 h4.
+        (bind_then context (told s) world3 (tick world3) _ _ _ (tick_gives _ _ world3) h3 (λ _ world4 k4 h4.
         pushes context s _ stack (z ∷ y ∷ x ∷ v ∷ stack) world4 (slice_of context.program.host v x y z world4) h4)))))))))
     step_runs (binary op a) run s l pc v stack w d is h =
         expr_runs a run s l pc (v ∷ stack) w d is.0
@@ -372,9 +375,9 @@ module _ (setting : Setting) where
         links_run op cs run s (outward (jump + 1) l) pc1 jump v y stack world1 (here_kept setting run s k d) is.1.0 refl is.1.1 is.1.2 h1))
     step_runs (and_then a) run s l pc v stack w d is h =
         at context _ s pc (v ∷ stack) w is.0
-        (after_then context (told s) (tick w) _ (bind_then context (told s) w (tick w) _ _ _ (tick_gives _ w) h (λ _ world1 k h1.
+        (after_then context (told s) (tick w) _ (bind_then context (told s) w (tick w) _ _ _ (tick_gives _ _ w) h (λ _ world1 k h1.
         after_then context (told s) (truth context.program.host v world1) _
-        (bind_then context (told s) world1 (truth context.program.host v world1) _ _ _ (truth_gives context.program.host v world1) h1
+        (bind_then context (told s) world1 (truth context.program.host v world1) _ _ _ (truth_gives _ context.program.host v world1) h1
         (λ b world2 k2 h2.
         choose_then context b (eval u run a world2) (Good v world2) _ _ (told s) _ h2
         (λ h3. silent context (told s) _ (expr_runs a run s _ (pc + 1) stack world2
@@ -382,9 +385,9 @@ module _ (setting : Setting) where
         (λ g. silent context (told s) _ g))))))
     step_runs (or_else a) run s l pc v stack w d is h =
         at context _ s pc (v ∷ stack) w is.0
-        (after_then context (told s) (tick w) _ (bind_then context (told s) w (tick w) _ _ _ (tick_gives _ w) h (λ _ world1 k h1.
+        (after_then context (told s) (tick w) _ (bind_then context (told s) w (tick w) _ _ _ (tick_gives _ _ w) h (λ _ world1 k h1.
         after_then context (told s) (truth context.program.host v world1) _
-        (bind_then context (told s) world1 (truth context.program.host v world1) _ _ _ (truth_gives context.program.host v world1) h1
+        (bind_then context (told s) world1 (truth context.program.host v world1) _ _ _ (truth_gives _ context.program.host v world1) h1
         (λ b world2 k2 h2.
         choose_then context b (Good v world2) (eval u run a world2) _ _ (told s) _ h2
         (λ g. silent context (told s) _ g)
@@ -400,24 +403,24 @@ module _ (setting : Setting) where
         Go context s pc (y ∷ x ∷ stack) w
     links_run op no_comparison run s l pc jump x y stack w d is place over_drop drop h =
         binary_then setting op s pc x y stack w is
-        (follows_bind context (told s) (tick w) _ _ (bind_then context (told s) w (tick w) _ _ _ (tick_gives _ w) h (λ _ world1 k h1.
+        (follows_bind context (told s) (tick w) _ _ (bind_then context (told s) w (tick w) _ _ _ (tick_gives _ _ w) h (λ _ world1 k h1.
         bind_then context (told s) world1 (applied_binary context.program.host op x y world1) _ _ _
-        (binary_gives context.program.host op x y world1) h1 (λ v world2 k2 h2.
+        (binary_gives _ context.program.host op x y world1) h1 (λ v world2 k2 h2.
         move context s _ _ (v ∷ stack) world2 place
         (at context _ s jump (v ∷ stack) world2 over_drop (after_then context (told s) (tick world2) _
-        (bind_then context (told s) world2 (tick world2) _ _ _ (tick_gives _ world2) h2
+        (bind_then context (told s) world2 (tick world2) _ _ _ (tick_gives _ _ world2) h2
         (λ _ world3 k3 g. silent context (told s) _ g))))))))
     links_run op (with_comparison op1 a more) run s l pc jump x y stack w d is place over_drop drop h =
         at context (i.CompareAndPreserve op) s pc (y ∷ x ∷ stack) w is.0.0 (after_then context (told s) (tick w) _
-        (bind_then context (told s) w (tick w) _ _ _ (tick_gives _ w) h (λ _ world1 k1 h1.
+        (bind_then context (told s) w (tick w) _ _ _ (tick_gives _ _ w) h (λ _ world1 k1 h1.
         after_then context (told s) (operated context.program.host op x y world1) _
         (bind_then context (told s) world1 (operated context.program.host op x y world1) _ _ _
-        (operated_gives context.program.host op x y world1) h1 (λ v world2 k2 h2.
+        (operated_gives _ context.program.host op x y world1) h1 (λ v world2 k2 h2.
         silent context (told s) _ (at context _ s (pc + 1) (v ∷ y ∷ stack) world2 is.1.0
-        (after_then context (told s) (tick world2) _ (bind_then context (told s) world2 (tick world2) _ _ _ (tick_gives _ world2) h2
+        (after_then context (told s) (tick world2) _ (bind_then context (told s) world2 (tick world2) _ _ _ (tick_gives _ _ world2) h2
         (λ _ world3 k3 h3.
         after_then context (told s) (truth context.program.host v world3) _
-        (bind_then context (told s) world3 (truth context.program.host v world3) _ _ _ (truth_gives context.program.host v world3) h3
+        (bind_then context (told s) world3 (truth context.program.host v world3) _ _ _ (truth_gives _ context.program.host v world3) h3
         (λ b world4 k4 h4.
         let deep4 = here_kept setting run s k4 (here_kept setting run s k3 (here_kept setting run s k2 (here_kept setting run s k1 d))) in
         choose_then context b (bind (eval u run a world4) (λ z world5. eval_links u run op1 more y z world5))

@@ -89,9 +89,9 @@ module _ (setting : Setting) where
       (use_then context s.bed w (eval u (as_at run s) e w) (as_at run s) s.out _ D L N _
       (eval_gives u (nest_ends setting) again_kept (as_at run s) e w) h (λ v world1 k1 h1.
       does _ v world1 is.1.0 (after_then context (told s) (tick world1) _
-      (use_then context s.bed world1 (tick world1) (as_at run s) s.out _ D L N _ (tick_gives _ world1) h1 (λ _ world2 k2 h2.
+      (use_then context s.bed world1 (tick world1) (as_at run s) s.out _ D L N _ (tick_gives _ _ world1) h1 (λ _ world2 k2 h2.
       placed_then setting run s _ stack (v ∷ stack) world2 world2 (enter_include context.program.host apart v missing world2) D L N fits.2
-      (include_asks context.program.host apart v missing world2) (deep_kept setting run s k2 (deep_kept setting run s k1 d)) h2 g)))))
+      (include_asks _ context.program.host apart v missing world2) (deep_kept setting run s k2 (deep_kept setting run s k1 d)) h2 g)))))
 
   -- ---------------------------------------------------------------- what is heard of it
   begins_then : (heard : Bool) (s : Spot) (pc : ℕ) (stack : List Val) (w : World) →
@@ -106,7 +106,8 @@ module _ (setting : Setting) where
       slice_get (context.program.code s.run.stream) pc ≡ Some (i.BeginCapture (mode_of heard)) →
       In setting s l (pc + 1) (included_code e) →
       Follows context (told s) (bind (included u (capturing heard (as_at run s)) e w) g) K →
-      ((x : List ℕ) (world1 : World) → Kept (within blank w) world1 → Follows context (told s) (g x world1) K →
+      ((x : List ℕ) (world1 : World) → nat_lt (depth w.scopes) context.program.host.limit ≡ true → Kept (within blank w) world1 →
+      Follows context (told s) (g x world1) K →
       Go context (later (captured_at heard s) s.parent x) (beyond (pc + 1) (included_code e)) stack world1) → Go context s pc stack w
   included_runs heard e run s l pc stack w g K d begins is h k =
       let host = context.program.host in
@@ -131,7 +132,7 @@ module _ (setting : Setting) where
       (λ q out world1 k1 t. (k1, t)))
       (λ q out world1 t.
       subst (λ p. Go context (later inner p out) (beyond (pc + 1) (included_code e)) stack world1) (sym t.1.0)
-      (k out world1 t.0 t.1.1)))))))
+      (k out world1 room t.0 t.1.1)))))))
 
   -- ---------------------------------------------------------------- imports
   -- the scope of a template that was included is left
@@ -149,10 +150,10 @@ module _ (setting : Setting) where
       Go context s pc stack w
   import_runs e t run s l pc stack w d is h =
       let after = beyond (pc + 1) (included_code e) in
-      included_runs true e run s l pc stack w _ _ d is.0.0 is.1.0 h (λ x world1 k1 h1.
+      included_runs true e run s l pc stack w _ _ d is.0.0 is.1.0 h (λ x world1 room k1 h1.
       at context i.EndCapture (later (captured_at true s) s.parent x) after stack world1 is.1.1.0.0
       (after_then context (told s) (tick world1) _
-      (bind_then context (told s) world1 (tick world1) _ _ _ (tick_gives _ world1) h1 (λ _ world2 k2 h2.
+      (bind_then context (told s) world1 (tick world1) _ _ _ (tick_gives _ _ world1) h1 (λ _ world2 k2 h2.
       let m = module_of world2 x in
       let k = kept_then k1 k2 in
       capture_ended_then setting true s s.parent x after stack world2 (omega (arith, d.1.1))
@@ -163,26 +164,28 @@ module _ (setting : Setting) where
 
   -- Names are looked up, the scope is left, and the values are given to names where the code of that stands.
   names_run : (xs : List Imported) (s : Spot) (l : Labels) (stores pc : ℕ) (stack : List Val) (w0 w : World) →
-      context.base.scopes ≤ length w0.scopes.frames → Kept (within blank w0) w → In setting s l pc (lookups_code xs) →
+      context.base.scopes ≤ length w0.scopes.frames → nat_lt (depth w0.scopes) context.program.host.limit ≡ true →
+      Kept (within blank w0) w → In setting s l pc (lookups_code xs) →
       slice_get (context.program.code s.run.stream) (beyond pc (lookups_code xs)) ≡ Some i.PopFrame →
       stores ≡ beyond pc (lookups_code xs) + 1 → In setting s l stores (stores_code xs) →
       Follows context (told s) (give_each context.program.host xs w)
       (λ _ world1. Go context s (beyond stores (stores_code xs)) stack world1) → Go context s pc stack w
-  names_run [] s l stores pc stack w0 w stands k is pops follows given h =
+  names_run [] s l stores pc stack w0 w stands room k is pops follows given h =
       left_then s pc stack w0 w stands k pops (subst (λ n. Go context s n stack (pop w)) follows h)
-  names_run (x ∷ xs) s l stores pc stack w0 w stands k is pops follows given h =
+  names_run (x ∷ xs) s l stores pc stack w0 w stands room k is pops follows given h =
       let host = context.program.host in
       at context (i.Lookup x.name) s pc stack w is.0.0 (after_then context (told s) (tick w) _
-      (bind_then context (told s) w (tick w) _ _ _ (tick_gives _ w) h (λ _ world1 k1 h1.
+      (bind_then context (told s) w (tick w) _ _ _ (tick_gives _ _ w) h (λ _ world1 k1 h1.
       after_then context (told s) (looked_up host x.name world1) _
-      (bind_then context (told s) world1 (looked_up host x.name world1) _ _ _ (looked_up_gives host x.name world1) h1 (λ v world2 k2 h2.
+      (bind_then context (told s) world1 (looked_up host x.name world1) _ _ _ (looked_up_gives _ host x.name world1) h1 (λ v world2 k2 h2.
       let k3 = kept_then k (kept_then k1 k2) in
       silent context (told s) _
-      (names_run xs s l stores (pc + 1) (v ∷ stack) w0 world2 stands k3 is.1 pops follows given.0
-      (bind_then context (told s) w0 (give_each host xs world2) _ _ _ (give_each_gives host blank w0 xs world2 k3) h2 (λ _ world3 k4 h3.
+      (names_run xs s l stores (pc + 1) (v ∷ stack) w0 world2 stands room k3 is.1 pops follows given.0
+      (bind_then context (told s) w0 (give_each host xs world2) _ _ _ (give_each_gives host blank w0 room xs world2 k3) h2
+      (λ _ world3 k4 h3.
       at context (i.StoreLocal x.target) s (beyond stores (stores_code xs)) (v ∷ stack) world3 given.1.0
       (after_then context (told s) (tick world3) _
-      (bind_then context (told s) world3 (tick world3) _ _ _ (tick_gives _ world3) h3 (λ _ world4 k5 h4.
+      (bind_then context (told s) world3 (tick world3) _ _ _ (tick_gives _ _ world3) h3 (λ _ world4 k5 h4.
       silent context (told s) _ h4)))))))))))
 
   pub import_names_run : (e : Expr) (xs : List Imported) (run : Run) (s : Spot) (l : Labels) (pc : ℕ) (stack : List Val) (w : World) →
@@ -197,10 +200,10 @@ module _ (setting : Setting) where
       let after = beyond (pc + 1) (included_code e) in
       let stores = beyond after (lookups_code xs) + 1 in
       let last = beyond stores (stores_code xs) in
-      included_runs false e run s l pc stack w _ _ d is.0.0 is.1.0 h (λ x world1 k1 h1.
+      included_runs false e run s l pc stack w _ _ d is.0.0 is.1.0 h (λ x world1 room k1 h1.
       let inner = later (captured_at false s) s.parent x in
-      names_run xs inner l stores after stack w world1 d.0.scopes k1 is.1.1.0 is.1.1.1.0.0 refl is.1.1.1.1.0
-      (bind_then context (told s) w (give_each host xs world1) _ _ _ (give_each_gives host blank w xs world1 k1) h1 (λ _ world2 k2 h2.
+      names_run xs inner l stores after stack w world1 d.0.scopes room k1 is.1.1.0 is.1.1.1.0.0 refl is.1.1.1.1.0
+      (bind_then context (told s) w (give_each host xs world1) _ _ _ (give_each_gives host blank w room xs world1 k1) h1 (λ _ world2 k2 h2.
       at context i.EndCapture inner last stack world2 is.1.1.1.1.1.0 (after_then context (told s) (tick world2) _
       (follows_map context (told s) (tick world2) _ _ h2 (λ _ world3 g.
       capture_ended_then setting false s s.parent x last stack world3 (omega (arith, d.1.1))

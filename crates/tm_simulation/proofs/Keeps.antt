@@ -21,17 +21,19 @@ use Rattle.tm_syntax.specs.declared.tree.Imported.{Imported}
 use Rattle.tm_meaning.specs.Runs.{chain_of, macro_body, macro_run, stream_run, restarting, run_of, failed}
 use Rattle.tm_meaning.specs.Inheritance.{names_left, place_in}
 use Rattle.tm_simulation.specs.Kept.{UnlessFault, Stays, OnlyAdds, EndsThere, PutsBack, GivesBack, LeavesScopes, bare}
+use Rattle.tm_simulation.specs.Kept.{Differs, in_names, in_closure_too}
 use Rattle.tm_meaning.specs.declared.stream.TemplateId.{TemplateId}
 use Rattle.tm_meaning.specs.declared.stream.StreamId.{StreamId}
 use Rattle.tm_simulation.specs.Chains.{Arises, IfAny}
-use Rattle.tm_simulation.proofs.Advances.{Kept, advances_then, kept_same, kept_then}
+use Rattle.tm_simulation.proofs.Advances.{Kept, advances_then, kept_advances, kept_same, kept_then}
 use Rattle.tm_simulation.proofs.RunAdvances.{in_stream, undone_scopes, undone_kept, super_undone_scopes}
 use Rattle.tm_simulation.proofs.Advances.{own_bare}
-use Rattle.tm_simulation.proofs.RunAdvances.{include_undone_bare, include_undone_scopes}
+use Rattle.tm_simulation.proofs.RunAdvances.{include_undone_but, include_undone_scopes}
 use Rattle.tm_simulation.proofs.Parents.{blocks_same}
-use Rattle.tm_simulation.proofs.Gives.{Gives, RunEnds, run_ends, run_ends_by, run_ends_from, run_ends_after, run_ends_as, ends_advance}
-use Rattle.tm_simulation.proofs.Gives.{EndingKeeps, OutcomeKeeps, ends_as, ends_from, ends_parents, parents_left, parents_kept}
-use Rattle.tm_simulation.proofs.Gives.{parents_advance, refused_arises, tick_gives}
+use Rattle.tm_simulation.proofs.Gives.{GivesBut, Gives, RunEnds, run_ends, run_ends_by, run_ends_from, run_ends_after, run_ends_as}
+use Rattle.tm_simulation.proofs.Gives.{ends_advance}
+use Rattle.tm_simulation.proofs.Gives.{EndingKeeps, OutcomeKeepsBut, OutcomeKeeps, ends_as, ends_from, ends_parents, parents_left}
+use Rattle.tm_simulation.proofs.Gives.{parents_last, refused_arises, tick_gives}
 use Rattle.tm_simulation.proofs.Gives.{ends_refused, ends_use, choose_ends}
 use Rattle.tm_simulation.proofs.Asks.{in_block, block_asks_by, in_super, super_asks_by, include_asks_by}
 use Rattle.tm_simulation.proofs.Evaluates.{eval_gives}
@@ -41,17 +43,17 @@ use Rattle.tm_simulation.proofs.Executes.{execs_end, called_end, body_ends}
 done_by_ends : (host : HostValue) {q : Option TemplateId} (w world1 : World) (m : Res (Unit {0})) (o : Outcome) → Kept w world1 →
     Gives host world1 m → parents_left host o.parent world1 ≤ parents_left host q w → OutcomeKeeps host q w (done_by m o)
 done_by_ends host w world1 (Good _ world2) o h k p =
-    ends_from host w (record o { ending = done []; world = world2 }) (kept_then h k) (omega (arith, p, parents_kept host o.parent k))
+    ends_from host w (record o { ending = done []; world = world2 }) (kept_then h k) (omega (arith, p, parents_last host o.parent k.lasts))
 done_by_ends host w world1 (Bad chain world2) o h k p =
-    ends_from host w (record o { ending = fault chain; world = world2 }) (advances_then h.advances k.0, k.1)
-    (omega (arith, p, parents_advance host o.parent k.0))
+    ends_from host w (record o { ending = fault chain; world = world2 }) (advances_then (kept_advances h) k.0, k.1)
+    (omega (arith, p, parents_last host o.parent k.0.lasts))
 
 at_end_by : (host : HostValue) {q : Option TemplateId} (w : World) (e : Ending) (parent : Option TemplateId) (out : List ℕ)
     (world1 : World) → EndingKeeps host w e world1 → parents_left host parent world1 ≤ parents_left host q w →
     OutcomeKeeps host q w (at_end e (record { ending = e; parent = parent; text = out; world = world1 }))
 at_end_by host w (done vs) parent out world1 h p = ends_from host w _ h p
-at_end_by host w leave parent out world1 h p = done_by_ends host w world1 (tick world1) _ h (tick_gives host world1) p
-at_end_by host w next parent out world1 h p = done_by_ends host w world1 (tick world1) _ h (tick_gives host world1) p
+at_end_by host w leave parent out world1 h p = done_by_ends host w world1 (tick world1) _ h (tick_gives _ host world1) p
+at_end_by host w next parent out world1 h p = done_by_ends host w world1 (tick world1) _ h (tick_gives _ host world1) p
 at_end_by host w (fault chain) parent out world1 h p = ends_from host w _ h p
 
 at_end_ends : (host : HostValue) {q : Option TemplateId} (w : World) (o : Outcome) → OutcomeKeeps host q w o →
@@ -67,10 +69,10 @@ there_after w v t o h (inr (inl e)) = inr (t, e)
 there_after w v t o h (inr (inr r)) = inr r
 
 -- Loops that are called end so, where what nests does.
-pub again_end : (host : HostValue) (nests : Nests)
+pub again_end : {i : Differs} (host : HostValue) (nests : Nests)
     (nest_ends : (k : Callee) (heard : Bool) (out : List ℕ) (w : World) → RunEnds host w (nests k heard out w))
     (tree : StreamTree) (level n : ℕ) (items : List Val) (run : Run) (out : List ℕ) (w : World) →
-    OutcomeKeeps host run.parent w (again_of host nests tree level n items run out w)
+    OutcomeKeepsBut i host run.parent w (again_of host nests tree level n items run out w)
 again_end host nests nest_ends tree zero n items run out w = ends_refused host w run out InvalidOperation refl
 again_end host nests nest_ends tree (suc k) n items run out w =
     called_end (over host nests (again_of host nests tree k)) nest_ends (again_end host nests nest_ends tree k)
@@ -252,7 +254,7 @@ entered_puts_back u run b out w stream ends =
     let o = u.nests (whole stream) (audible run) out (in_block stream b w) in
     let began = in_stream o.world.stream (in_block stream b w) in
     let l = ends_advance u.host began o.ending o.world (run_ends_as u.host (in_block stream b w) o ends) in
-    let k = (undone_kept (plain_scope (undefined false)) stream (Some b) w o.world l).advances.lasts in
+    let k = (undone_kept {i = in_closure_too} (plain_scope (undefined false)) stream (Some b) w o.world l).lasts in
     subst (PutsBack w) (sym (after_world o.ending c run o)) (record {
       same_scopes = undone_scopes (plain_scope (undefined false)) stream (Some b) w o.world l;
       same_stream = refl;
@@ -324,7 +326,7 @@ included_gives_back apart u run out w t ends =
     let began = in_template u.host apart t w in
     let o = u.nests (whole (root_of t)) (audible run) out began in
     let h = ends_advance u.host (in_stream o.world.stream began) o.ending o.world (run_ends_as u.host began o ends) in
-    let same = include_undone_bare apart (include_depth + w.scopes.outer) (root_of t) (template_at u.host t).escape
+    let same = include_undone_but in_closure_too apart (include_depth + w.scopes.outer) (root_of t) (template_at u.host t).escape
     (own_blocks t (template_at u.host t).blocks) w o.world h in
     subst (GivesBack w) (sym (after_world o.ending c run o)) (record {
       same_scopes = same;
@@ -371,8 +373,8 @@ include_keeps_scopes host trees n tree run out v missing w =
     v missing
 
 -- ---------------------------------------------------------------- what an import leaves
-leaves_scopes : (host : HostValue) {A : Type 0} (w : World) (m : Res A) → Gives host w m → LeavesScopes w m
-leaves_scopes host w (Good a world1) h = (h.same_scopes, h.advances.outer)
+leaves_scopes : (host : HostValue) {A : Type 0} (w : World) (m : Res A) → GivesBut in_names host w m → LeavesScopes w m
+leaves_scopes host w (Good a world1) h = (h.same_scopes, h.outer)
 leaves_scopes host w (Bad chain world1) h = (h.0.scopes, h.0.outer)
 
 pub import_leaves : (host : HostValue) (trees : Trees) (n : ℕ) (tree : StreamTree) (run : Run) (e : Expr) (t : AssignmentTarget) (w : World) →

@@ -11,7 +11,7 @@ use Rattle.tm_meaning.specs.Calls.{whole}
 use Rattle.tm_meaning.specs.Tree.{StreamTree, expression, Trees}
 use Rattle.tm_meaning.specs.Meaning.{Run, Outcome, Nests, eval}
 use Rattle.tm_meaning.specs.Runs.{under, failed, new_run, leaving, stream_run, restarting, run_of}
-use Rattle.tm_meaning.specs.Runs.{nests_of, rendered, evaluated, value_left}
+use Rattle.tm_meaning.specs.Runs.{nests_of, evaluated, value_left}
 
 -- no parent waits after it
 no_parent : (m : Res Val) (heard : Bool) (w : World) (out : List ℕ) (f : TemplateId → Outcome) →

@@ -11,6 +11,7 @@ pub mod Includes
 pub mod Executes
 pub mod Keeps
 pub mod Called
+pub mod Depths
 pub mod Leaves
 pub mod Chains
 pub mod Loops

@@ -35,7 +35,7 @@ answer_does Holds w (Err chain) g h k = h chain refl
 -- A parent that is given keeps the world, and where it waits no more may be asked for than before; a fault arises.
 abbrev pub LoadGives : HostValue → Option TemplateId → World → Res TemplateId → Type 0
 LoadGives host q w (Good t world1) = Kept w world1 × (parents_left host (Some t) world1 ≤ parents_left host q w)
-LoadGives host q w (Bad chain world1) = Advances w world1 × Arises host chain
+LoadGives host q w (Bad chain world1) = Advances host w world1 × Arises host chain
 
 pub not_true : (b : Bool) → not b ≡ true → b ≡ false
 not_true true h = absurd (cc h)

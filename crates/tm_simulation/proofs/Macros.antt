@@ -63,19 +63,19 @@ module _ (setting : Setting) where
       (λ v world1. Go context s (beyond_all pc (building xs m place)) (v ∷ stack) world1) → Go context s pc stack w
   building_runs [] m nth s pc place stack w is entry h =
       at context i.GetClosure s pc stack w is.0 (after_then context (told s) (tick w) _
-      (bind_then context (told s) w (tick w) _ _ _ (tick_gives _ w) h (λ _ world1 k1 h1.
+      (bind_then context (told s) w (tick w) _ _ _ (tick_gives _ _ w) h (λ _ world1 k1 h1.
       let o = own_closure world1.scopes.frames in
       silent context (told s) _
       (at context (i.LoadConst (name_list m.parameters)) s (pc + 1) (closure_value o ∷ stack) world1 is.1.0
       (after_then context (told s) (tick world1) _
-      (bind_then context (told s) world1 (tick world1) _ _ _ (tick_gives _ world1) h1 (λ _ world2 k2 h2.
+      (bind_then context (told s) world1 (tick world1) _ _ _ (tick_gives _ _ world1) h1 (λ _ world2 k2 h2.
       silent context (told s) _
       (at context (i.BuildMacro m.name place m.caller) s (pc + 1 + 1) (name_list m.parameters ∷ closure_value o ∷ stack) world2 is.1.1.0
       (subst (λ next. LeadsToEnd context (told s) next)
       (sym (built_is m place nth o s (pc + 1 + 1) stack world2 entry)) (silent context (told s) _ h2))))))))))
   building_runs (x ∷ xs) m nth s pc place stack w is entry h =
       at context (i.Enclose x) s pc stack w is.0 (after_then context (told s) (tick w) _
-      (bind_then context (told s) w (tick w) _ _ _ (tick_gives _ w) (bound_twice context (told s) (tick w) _ _ _ h) (λ _ world1 k1 h1.
+      (bind_then context (told s) w (tick w) _ _ _ (tick_gives _ _ w) (bound_twice context (told s) (tick w) _ _ _ h) (λ _ world1 k1 h1.
       after_then context (told s) (enclose context.program.host x world1) _
       (bind_then context (told s) world1 (enclose context.program.host x world1) _ _ _ (enclose_gives context.program.host x world1)
       (bound_twice context (told s) (enclose context.program.host x world1) _ _ _ h1) (λ _ world2 k2 h2.
@@ -89,7 +89,7 @@ module _ (setting : Setting) where
   declared_then m c nth s l pc stack w is entry h =
       let end = beyond (pc + 1) c in
       at context (i.Jump (end + 1)) s pc stack w is.0 (after_then context (told s) (tick w) _
-      (bind_then context (told s) w (tick w) _ _ _ (tick_gives _ w) h (λ _ world1 k1 h1.
+      (bind_then context (told s) w (tick w) _ _ _ (tick_gives _ _ w) h (λ _ world1 k1 h1.
       silent context (told s) _ (building_runs m.free m nth s (end + 1) (pc + 1) stack world1 is.2.1 entry h1))))
 
   -- ---------------------------------------------------------------- parameters
@@ -103,11 +103,11 @@ module _ (setting : Setting) where
       let to = beyond (pc + 1 + 1 + 1 + 1) (expr_code e) in
       at context i.DupTop s pc (v ∷ stack) w is.0.0 (silent context (told s) _
       (at context i.IsUndefined s (pc + 1) (v ∷ v ∷ stack) w is.0.1.0 (after_then context (told s) (tick w) _
-      (bind_then context (told s) w (tick w) _ _ _ (tick_gives _ w) h (λ _ world1 k1 h1.
+      (bind_then context (told s) w (tick w) _ _ _ (tick_gives _ _ w) h (λ _ world1 k1 h1.
       silent context (told s) _
       (at context (i.JumpIfFalse to) s (pc + 1 + 1) (boolean (is_undefined v) ∷ v ∷ stack) world1 is.1.0
       (after_then context (told s) (tick world1) _
-      (bind_then context (told s) world1 (tick world1) _ _ _ (tick_gives _ world1) h1 (λ _ world2 k2 h2.
+      (bind_then context (told s) world1 (tick world1) _ _ _ (tick_gives _ _ world1) h1 (λ _ world2 k2 h2.
       choose_then context (is_undefined v) _ _ _ _ (told s) _ h2
       (λ h3. silent context (told s) _
       (at context i.DiscardTop s (pc + 1 + 1 + 1) (v ∷ stack) world2 is.1.1.0.0 (silent context (told s) _

@@ -1,7 +1,7 @@
 -- Renders and nested runs, over any captures and with cache numbers.
 use Rattle.std.proofs.Common.{◌≡◌, ◌≤◌, ℕ, suc, List, [], ◌∷◌, Bool}
 use Rattle.std.proofs.Common.{true, refl, sym, ap, ◌∙◌, subst}
-use Rattle.tm_syntax.specs.Fragments.{Fragment, whole_labels}
+use Rattle.tm_syntax.specs.Fragments.{whole_labels}
 use Rattle.tm_syntax.specs.Blocks.{fragment_of}
 use Rattle.tm_meaning.specs.World.{HostValue, World}
 use Rattle.tm_meaning.specs.Calls.{Callee, whole}

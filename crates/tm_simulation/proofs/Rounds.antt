@@ -148,7 +148,7 @@ module _ (setting : Setting) where
   rounds_run o g t numbers body l pc rest part items [] run s stack w x r D L N fits d k e left is nth over_it h =
       let end = end_at pc (round_code t body) in
       at context (i.Iterate end) (looped o s) (pc + 1) stack x is.1 (after_then context (told s) (tick x) _
-      (use_then context s.bed x (tick x) (as_at run s) s.out _ D L N _ (tick_gives _ x) h (λ _ world1 k1 h1.
+      (use_then context s.bed x (tick x) (as_at run s) s.out _ D L N _ (tick_gives _ _ x) h (λ _ world1 k1 h1.
       let kept = kept_then k k1 in
       let record1 = kept_record k1 (length w.loops) r e in
       subst (λ n. LeadsToEnd context (told s) n)
@@ -164,7 +164,7 @@ module _ (setting : Setting) where
       let inner = round_labels l pc (round_code t body) in
       let start = beyond (pc + 1 + 1) (target_code t) in
       at context (i.Iterate end) (looped o s) again stack x is.1 (after_then context (told s) (tick x) _
-      (use_then context s.bed x (tick x) (as_at run s) s.out _ D L N _ (tick_gives _ x) h (λ _ world1 k1 h1.
+      (use_then context s.bed x (tick x) (as_at run s) s.out _ D L N _ (tick_gives _ _ x) h (λ _ world1 k1 h1.
       let kept = kept_then k k1 in
       let record1 = kept_record k1 (length w.loops) r e in
       let y = cleared (next_turn world1) in
@@ -178,7 +178,7 @@ module _ (setting : Setting) where
       let nexts : Jumps setting again [] (looped o s) stack y DoneThen =
       λ q out1 z place kz none is1 g1.
       at context (i.Jump again) (later (looped o s) q out1) place stack z is1 (after_then context (told_by s.bed out1) (tick z) _
-      (use_then context s.bed z (tick z) (record run { parent = q }) out1 _ D L N _ (tick_gives _ z) g1 (λ _ z1 kz1 g2.
+      (use_then context s.bed z (tick z) (record run { parent = q }) out1 _ D L N _ (tick_gives _ _ z) g1 (λ _ z1 kz1 g2.
       silent context (told_by s.bed out1) _
       (rounds_run o g t numbers body l pc rest part items vs run (later s q out1) stack w z1 (turned r) D L N
       (stands_later context.base run s fits q out1) (deep_later setting run s (in_loop_of (for_flags false) w) q out1 d)
@@ -187,7 +187,7 @@ module _ (setting : Setting) where
       let leaves : Jumps setting end [] (looped o s) stack y LeaveThen =
       λ q out1 z place kz none is1 g1.
       at context (i.Jump end) (later (looped o s) q out1) place stack z is1 (after_then context (told_by s.bed out1) (tick z) _
-      (use_then context s.bed z (tick z) (record run { parent = q }) out1 _ D L N _ (tick_gives _ z) g1 (λ _ z1 kz1 g2.
+      (use_then context s.bed z (tick z) (record run { parent = q }) out1 _ D L N _ (tick_gives _ _ z) g1 (λ _ z1 kz1 g2.
       silent context (told_by s.bed out1) _
       (over_it q out1 z1 (turned r) (kept_then kept_y (kept_then kz kz1)) (kept_record (kept_then kz kz1) (length w.loops) (turned r)
       record_y) left_y.same (so_far_then context s.bed (record run { parent = q }) out1 (pop z1) D L N g2))))) in
@@ -228,7 +228,7 @@ module _ (setting : Setting) where
       let again = pc + 1 in
       let end = end_at pc (pass_round t c) in
       at context (i.Iterate end) (looped None s) again (number (pos n) ∷ below) x is.1
-      (after_then context (told s) (tick x) _ (bind_then context (told s) x (tick x) _ _ _ (tick_gives _ x) h (λ _ world1 k1 h1.
+      (after_then context (told s) (tick x) _ (bind_then context (told s) x (tick x) _ _ _ (tick_gives _ _ x) h (λ _ world1 k1 h1.
       let all_kept = kept_then k k1 in
       let record1 = kept_record k1 (length w.loops) l e in
       subst (λ a. LeadsToEnd context (told s) a)
@@ -247,7 +247,7 @@ module _ (setting : Setting) where
       let deep = here_within setting run s (loop_scope (mark_after pass_flags w)) w room d in
       let q = looped None s in
       at context (i.Iterate end) q again (count ∷ below) x is.1 (after_then context (told s) (tick x) _
-      (bind_then context (told s) x (tick x) _ _ _ (tick_gives _ x) h (λ _ world1 k1 h1.
+      (bind_then context (told s) x (tick x) _ _ _ (tick_gives _ _ x) h (λ _ world1 k1 h1.
       let all_kept = kept_then k k1 in
       let record1 = kept_record k1 (length w.loops) l e in
       let y = cleared (next_turn world1) in
@@ -266,33 +266,33 @@ module _ (setting : Setting) where
       (follows_map_kept context (told s) world2 (eval u run c world2) _ _ (eval_gives u (nest_ends setting) again_kept run c world2) h2
       (λ b world3 k3 h3.
       at context _ q test (b ∷ v ∷ count ∷ below) world3 taken_at.0 (after_then context (told s) (tick world3) _
-      (bind_then context (told s) world3 (tick world3) _ _ _ (tick_gives _ world3) h3 (λ _ world4 k4 h4.
+      (bind_then context (told s) world3 (tick world3) _ _ _ (tick_gives _ _ world3) h3 (λ _ world4 k4 h4.
       after_then context (told s) (truth context.program.host b world4) _ (bind_then context (told s) world4
-      (truth context.program.host b world4) _ _ _ (truth_gives context.program.host b world4) h4 (λ yes world5 k5 h5.
+      (truth context.program.host b world4) _ _ _ (truth_gives _ context.program.host b world4) h4 (λ yes world5 k5 h5.
       let kept5 = kept_then kept_y (kept_then k2 (kept_then k3 (kept_then k4 k5))) in
       let record5 : (z : World) → Kept world5 z → slice_get (shapes z.loops) (length w.loops) ≡ Some (turned l) = λ z kz. kept_record
       (kept_then k2 (kept_then k3 (kept_then k4 (kept_then k5 kz)))) (length w.loops) (turned l) record_y in
       choose_then context yes _ _ _ _ (told s) _ h5
       (λ h6. silent context (told s) _
       (at context i.Swap q (test + 1) (v ∷ count ∷ below) world5 taken_at.1.0.0
-      (after_then context (told s) (tick world5) _ (bind_then context (told s) world5 (tick world5) _ _ _ (tick_gives _ world5)
+      (after_then context (told s) (tick world5) _ (bind_then context (told s) world5 (tick world5) _ _ _ (tick_gives _ _ world5)
       (follows_map_kept context (told s) world5 (one_counted n world5) _ (λ _ z. Kept world5 z × Follows context (told s)
       (bind (tick z) (λ _ z1. bind (selected context.program.host (condition_of run t c) (n + 1) vs z1) (λ us z2. Good (v ∷ us) z2))) _)
-      (one_counted_gives _ n world5)
+      (one_counted_gives _ _ n world5)
       (bound_follows context (told s) (one_counted n world5) _ _ h6) (λ _ z kz hz. (kz, hz))) (λ _ world6 k6 h7.
       silent context (told s) _
       (at context (i.LoadConst (number (pos 1))) q (test + 1 + 1) (count ∷ v ∷ below) world6 taken_at.1.0.1.0
-      (after_then context (told s) (tick world6) _ (bind_then context (told s) world6 (tick world6) _ _ _ (tick_gives _ world6) h7
+      (after_then context (told s) (tick world6) _ (bind_then context (told s) world6 (tick world6) _ _ _ (tick_gives _ _ world6) h7
       (λ _ world7 k7 h8.
       silent context (told s) _
       (at context i.Add q (test + 1 + 1 + 1) (number (pos 1) ∷ count ∷ v ∷ below) world7 taken_at.1.0.1.1.0
-      (after_then context (told s) (tick world7) _ (bind_then context (told s) world7 (tick world7) _ _ _ (tick_gives _ world7) h8
+      (after_then context (told s) (tick world7) _ (bind_then context (told s) world7 (tick world7) _ _ _ (tick_gives _ _ world7) h8
       (λ _ world8 k8 h9.
       pushes context q (test + 1 + 1 + 1) (v ∷ below) (number (pos 1) ∷ count ∷ v ∷ below) world8
       (operated context.program.host binaries.Add count (number (pos 1)) world8)
       (one_more_then context (told s) n world8 _ (λ z world9. Go context q (test + 1 + 1 + 1 + 1) (z ∷ v ∷ below) world9) h9 (λ both.
       at context (i.Jump again) q (test + 1 + 1 + 1 + 1) (number (pos (n + 1)) ∷ v ∷ below) world8 taken_at.1.1
-      (after_then context (told s) (tick world8) _ (bind_then context (told s) world8 (tick world8) _ _ _ (tick_gives _ world8) both.1
+      (after_then context (told s) (tick world8) _ (bind_then context (told s) world8 (tick world8) _ _ _ (tick_gives _ _ world8) both.1
       (λ _ world9 k9 h10.
       silent context (told s) _
       (pass_runs t c labels pc items vs (n + 1) run s (v ∷ below) w world9 (turned l) d room (kept_then kept5 (kept_then both.0 k9))
@@ -303,7 +303,7 @@ module _ (setting : Setting) where
       (λ h6. silent context (told s) _
       (at context i.DiscardTop q _ (v ∷ count ∷ below) world5 is.2.1.1.1.1.0 (silent context (told s) _
       (at context (i.Jump again) q _ (count ∷ below) world5 is.3 (after_then context (told s) (tick world5) _
-      (bind_then context (told s) world5 (tick world5) _ _ _ (tick_gives _ world5) h6 (λ _ world6 k6 h7.
+      (bind_then context (told s) world5 (tick world5) _ _ _ (tick_gives _ _ world5) h6 (λ _ world6 k6 h7.
       silent context (told s) _
       (pass_runs t c labels pc items vs n run s below w world6 (turned l) d room (kept_then kept5 k6) (record5 world6 k6) left_y is
       h7))))))))))))))))))))))))
@@ -323,7 +323,7 @@ module _ (setting : Setting) where
       (bind_then context (told s) w (eval u run e w) _ _ _ (eval_gives u (nest_ends setting) again_kept run e w) h (λ v world1 k1 h1.
       at context (i.PushLoop (for_flags recursive)) s _ (v ∷ stack) world1 there
       (after_then context (told s) (items_over context.program.host v world1) _
-      (follows_map_kept context (told s) world1 (items_over context.program.host v world1) _ _ (items_give context.program.host v world1)
+      (follows_map_kept context (told s) world1 (items_over context.program.host v world1) _ _ (items_give _ context.program.host v world1)
       h1 (λ vs world2 k2 g. g (v ∷ stack))))))
   iterable_runs recursive numbers t e (Some c) run s l pc stack w d is there nth h =
       let all = context.program.code s.run.stream in
@@ -332,14 +332,14 @@ module _ (setting : Setting) where
       let pass_number : loops_before pc1 all ≡ numbers.loops =
       nth.1.1.0 ∙ ap (λ (m : Numbers). m.loops) (counted_none numbers (expr_code e) (expr_loopless e)) in
       at context (i.LoadConst (number (pos 0))) s pc stack w is.0.0 (after_then context (told s) (tick w) _
-      (bind_then context (told s) w (tick w) _ _ _ (tick_gives _ w) h (λ _ world1 k1 h1.
+      (bind_then context (told s) w (tick w) _ _ _ (tick_gives _ _ w) h (λ _ world1 k1 h1.
       silent context (told s) _
       (expr_runs setting e run s l (pc + 1) (number (pos 0) ∷ stack) world1 (here_kept setting run s k1 d) is.1.0
       (bind_then context (told s) world1 (eval u run e world1) _ _ _ (eval_gives u (nest_ends setting) again_kept run e world1) h1
       (λ v world2 k2 h2.
       at context (i.PushLoop pass_flags) s pc1 (v ∷ number (pos 0) ∷ stack) world2 is.1.1.0
       (after_then context (told s) (items_over context.program.host v world2) _
-      (bind_then context (told s) world2 (items_over context.program.host v world2) _ _ _ (items_give context.program.host v world2) h2
+      (bind_then context (told s) world2 (items_over context.program.host v world2) _ _ _ (items_give _ context.program.host v world2) h2
       (λ vs world3 k3 h3.
       let deep_last = here_kept setting run s k3 (here_kept setting run s k2 (here_kept setting run s k1 d)) in
       subst (λ m. LeadsToEnd context (told s) (after (open_loop context.program.host vs pass_flags m world3)
@@ -358,7 +358,7 @@ module _ (setting : Setting) where
       (bound_follows context (told s) (selected context.program.host (condition_of run t c) 0 vs (opened pass_flags numbers.loops world3 vs)) _
       _ h4) (λ us y h5 m em.
       at context (i.BuildList None) s build (number (pos m) ∷ onto us stack) y is.1.1.4.1.0
-      (after_then context (told s) (tick y) _ (bind_then context (told s) y (tick y) _ _ _ (tick_gives _ y) h5 (λ _ y1 k6 h6.
+      (after_then context (told s) (tick y) _ (bind_then context (told s) y (tick y) _ _ _ (tick_gives _ _ y) h5 (λ _ y1 k6 h6.
       built_then setting list_of_values s build m us stack y1 (omega (arith, em))
       (at context (i.PushLoop (for_flags recursive)) s (build + 1) (list_of_values us ∷ stack) y1 there
       (subst (λ zs. LeadsToEnd context (told s)

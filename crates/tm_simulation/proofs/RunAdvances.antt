@@ -13,7 +13,7 @@ use Rattle.tm_meaning.specs.Calls.{keeping_at, include_frames, is_changed, outer
 use Rattle.tm_meaning.specs.Calls.{scopes_after}
 use Rattle.tm_meaning.specs.declared.stream.TemplateId.{TemplateId}
 use Rattle.tm_meaning.specs.declared.mark.LoopMark.{LoopMark}
-use Rattle.tm_simulation.specs.Kept.{shape, shapes, bare}
+use Rattle.tm_simulation.specs.Kept.{shape, shapes, Differs, in_closure_too, but}
 use Rattle.tm_simulation.proofs.Parents.{blocks_same, blocks_after, names_same, count_fewer}
 use Rattle.tm_meaning.specs.Inheritance.{with_blocks, names_left}
 use Rattle.tm_meaning.specs.World.{HostValue, Template}
@@ -23,9 +23,9 @@ use Rattle.tm_syntax.specs.Named.{Named, name_cmp, put, put_each}
 use Rattle.std.specs.Ordering.{match_ordering}
 use Rattle.std.specs.declared.cmp.Ordering.{Ordering}
 use Rattle.std.specs.declared.cmp.Ordering.TheVariants.{Less, Equal, Greater}
-use Rattle.tm_simulation.proofs.Advances.{shapes_long, shapes_after, goes_on_same, lie_same, outermost_below, outermost_bare, Lasts}
-use Rattle.tm_simulation.proofs.Advances.{Advances, Kept, lasts_then, advances_then, lasts_anywhere, lasts_by_loops, kept_lasting}
-use Rattle.tm_simulation.proofs.Advances.{kept_top, own_bare, within, advances_within}
+use Rattle.tm_simulation.proofs.Advances.{shapes_long, shapes_after, goes_on_same, outermost_below, outermost_but, Lasts}
+use Rattle.tm_simulation.proofs.Advances.{AdvancesBut, Advances, KeptBut, lasts_then, lasts_anywhere, lasts_by_loops, kept_lasting}
+use Rattle.tm_simulation.proofs.Advances.{kept_top, kept_advances, own_bare, own_again, within, advances_over}
 
 -- ---------------------------------------------------------------- runs
 -- a world in another stream
@@ -33,31 +33,27 @@ abbrev pub in_stream : StreamId → World → World
 in_stream s w = record w { stream = s }
 
 -- what is kept in one stream is kept in another one
-pub kept_in : (s : StreamId) {w v : World} → Kept w v → Kept (in_stream s w) (in_stream s v)
+pub kept_in : {i : Differs} (s : StreamId) {w v : World} → KeptBut i w v → KeptBut i (in_stream s w) (in_stream s v)
 kept_in s {w = w} {v = v} h =
-    let a = h.advances in
-    let l = a.lasts in
+    let l = h.lasts in
     record {
-      advances = record {
-        lasts = record {
-          same_id = l.same_id;
-          same_fuel_set = l.same_fuel_set;
-          fuel = l.fuel;
-          loops = l.loops;
-          namespaces = l.namespaces;
-          closures = l.closures;
-          streams = l.streams;
-          temps = l.temps;
-          loaded = l.loaded;
-          blocks = l.blocks;
-          same_places = l.same_places;
-        };
-        scopes = a.scopes;
-        outer = a.outer;
-        same_stream = refl;
-        same_block = a.same_block;
+      lasts = record {
+        same_id = l.same_id;
+        same_fuel_set = l.same_fuel_set;
+        fuel = l.fuel;
+        loops = l.loops;
+        namespaces = l.namespaces;
+        closures = l.closures;
+        streams = l.streams;
+        temps = l.temps;
+        loaded = l.loaded;
+        blocks = l.blocks;
+        same_places = l.same_places;
       };
       same_scopes = h.same_scopes;
+      outer = h.outer;
+      same_stream = refl;
+      same_block = h.same_block;
       same_escape = h.same_escape;
     }
 
@@ -66,14 +62,16 @@ abbrev pub within_at : ℕ → Scope → World → World
 within_at outer s w = record w { scopes = record { frames = s ∷ w.scopes.frames; outer = outer } }
 
 -- A block's run, in whichever stream it ended: what is put back after it gives the very scopes before it, and all is kept.
-pub undone_scopes_at : (outer : ℕ) (s : Scope) (stream : StreamId) (block : Option (List ℕ)) (w v : World) →
-    Advances (in_stream v.stream (record (within_at outer s w) { stream = stream; block = block })) v →
+pub undone_scopes_at : {i : Differs} {host : HostValue} (outer : ℕ) (s : Scope) (stream : StreamId) (block : Option (List ℕ))
+    (w v : World) →
+    AdvancesBut i host (in_stream v.stream (record (within_at outer s w) { stream = stream; block = block })) v →
     (undone (of_block w) v).scopes ≡ w.scopes
-undone_scopes_at outer s stream block w v l =
-    ap (λ frames. record { frames = frames; outer = w.scopes.outer }) (outermost_below s w.scopes.frames v.scopes.frames l.scopes)
+undone_scopes_at {i = i} outer s stream block w v l =
+    ap (λ frames. record { frames = frames; outer = w.scopes.outer }) (outermost_below i s w.scopes.frames v.scopes.frames l.scopes)
 
-pub undone_at : (outer : ℕ) (s : Scope) (stream : StreamId) (block : Option (List ℕ)) (w v : World) →
-    Advances (in_stream v.stream (record (within_at outer s w) { stream = stream; block = block })) v → Kept w (undone (of_block w) v)
+pub undone_at : {i j : Differs} {host : HostValue} (outer : ℕ) (s : Scope) (stream : StreamId) (block : Option (List ℕ)) (w v : World) →
+    AdvancesBut j host (in_stream v.stream (record (within_at outer s w) { stream = stream; block = block })) v →
+    KeptBut i w (undone (of_block w) v)
 undone_at outer s stream block w v l =
     let inner : Scopes = record { frames = s ∷ w.scopes.frames; outer = outer } in
     let back : Scopes = record { frames = outermost (length w.scopes.frames) v.scopes.frames; outer = w.scopes.outer } in
@@ -82,23 +80,26 @@ undone_at outer s stream block w v l =
     (undone_scopes_at outer s stream block w v l) refl refl refl
 
 -- the same at the depth at which the scopes stand
-pub undone_scopes : (s : Scope) (stream : StreamId) (block : Option (List ℕ)) (w v : World) →
-    Advances (in_stream v.stream (record (within s w) { stream = stream; block = block })) v → (undone (of_block w) v).scopes ≡ w.scopes
+pub undone_scopes : {i : Differs} {host : HostValue} (s : Scope) (stream : StreamId) (block : Option (List ℕ)) (w v : World) →
+    AdvancesBut i host (in_stream v.stream (record (within s w) { stream = stream; block = block })) v →
+    (undone (of_block w) v).scopes ≡ w.scopes
 undone_scopes s stream block w v l = undone_scopes_at w.scopes.outer s stream block w v l
 
 -- the very scopes are there after a `super()` too
-pub super_undone_scopes : (s : Scope) (stream : StreamId) (places : Named ℕ) (w v : World) →
-    Advances (in_stream v.stream (record (within s w) { stream = stream; places = places })) v → (undone (of_super w) v).scopes ≡ w.scopes
-super_undone_scopes s stream places w v h =
-    ap (λ frames. record { frames = frames; outer = w.scopes.outer }) (outermost_below s w.scopes.frames v.scopes.frames h.scopes)
+pub super_undone_scopes : {i : Differs} {host : HostValue} (s : Scope) (stream : StreamId) (places : Named ℕ) (w v : World) →
+    AdvancesBut i host (in_stream v.stream (record (within s w) { stream = stream; places = places })) v →
+    (undone (of_super w) v).scopes ≡ w.scopes
+super_undone_scopes {i = i} s stream places w v h =
+    ap (λ frames. record { frames = frames; outer = w.scopes.outer }) (outermost_below i s w.scopes.frames v.scopes.frames h.scopes)
 
-pub undone_kept : (s : Scope) (stream : StreamId) (block : Option (List ℕ)) (w v : World) →
-    Advances (in_stream v.stream (record (within s w) { stream = stream; block = block })) v → Kept w (undone (of_block w) v)
+pub undone_kept : {i j : Differs} {host : HostValue} (s : Scope) (stream : StreamId) (block : Option (List ℕ)) (w v : World) →
+    AdvancesBut j host (in_stream v.stream (record (within s w) { stream = stream; block = block })) v → KeptBut i w (undone (of_block w) v)
 undone_kept s stream block w v l = undone_at w.scopes.outer s stream block w v l
 
 -- The same after a `super()`, in whose run the places were others.
-pub super_undone_kept : (s : Scope) (stream : StreamId) (places : Named ℕ) (w v : World) →
-    Advances (in_stream v.stream (record (within s w) { stream = stream; places = places })) v → Kept w (undone (of_super w) v)
+pub super_undone_kept : {i j : Differs} {host : HostValue} (s : Scope) (stream : StreamId) (places : Named ℕ) (w v : World) →
+    AdvancesBut j host (in_stream v.stream (record (within s w) { stream = stream; places = places })) v →
+    KeptBut i w (undone (of_super w) v)
 super_undone_kept s stream places w v h =
     let k = h.lasts in
     kept_lasting (record {
@@ -116,8 +117,8 @@ super_undone_kept s stream places w v h =
     }) (super_undone_scopes s stream places w v h) refl refl refl
 
 -- A parent is loaded.
-pub loading_kept : (x : List ℕ) (t : Template) (w : World) →
-    Kept w (record w { loaded = w.loaded ++ x ∷ []; blocks = with_blocks (entry x) t.blocks w.blocks })
+pub loading_kept : {i : Differs} (x : List ℕ) (t : Template) (w : World) →
+    KeptBut i w (record w { loaded = w.loaded ++ x ∷ []; blocks = with_blocks (entry x) t.blocks w.blocks })
 loading_kept x t w = kept_lasting (record {
   same_id = refl;
   same_fuel_set = refl;
@@ -133,9 +134,9 @@ loading_kept x t w = kept_lasting (record {
 }) refl refl refl refl
 
 -- No more names are left to be loaded.
-pub names_advance : (host : HostValue) {w v : World} → Advances w v → names_left host v ≤ names_left host w
-names_advance host {w = w} {v = v} h =
-    let loaded = h.lasts.loaded in
+pub names_last : (host : HostValue) {w v : World} → Lasts w v → names_left host v ≤ names_left host w
+names_last host {w = w} {v = v} h =
+    let loaded = h.loaded in
     subst (λ names. names_left host (record v { loaded = names }) ≤ names_left host w) (sym loaded.1)
     (count_fewer host.templates w.loaded loaded.0)
 
@@ -160,8 +161,9 @@ run_lasts scopes back stream block escape blocks places w v l = record {
 
 -- A macro's run, in whichever scopes, and whichever stream it ended: what is put back after it are the very scopes before it, and all is
 -- kept.
-pub macro_undone_kept : (scopes : Scopes) (stream : StreamId) (w v : World) →
-    Advances (in_stream v.stream (record w { scopes = scopes; stream = stream; block = None })) v → Kept w (undone (of_macro w) v)
+pub macro_undone_kept : {i j : Differs} {host : HostValue} (scopes : Scopes) (stream : StreamId) (w v : World) →
+    AdvancesBut j host (in_stream v.stream (record w { scopes = scopes; stream = stream; block = None })) v →
+    KeptBut i w (undone (of_macro w) v)
 macro_undone_kept scopes stream w v h =
     kept_lasting (run_lasts scopes w.scopes v.stream None w.escape w.blocks w.places w v h.lasts) refl refl refl refl
 
@@ -176,45 +178,42 @@ in_include apart outer stream escape blocks w = record w {
   places = [];
 }
 
-pub include_undone_bare : (apart : Bool) (outer : ℕ) (stream : StreamId) (escape : AutoEscape) (blocks : Named (List TemplateId))
-    (w v : World) → Advances (in_stream v.stream (in_include apart outer stream escape blocks w)) v →
-    bare (undone (of_include w) v).scopes.frames ≡ bare w.scopes.frames
-include_undone_bare true outer stream escape blocks w v h =
-    own_bare (own_closure w.scopes.frames) (outermost (length w.scopes.frames) v.scopes.frames)
-    ∙ ap bare (outermost_below (plain_scope (undefined false)) w.scopes.frames v.scopes.frames h.scopes)
-include_undone_bare false outer stream escape blocks w v h =
-    let lie = h.scopes in
-    own_bare (own_closure w.scopes.frames) (outermost (length w.scopes.frames) v.scopes.frames)
-    ∙ outermost_bare w.scopes.frames v.scopes.frames (lie.0, lie.1, lie.2, lie.3 ∙ own_bare None w.scopes.frames)
-
 owning_own : (frames : List Scope) → owning (own_closure frames) frames ≡ frames
 owning_own [] = refl
 owning_own (s ∷ ss) = refl
 
 -- after an include in a scope of its own the very scopes are there
-pub include_undone_scopes : (outer : ℕ) (stream : StreamId) (escape : AutoEscape) (blocks : Named (List TemplateId))
-    (w v : World) → Advances (in_stream v.stream (in_include true outer stream escape blocks w)) v →
-    (undone (of_include w) v).scopes ≡ w.scopes
-include_undone_scopes outer stream escape blocks w v h =
+pub include_undone_scopes : {i : Differs} {host : HostValue} (outer : ℕ) (stream : StreamId) (escape : AutoEscape)
+    (blocks : Named (List TemplateId)) (w v : World) →
+    AdvancesBut i host (in_stream v.stream (in_include true outer stream escape blocks w)) v → (undone (of_include w) v).scopes ≡ w.scopes
+include_undone_scopes {i = i} outer stream escape blocks w v h =
     ap (λ frames. record { frames = frames; outer = w.scopes.outer })
-    (ap (owning (own_closure w.scopes.frames)) (outermost_below (plain_scope (undefined false)) w.scopes.frames v.scopes.frames h.scopes)
+    (ap (owning (own_closure w.scopes.frames)) (outermost_below i (plain_scope (undefined false)) w.scopes.frames v.scopes.frames h.scopes)
     ∙ owning_own w.scopes.frames)
 
-pub include_undone_kept : (apart : Bool) (outer : ℕ) (stream : StreamId) (escape : AutoEscape) (blocks : Named (List TemplateId)) (w v : World) →
-    Advances (in_stream v.stream (in_include apart outer stream escape blocks w)) v → Kept w (undone (of_include w) v)
-include_undone_kept apart outer stream escape blocks w v h =
+pub include_undone_but : {host : HostValue} (i : Differs) (apart : Bool) (outer : ℕ) (stream : StreamId) (escape : AutoEscape)
+    (blocks : Named (List TemplateId)) (w v : World) →
+    Advances host (in_stream v.stream (in_include apart outer stream escape blocks w)) v →
+    but i (undone (of_include w) v).scopes.frames ≡ but i w.scopes.frames
+include_undone_but i true outer stream escape blocks w v h =
+    ap (λ (scopes : Scopes). but i scopes.frames) (include_undone_scopes outer stream escape blocks w v h)
+include_undone_but i false outer stream escape blocks w v h =
+    let lie = h.scopes in
+    own_again i w.scopes.frames (outermost (length w.scopes.frames) v.scopes.frames)
+    (outermost_but in_closure_too w.scopes.frames v.scopes.frames (lie.0, lie.1, lie.2, lie.3 ∙ own_bare None w.scopes.frames))
+
+pub include_undone_kept : {i : Differs} {host : HostValue} (apart : Bool) (outer : ℕ) (stream : StreamId) (escape : AutoEscape)
+    (blocks : Named (List TemplateId)) (w v : World) →
+    Advances host (in_stream v.stream (in_include apart outer stream escape blocks w)) v → KeptBut i w (undone (of_include w) v)
+include_undone_kept {i = i} apart outer stream escape blocks w v h =
     let inner : Scopes = record { frames = include_frames apart w.scopes.frames; outer = outer } in
     let back = scopes_after w.scopes v.scopes in
-    let same = include_undone_bare apart outer stream escape blocks w v h in
     record {
-      advances = record {
-        lasts = run_lasts inner back v.stream w.block escape blocks [] w v h.lasts;
-        scopes = lie_same w.scopes.frames back.frames same;
-        outer = refl;
-        same_stream = refl;
-        same_block = refl;
-      };
-      same_scopes = same;
+      lasts = run_lasts inner back v.stream w.block escape blocks [] w v h.lasts;
+      same_scopes = include_undone_but i apart outer stream escape blocks w v h;
+      outer = refl;
+      same_stream = refl;
+      same_block = refl;
       same_escape = refl;
     }
 
@@ -242,49 +241,47 @@ mark_after g w = record { number = length w.loops; variable = g.variable }
 abbrev pub in_loop_of : LoopFlags → World → World
 in_loop_of g w = within (loop_scope (mark_after g w)) w
 
-pub kept_turned : (g : LoopFlags) (w world1 : World) → Kept (in_loop_of g w) world1 → Kept (in_loop_of g w) (next_turn world1)
-kept_turned g w world1 k =
+pub kept_turned : {i : Differs} (g : LoopFlags) (w world1 : World) → KeptBut i (in_loop_of g w) world1 →
+    KeptBut i (in_loop_of g w) (next_turn world1)
+kept_turned {i = i} g w world1 k =
     let top : top_mark world1.scopes.frames ≡ Some (mark_after g w) = kept_top k in
     let is : next_turn world1 ≡ record world1 { loops = turned_at (length w.loops) world1.loops } = ap (λ m. turned_of m world1) top in
-    let a = k.advances in
-    let l = a.lasts in
+    let l = k.lasts in
     let long = ap (λ n. turned_at n (shapes w.loops ++ l.loops.0)) (sym (shapes_long w.loops)) in
     let loops : shapes (turned_at (length w.loops) world1.loops) ≡ shapes w.loops ++ turned_at 0 l.loops.0 =
     turned_shapes (length w.loops) world1.loops ∙ ap (turned_at (length w.loops)) l.loops.1 ∙ long ∙ turned_after
     (shapes w.loops) l.loops.0 in
-    subst (λ x. Kept (in_loop_of g w) x) (sym is) (record {
-      advances = record {
-        lasts = record {
-          same_id = l.same_id;
-          same_fuel_set = l.same_fuel_set;
-          fuel = l.fuel;
-          loops = (turned_at 0 l.loops.0, loops);
-          namespaces = l.namespaces;
-          closures = l.closures;
-          streams = l.streams;
-          temps = l.temps;
-          loaded = l.loaded;
-          blocks = l.blocks;
-          same_places = l.same_places;
-        };
-        scopes = a.scopes;
-        outer = a.outer;
-        same_stream = a.same_stream;
-        same_block = a.same_block;
+    subst (λ x. KeptBut i (in_loop_of g w) x) (sym is) (record {
+      lasts = record {
+        same_id = l.same_id;
+        same_fuel_set = l.same_fuel_set;
+        fuel = l.fuel;
+        loops = (turned_at 0 l.loops.0, loops);
+        namespaces = l.namespaces;
+        closures = l.closures;
+        streams = l.streams;
+        temps = l.temps;
+        loaded = l.loaded;
+        blocks = l.blocks;
+        same_places = l.same_places;
       };
       same_scopes = k.same_scopes;
+      outer = k.outer;
+      same_stream = k.same_stream;
+      same_block = k.same_block;
       same_escape = k.same_escape;
     })
 
--- what is so in a loop's scope is so around it
-pub advances_around : (g : LoopFlags) (w world1 : World) → Kept (in_loop_of g w) world1 → Advances w world1
-advances_around g w world1 k = advances_then (advances_within (loop_scope (mark_after g w)) w) k.advances
+-- what is so in a loop's scope, for which there was room, is so around it
+pub advances_around : {i j : Differs} {host : HostValue} (g : LoopFlags) (w world1 : World) →
+    nat_lt (depth w.scopes) host.limit ≡ true → KeptBut j (in_loop_of g w) world1 → AdvancesBut i host w world1
+advances_around {j = j} g w world1 room k = advances_over {j = j} (loop_scope (mark_after g w)) w room (kept_advances k)
 
 -- a world with a loop of these items more
 abbrev pub opened : LoopFlags → ℕ → World → List Val → World
 opened g n w vs = record (in_loop_of g w) { loops = w.loops ++ new_loop vs g n w ∷ [] }
 
-pub opened_kept : (g : LoopFlags) (n : ℕ) (w : World) (vs : List Val) → Kept (in_loop_of g w) (opened g n w vs)
+pub opened_kept : {i : Differs} (g : LoopFlags) (n : ℕ) (w : World) (vs : List Val) → KeptBut i (in_loop_of g w) (opened g n w vs)
 opened_kept g n w vs =
     let one = new_loop vs g n w ∷ [] in
     kept_lasting (lasts_by_loops (in_loop_of g w) (w.loops ++ one) (one, shapes_after w.loops one)) refl refl refl refl
@@ -298,7 +295,7 @@ keeping_shapes n args [] = refl
 keeping_shapes zero args (l ∷ ls) = ap (λ m. m ∷ shapes ls) (keeping_shape (is_changed l.kept args) args l)
 keeping_shapes (suc n) args (l ∷ ls) = ap (λ m. shape l ∷ m) (keeping_shapes n args ls)
 
-pub keeping_kept : (n : ℕ) (args : List Val) (w : World) → Kept w (record w { loops = keeping_at n args w.loops })
+pub keeping_kept : {i : Differs} (n : ℕ) (args : List Val) (w : World) → KeptBut i w (record w { loops = keeping_at n args w.loops })
 keeping_kept n args w =
     kept_lasting (lasts_by_loops w (keeping_at n args w.loops) ([], keeping_shapes n args w.loops ∙ sym (append-nil (shapes w.loops))))
     refl refl refl refl

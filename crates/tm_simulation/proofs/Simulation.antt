@@ -27,8 +27,9 @@ use Rattle.tm_meaning.specs.Runs.{new_run, at_end, failed, nests_of, rendered, s
 use Rattle.tm_meaning.specs.Inheritance.{names_left}
 use Rattle.tm_meaning.specs.Machine.{new_capture, recursion, Finished}
 use Rattle.tm_meaning.specs.Machine.{Over, Program, base_of, run_from, run_of_macro, onto, restarted}
-use Rattle.tm_meaning.specs.Steps.{act, begun, finish, parent_next, return_of, step, Final, final, Leads, over as is_over}
+use Rattle.tm_meaning.specs.Steps.{act, begun, finish, parent_next, return_of, step, Final, Leads, over as is_over}
 use Rattle.tm_meaning.specs.Steps.{restart as restarts}
+use Rattle.tm_simulation.specs.Kept.{in_closure_too}
 use Rattle.tm_simulation.specs.Reached.{HasLevels}
 use Rattle.tm_syntax.proofs.Standing.{At, beyond_is, stands_whole}
 use Rattle.tm_syntax.specs.Loops.{Numbers, first_numbers, stream_loops, loop_places, pasts, FoundMacro, stream_macros}
@@ -44,7 +45,7 @@ use Rattle.tm_simulation.proofs.TreeLoops.{expr_loopless, statements_begin}
 use Rattle.tm_simulation.proofs.Advances.{Kept, kept_frames, kept_depth, kept_then}
 use Rattle.tm_simulation.proofs.RunAdvances.{in_stream}
 use Rattle.tm_simulation.proofs.Advances.{within}
-use Rattle.tm_simulation.proofs.Gives.{EndingKeeps, Gives, ends_as, ends_parents, parents_left, parents_kept, tick_gives}
+use Rattle.tm_simulation.proofs.Gives.{EndingKeeps, Gives, ends_as, ends_parents, parents_left, parents_last, tick_gives}
 use Rattle.tm_simulation.proofs.Executes.{execs_end, body_ends}
 use Rattle.tm_simulation.proofs.Keeps.{again_end, nests_end}
 use Rattle.tm_simulation.proofs.Follow.{RunContext, LeadsToEnd, follows_map_kept}
@@ -189,7 +190,7 @@ module _ (p : Program) (trees : Trees) (compiled : IsUnnumbered trees p) where
       parents_left p.host q v ≤ parents_left p.host None w →
       context.final ≡ end_of b (close (done_by m (whole_of e q x v))) →
       Follows context (told_by b x) m (λ _ world1. Ended context b w close q x world1)
-  stopped_by context b w close plain q x v e (Good _ world1) k left is = (omega (arith, left, parents_kept p.host q k), is)
+  stopped_by context b w close plain q x v e (Good _ world1) k left is = (omega (arith, left, parents_last p.host q k.lasts), is)
   stopped_by context b w close plain q x v e (Bad chain world1) k left is = is ∙ ap (end_of b) (plain chain q x world1)
 
   -- What a run's statements come to is its end, where that is at this place.
@@ -201,9 +202,9 @@ module _ (p : Program) (trees : Trees) (compiled : IsUnnumbered trees p) where
   unfolding Ends
   end_then context s w close plain stop (done vs) q x v k left is z = z q x v k (left, is)
   end_then context s w close plain stop leave q x v k left is z =
-      stopped_by context s.bed w close plain q x v leave (tick v) (tick_gives p.host v) left is
+      stopped_by context s.bed w close plain q x v leave (tick v) (tick_gives _ p.host v) left is
   end_then context s w close plain stop next q x v k left is z =
-      stopped_by context s.bed w close plain q x v next (tick v) (tick_gives p.host v) left is
+      stopped_by context s.bed w close plain q x v next (tick v) (tick_gives _ p.host v) left is
   end_then context s w close plain stop (fault chain) q x v k left is z = is ∙ ap (end_of s.bed) (plain chain q x v)
 
   -- a loop that isn't there is left, or goes on, by a jump to where the run is over
@@ -213,7 +214,7 @@ module _ (p : Program) (trees : Trees) (compiled : IsUnnumbered trees p) where
       Go context (later s q x) pc [] v
   stops_then context s w close stop z q x v pc kept is l =
       at context (i.Jump stop) (later s q x) pc [] v is (after_then context (told_by s.bed x) (tick v) _
-      (follows_map_kept context (told_by s.bed x) v (tick v) _ _ (tick_gives _ v) l (λ _ v1 k1 e.
+      (follows_map_kept context (told_by s.bed x) v (tick v) _ _ (tick_gives _ _ v) l (λ _ v1 k1 e.
       silent context (told_by s.bed x) _ (z q x v1 (kept_then kept k1) e))))
 
   -- the code of a stream, and that it stands there
@@ -263,7 +264,7 @@ module _ (p : Program) (trees : Trees) (compiled : IsUnnumbered trees p) where
       let lower = again_runs f end n below id level in
       let nests = nests_of p.host trees n in
       let inner = again_of p.host nests (trees id) level in
-      let kept = again_end p.host nests (nests_end p.host trees n) (trees id) level in
+      let kept = again_end {i = in_closure_too} p.host nests (nests_end p.host trees n) (trees id) level in
       let setting : Setting = record {
         context = context;
         trees = trees;
@@ -339,7 +340,7 @@ module _ (p : Program) (trees : Trees) (compiled : IsUnnumbered trees p) where
       StreamRuns n id heard b out w f (statements body)
   statements_run n id heard b out w deep below f again body there =
       let nests = nests_of p.host trees n in
-      let kept_again = again_end p.host nests (nests_end p.host trees n) (trees id) (p.host.limit + 1) in
+      let kept_again = again_end {i = in_closure_too} p.host nests (nests_end p.host trees n) (trees id) (p.host.limit + 1) in
       let u : Under = under p.host nests (trees id) in
       let row = body.row in
       let o = exec_all u first_numbers row (new_run heard w) out w in
@@ -382,7 +383,7 @@ module _ (p : Program) (trees : Trees) (compiled : IsUnnumbered trees p) where
   expression_runs n id heard b out w deep below f e there =
       let nests = nests_of p.host trees n in
       let nest_ends = nests_end p.host trees n in
-      let kept_again = again_end p.host nests nest_ends (trees id) (p.host.limit + 1) in
+      let kept_again = again_end {i = in_closure_too} p.host nests nest_ends (trees id) (p.host.limit + 1) in
       let u : Under = under p.host nests (trees id) in
       let run = new_run heard w in
       let m = eval u run e w in
@@ -456,7 +457,7 @@ module _ (p : Program) (trees : Trees) (compiled : IsUnnumbered trees p) where
   body_runs n id m place there given many heard b out w deep below =
       let nests = nests_of p.host trees n in
       let nest_ends = nests_end p.host trees n in
-      let kept_again = again_end p.host nests nest_ends (trees id) (p.host.limit + 1) in
+      let kept_again = again_end {i = in_closure_too} p.host nests nest_ends (trees id) (p.host.limit + 1) in
       let u : Under = under p.host nests (trees id) in
       let run = new_run heard w in
       let o = macro_body u m given run out w in

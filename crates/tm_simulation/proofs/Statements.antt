@@ -93,7 +93,7 @@ module _ (setting : Setting) where
         (beyond pc (statement_code os x)) stack world1) L N → Go context s pc stack w
     stmt_runs os numbers (EmitRaw t) run s l pc stack w L N fits d j is nth h =
         at context (i.EmitRaw t) s pc stack w is.0 (after_then context (told s) (tick w) _
-        (use_then context s.bed w (tick w) (as_at run s) s.out _ _ L N _ (tick_gives _ w) h (λ _ world1 k1 h1.
+        (use_then context s.bed w (tick w) (as_at run s) s.out _ _ L N _ (tick_gives _ _ w) h (λ _ world1 k1 h1.
         writes_then context (as_at run s) t s (pc + 1) stack world1 refl fits.2
         (so_far_then context s.bed (as_at run s) (say (as_at run s) t s.out) world1 _ L N h1))))
     stmt_runs os numbers (EmitExpr e) run s l pc stack w L N fits d j is nth h =
@@ -106,9 +106,9 @@ module _ (setting : Setting) where
         (use_then context s.bed w (eval u (as_at run s) e w) (as_at run s) s.out _ _ L N _
         (eval_gives u (nest_ends setting) again_kept (as_at run s) e w) h (λ v world1 k1 h1.
         at context i.FastRecurse s _ (v ∷ stack) world1 is.1.0 (after_then context (told s) (tick world1) _
-        (use_then context s.bed world1 (tick world1) (as_at run s) s.out _ _ L N _ (tick_gives _ world1) h1 (λ _ world2 k2 h2.
+        (use_then context s.bed world1 (tick world1) (as_at run s) s.out _ _ L N _ (tick_gives _ _ world1) h1 (λ _ world2 k2 h2.
         placed_then setting run s _ stack (v ∷ stack) world2 world2 (call_innermost context.program.host v world2) _ L N fits.2
-        (innermost_asks context.program.host v world2) (deep_kept setting run s k2 (deep_kept setting run s k1 d)) h2
+        (innermost_asks _ context.program.host v world2) (deep_kept setting run s k2 (deep_kept setting run s k1 d)) h2
         (λ q1 out1 world3 g. g))))))
     stmt_runs os numbers (If' c z body other) run s l pc stack w L N fits d j is nth h =
         let nth1 = counts_after (context.program.code s.run.stream) numbers pc (expr_code c)
@@ -172,9 +172,9 @@ module _ (setting : Setting) where
         tag_then setting run s pc b stack w _ L N fits d is.0 h (λ q1 out1 world1 g. g)
     stmt_runs os numbers EmitSuper run s l pc stack w L N fits d j is nth h =
         at context i.FastSuper s pc stack w is.0 (after_then context (told s) (tick w) _
-        (use_then context s.bed w (tick w) (as_at run s) s.out _ _ L N _ (tick_gives _ w) h (λ _ world1 k1 h1.
+        (use_then context s.bed w (tick w) (as_at run s) s.out _ _ L N _ (tick_gives _ _ w) h (λ _ world1 k1 h1.
         placed_then setting run s pc stack stack world1 world1 (enter_super context.program.host world1) _ L N fits.2
-        (super_asks context.program.host world1) (deep_kept setting run s k1 d) h1 (λ q1 out1 world2 g. g))))
+        (super_asks _ context.program.host world1) (deep_kept setting run s k1 d) h1 (λ q1 out1 world2 g. g))))
     stmt_runs os numbers (Extends e) run s l pc stack w L N fits d j is nth h =
         expr_runs setting e (as_at run s) s l pc stack w (here setting run s w d) is.0
         (use_then context s.bed w (eval u (as_at run s) e w) (as_at run s) s.out _ _ L N _
@@ -222,7 +222,8 @@ module _ (setting : Setting) where
         (captured_then context s.bed (as_at run s) s.out w o _ _ L N _ (execs_end u (nest_ends setting) again_kept numbers body
         (capturing true (as_at run s)) [] w) h (λ q x world1 k1 h1.
         at context i.EndCapture (later inner q x) _ stack world1 is.1.1.0.0 (after_then context (told s) (tick world1) _
-        (use_then context s.bed world1 (tick world1) (record run { parent = q }) s.out _ _ L N _ (tick_gives _ world1) h1 (λ _ world2 k2 h2.
+        (use_then context s.bed world1 (tick world1) (record run { parent = q }) s.out _ _ L N _ (tick_gives _ _ world1) h1
+        (λ _ world2 k2 h2.
         ended_then setting s q x _ stack world2 (omega (arith, fits.1))
         (let following = later s q s.out in
         let run1 = record run { parent = q } in
@@ -246,7 +247,7 @@ module _ (setting : Setting) where
         (cfg s (beyond pc (expr_code e)) (v ∷ stack) world1))))) fits.0
         (after_then context (told s) (answered (escape_for run.first v) world1) _
         (use_then context s.bed world1 (answered (escape_for run.first v) world1) (as_at run s) s.out _ _ L N _
-        (escape_gives _ run.first v world1) h1 (λ x world2 k2 h2.
+        (escape_gives _ _ run.first v world1) h1 (λ x world2 k2 h2.
         let inner : Spot = record s { run = record s.run { escapes = world2.escape ∷ s.run.escapes } } in
         silent context (told s) _
         (stmts_run (an_escape ∷ os) numbers l body run inner _ stack (with_escape x world2) (Closed (with_escape world2.escape) L)
@@ -354,7 +355,7 @@ module _ (setting : Setting) where
         (execs_end u (nest_ends setting) again_kept numbers body (as_at run s) s.out x) h1 (λ q out1 world1 k1 h2.
         at context _ (later s q out1) _ stack world1 is.1 (after_then context (told (later s q out1)) (tick world1) _
         (use_then context s.bed world1 (tick world1) (record run { parent = q }) out1
-        (λ _ world2. so_far (record run { parent = q }) out1 world2) D L N _ (tick_gives _ world1) h2 (λ _ world2 k2 h3.
+        (λ _ world2. so_far (record run { parent = q }) out1 world2) D L N _ (tick_gives _ _ world1) h2 (λ _ world2 k2 h3.
         silent context (told (later s q out1)) _ (so_far_then context s.bed (record run { parent = q }) out1 world2 D L N h3)))))))
         (λ x k h1. stmts_run os (pasts numbers body) l eb run s second stack x L N fits (deep_kept setting run s k d)
         (around_kept setting l os s stack L N k j) is.2 nth2 h1)
@@ -387,7 +388,7 @@ module _ (setting : Setting) where
         (left_loop_then setting (for_flags false) s q out (end + 1) (boolean b ∷ stack) w x r d.0.scopes kept e is.0.1.0
         (at context _ (later s q out) (end + 1 + 1) (boolean b ∷ stack) (pop x) is.1.0
         (after_then context (told_by s.bed out) (tick (pop x)) _
-        (use_then context s.bed (pop x) (tick (pop x)) (record run { parent = q }) out _ D0 L N _ (tick_gives _ (pop x)) h (λ _ v k1 h1.
+        (use_then context s.bed (pop x) (tick (pop x)) (record run { parent = q }) out _ D0 L N _ (tick_gives _ _ (pop x)) h (λ _ v k1 h1.
         choose_ends context b (exec_all u numbers eb (record run { parent = q }) out v) (so_far (record run { parent = q }) out v) _ _
         (told_by s.bed out) s.bed D0 L N h1
         (λ h2. silent context (told_by s.bed out) _

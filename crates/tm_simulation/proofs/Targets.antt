@@ -72,21 +72,21 @@ module _ (setting : Setting) where
         Go context s pc (v ∷ stack) w
     target_runs (To x) run s l pc v stack w d is h =
         at context (i.StoreLocal x) s pc (v ∷ stack) w is.0 (after_then context (told s) (tick w) _
-        (bind_then context (told s) w (tick w) _ _ _ (tick_gives _ w) h (λ _ world1 k h1.
+        (bind_then context (told s) w (tick w) _ _ _ (tick_gives _ _ w) h (λ _ world1 k h1.
         silent context (told s) _ h1)))
     target_runs (Items _ ts) run s l pc v stack w d is h =
         let n = count_targets ts in
         at context (i.UnpackList n) s pc (v ∷ stack) w is.0.0 (after_then context (told s) (tick w) _
-        (bind_then context (told s) w (tick w) _ _ _ (tick_gives _ w) h (λ _ world1 k h1.
+        (bind_then context (told s) w (tick w) _ _ _ (tick_gives _ _ w) h (λ _ world1 k h1.
         after_then context (told s) (unpacked_items n v world1) _ (bind_long context (told s) world1 n (unpacked_items n v world1) _ _ _
-        (unpacked_gives _ n v world1) (items_long n v world1) h1 (λ vs world2 k2 m h2.
+        (unpacked_gives _ _ n v world1) (items_long n v world1) h1 (λ vs world2 k2 m h2.
         silent context (told s) _ (targets_run ts run s l (pc + 1) vs stack world2 m
         (here_kept setting run s k2 (here_kept setting run s k d)) is.1 h2))))))
     target_runs (Member e x) run s l pc v stack w d is h =
         expr_runs setting e run s l pc (v ∷ stack) w d is.0
         (bind_then context (told s) w (eval u run e w) _ _ _ (eval_gives u (nest_ends setting) again_kept run e w) h (λ o world1 k h1.
         at context (i.SetAttr x) s _ (o ∷ v ∷ stack) world1 is.1.0 (after_then context (told s) (tick world1) _
-        (bind_then context (told s) world1 (tick world1) _ _ _ (tick_gives _ world1) h1 (λ _ world2 k2 h2.
+        (bind_then context (told s) world1 (tick world1) _ _ _ (tick_gives _ _ world1) h1 (λ _ world2 k2 h2.
         after_then context (told s) (set_member x v o world2) _ (follows_map context (told s) (set_member x v o world2) _ _ h2
         (λ _ world3 g. silent context (told s) _ g)))))))
 
@@ -154,10 +154,10 @@ module _ (setting : Setting) where
       Go context (later s s.parent out1) (pc + 1) stack world1) → Go context s pc (v ∷ stack) w
   emit_then run s pc v stack w D L N fits e h g =
       at context i.Emit s pc (v ∷ stack) w e (after_then context (told s) (tick w) _
-      (use_then context s.bed w (tick w) (as_at run s) s.out _ D L N _ (tick_gives _ w) h (λ _ world1 k h1.
+      (use_then context s.bed w (tick w) (as_at run s) s.out _ D L N _ (tick_gives _ _ w) h (λ _ world1 k h1.
       after_then context (told s) (emitted context.program.host v world1) _
       (use_then context s.bed world1 (emitted context.program.host v world1) (as_at run s) s.out _ D L N _
-      (emitted_gives context.program.host v world1) h1 (λ t world2 k2 h2.
+      (emitted_gives _ context.program.host v world1) h1 (λ t world2 k2 h2.
       writes_then context (as_at run s) t s (pc + 1) stack world2 refl fits.2
       (g (say (as_at run s) t s.out) world2 (so_far_then context s.bed (as_at run s) (say (as_at run s) t s.out) world2 D L N h2)))))))
 
@@ -183,9 +183,9 @@ module _ (setting : Setting) where
       ((x : World) → Kept w x → Ends context s.bed (second x) D L N → Go context s to stack x) → Go context s pc (v ∷ stack) w
   tested_then run s pc to v stack w first second D L N e h f g =
       at context (i.JumpIfFalse to) s pc (v ∷ stack) w e (after_then context (told s) (tick w) _
-      (use_then context s.bed w (tick w) (as_at run s) s.out _ D L N _ (tick_gives _ w) h (λ _ world1 k1 h1.
+      (use_then context s.bed w (tick w) (as_at run s) s.out _ D L N _ (tick_gives _ _ w) h (λ _ world1 k1 h1.
       after_then context (told s) (truth context.program.host v world1) _ (use_then context s.bed world1
-      (truth context.program.host v world1) (as_at run s) s.out _ D L N _ (truth_gives context.program.host v world1) h1
+      (truth context.program.host v world1) (as_at run s) s.out _ D L N _ (truth_gives _ context.program.host v world1) h1
       (λ b world2 k2 h2.
       choose_ends context b (first world2) (second world2) _ _ (told s) s.bed D L N h2
       (λ h3. silent context (told s) _ (f world2 (kept_then k1 k2) h3)) (λ h3. silent context (told s) _
@@ -241,7 +241,7 @@ module _ (setting : Setting) where
   jumps_capture to os s stack w L stands j q x v pc h is there l =
       at context i.EndCapture (later (record s { bed = captured_in s.bed s.out; out = [] }) q x) pc stack v is.0
       (after_then context (told s) (tick v) _
-      (follows_map_kept context (told s) v (tick v) _ _ (tick_gives _ v) l (λ _ world1 k1 left_first.
+      (follows_map_kept context (told s) v (tick v) _ _ (tick_gives _ _ v) l (λ _ world1 k1 left_first.
       ended_then setting s q x pc stack world1 stands
       (at context i.DiscardTop (later s q s.out) (pc + 1) (captured_text x world1 ∷ stack) world1 is.1.0
       (silent context (told s) _ (j q s.out world1 (pc + 1 + 1) (kept_then h k1) is.1.1 there left_first))))))

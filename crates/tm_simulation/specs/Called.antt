@@ -9,7 +9,7 @@ use Rattle.tm_meaning.specs.World.{World, HostValue, Res, Good, Bad, answered, b
 use Rattle.tm_meaning.specs.Calls.{Asked, has, refused, runs, recurs, by_depths, named_call}
 use Rattle.tm_meaning.specs.Tree.{Trees}
 use Rattle.tm_meaning.specs.Meaning.{value_after}
-use Rattle.tm_meaning.specs.Runs.{evaluated, nests_of}
+use Rattle.tm_meaning.specs.Runs.{nests_of}
 
 -- A call as a value: the run that it needs is in a capture, and what that replaced is put back after it, also where it ended in a fault.
 abbrev pub called : HostValue → Trees → Asked → Res Val
@@ -34,3 +34,8 @@ maps_in m = bind m (λ v w. answered (with_maps (records_of w) v) w)
 abbrev pub fault_of : {A : Type 0} → Res A → List ErrorKind
 fault_of (Good a w) = []
 fault_of (Bad chain w) = chain
+
+-- the world that is left, whatever a result is
+abbrev pub world_of : {A : Type 0} → Res A → World
+world_of (Good a w) = w
+world_of (Bad chain w) = w

@@ -1,6 +1,6 @@
 -- What runs keep of their world.
 use Rattle.std.specs.Prelude.{◌≡◌, ◌≤◌, ◌⊎◌, List, [], ◌∷◌, ◌++◌, length, None, Some, ℕ}
-use Rattle.tm_meaning.specs.World.{World, Loop, Scope, Named, find, root_of, own_closure, Res, Good, Bad}
+use Rattle.tm_meaning.specs.World.{World, HostValue, Loop, Scope, Named, find, root_of, own_closure, without_locals, depth, Res, Good, Bad}
 use Rattle.tm_meaning.specs.declared.stream.StreamId.{StreamId}
 use Rattle.tm_meaning.specs.declared.stream.TemplateId.{TemplateId}
 use Rattle.tm_meaning.specs.Meaning.{Ending, fault, Outcome}
@@ -27,10 +27,18 @@ abbrev pub bare : List Scope → List Scope
 bare [] = []
 bare (s ∷ ss) = record s { locals = []; own_closure = None } ∷ ss
 
--- Scopes lie over those that stood: these are there still, but for the names of the innermost one and the closure that was made in it, and
--- perhaps more over them.
-abbrev pub LieOver : List Scope → List Scope → Type 0
-LieOver old new = (more : List Scope) × (there : List Scope) × (new ≡ more ++ there) × (bare there ≡ bare old)
+-- What may differ of the innermost scope: its names, or these and the closure that was made in it.
+pub data Differs : Type 0 where
+  in_names in_closure_too : Differs
+
+-- scopes but for what may differ of the innermost one
+abbrev pub but : Differs → List Scope → List Scope
+but in_names ss = without_locals ss
+but in_closure_too ss = bare ss
+
+-- Scopes lie over those that stood: these are there still, but for what may differ of the innermost one, and perhaps more over them.
+abbrev pub LieOver : Differs → List Scope → List Scope → Type 0
+LieOver differs old new = (more : List Scope) × (there : List Scope) × (new ≡ more ++ there) × (but differs there ≡ but differs old)
 
 -- The list of each block that was there has its templates still, and perhaps more after them.
 abbrev pub BlocksGrow : Named (List TemplateId) → Named (List TemplateId) → Type 0
@@ -49,7 +57,7 @@ pub record Stays (old : World) (o : Outcome) : Type 0 where
   pub same_fuel_set : o.world.fuel_set ≡ old.fuel_set
   pub no_more_fuel : o.world.fuel ≤ old.fuel
   pub same_outer : o.world.scopes.outer ≡ old.scopes.outer
-  pub lie_over : LieOver old.scopes.frames o.world.scopes.frames
+  pub lie_over : LieOver in_closure_too old.scopes.frames o.world.scopes.frames
   pub same_scopes : UnlessFault o.ending (bare o.world.scopes.frames ≡ bare old.scopes.frames)
 
 -- A state's records, the values that objects keep, the names loaded and the lists of blocks are never fewer, and the places in these lists
@@ -84,10 +92,15 @@ pub record GivesBack (old new : World) : Type 0 where
   pub same_places : new.places ≡ old.places
   pub same_loaded : new.loaded ≡ old.loaded
 
--- The scopes are those that stood, but for the names of the innermost one and the closure that was made in it; at a fault they lie over them.
+-- The scopes are those that stood, but for the names of the innermost one, whose closure is the same; at a fault they lie over them.
 abbrev pub LeavesScopes : {A : Type 0} → World → Res A → Type 0
-LeavesScopes old (Good a new) = (bare new.scopes.frames ≡ bare old.scopes.frames) × (new.scopes.outer ≡ old.scopes.outer)
-LeavesScopes old (Bad chain new) = LieOver old.scopes.frames new.scopes.frames × (new.scopes.outer ≡ old.scopes.outer)
+LeavesScopes old (Good a new) =
+    (but in_names new.scopes.frames ≡ but in_names old.scopes.frames) × (new.scopes.outer ≡ old.scopes.outer)
+LeavesScopes old (Bad chain new) = LieOver in_names old.scopes.frames new.scopes.frames × (new.scopes.outer ≡ old.scopes.outer)
+
+-- The scopes lie no deeper than the limit, or than they stood where that was deeper.
+abbrev pub Within : HostValue → World → World → Type 0
+Within host old new = (d : ℕ) → host.limit ≤ d → depth old.scopes ≤ d → depth new.scopes ≤ d
 
 -- What a call replaced is put back: the scopes, the stream, the block, the escape, and the places in lists of blocks, which grow at most.
 pub record PutsBack (old new : World) : Type 0 where

@@ -21,11 +21,11 @@ ghost use Rattle.tm_syntax.specs.declared.tree.AssignmentTarget.{AssignmentTarge
 ghost use Rattle.tm_syntax.specs.declared.tree.Imported.{Imported};
 ghost use Rattle.tm_meaning.specs.Meaning.{Run, block_tag, import, import_names, in_place_of};
 ghost use Rattle.tm_meaning.specs.Runs.{chain_of, nests_of, new_run, rendered, rendered_block, run_of, under};
-ghost use Rattle.tm_simulation.specs.Called.{as_text, call_by_name, called, fault_of, maps_in};
+ghost use Rattle.tm_simulation.specs.Called.{as_text, call_by_name, called, fault_of, maps_in, world_of};
 ghost use Rattle.tm_meaning.specs.Machine.{Program, Capture, Stuck};
 ghost use Rattle.tm_meaning.specs.Steps.{Final, final};
 ghost use Rattle.tm_meaning.specs.Compiled.{IsCompiled};
-ghost use Rattle.tm_simulation.specs.Kept.{Stays, OnlyAdds, EndsThere, GivesBack, LeavesScopes, PutsBack};
+ghost use Rattle.tm_simulation.specs.Kept.{Stays, OnlyAdds, EndsThere, GivesBack, LeavesScopes, PutsBack, Within};
 ghost use Rattle.tm_simulation.specs.Chains.{Arises, IfAny, HasRaised, StatesOnly};
 ghost use Rattle.tm_simulation.specs.Chains.{StatesNoMemory, ends_in_memory, MayWrap, is_foreign, HasNoForeign};
 ghost use Rattle.tm_simulation.specs.Reached.{RunsTo, Renders, HasLevels};
@@ -157,8 +157,8 @@ pub fn an_include_gives_back_what_it_replaced()
         (in_place_of u run out (enter_include host true v missing w)).world.scopes ≡ w.scopes }
 {}
 
-/// An import, of a module or of names, leaves the scopes that stood but for names of the innermost
-/// one; where it ends in a fault there may be more over them.
+/// An import, of a module or of names, leaves the scopes that stood but for the names of the
+/// innermost one, whose closure stays; where it ends in a fault there may be more over them.
 pub fn an_import_leaves_the_scopes()
     ensures module { (host : HostValue) (trees : Trees) (n : ℕ) (tree : StreamTree) (run : Run)
         (e : Expr) (t : AssignmentTarget) (w : World) →
@@ -166,6 +166,30 @@ pub fn an_import_leaves_the_scopes()
     ensures names { (host : HostValue) (trees : Trees) (n : ℕ) (tree : StreamTree) (run : Run)
         (e : Expr) (xs : List Imported) (w : World) →
         LeavesScopes w (import_names (under host (nests_of host trees n) tree) run e xs w) }
+{}
+
+/// Depth never passes the recursion limit, or 1 where that is 0, which is a fresh state's: the scopes
+/// that a render leaves, or any run, also at a fault, lie no deeper than the limit, or than those with
+/// which it began where these lie deeper. So do those that a call leaves which a state is asked for
+/// where no template runs: of a block, of what a name stands for, of a filter, of a test, of a value
+/// that is formatted, and of an expression.
+pub fn depth_never_passes_the_limit()
+    ensures render { (host : HostValue) (trees : Trees) (w : World) →
+        Within host w (rendered host trees w).world }
+    ensures run { (host : HostValue) (trees : Trees) (n : ℕ) (k : Callee) (heard : Bool)
+        (out : List ℕ) (w : World) → Within host w (nests_of host trees n k heard out w).world }
+    ensures block { (host : HostValue) (trees : Trees) (b : List ℕ) (w : World) →
+        Within host w (rendered_block host trees b w).world }
+    ensures name { (host : HostValue) (trees : Trees) (x : List ℕ) (args : List Val) (w : World) →
+        Within host w (world_of (as_text (called host trees (call_by_name host x args w)))) }
+    ensures filter { (host : HostValue) (trees : Trees) (x : List ℕ) (args : List Val) (w : World) →
+        Within host w (world_of (called host trees (apply_filter host x args w))) }
+    ensures test { (host : HostValue) (trees : Trees) (x : List ℕ) (args : List Val) (w : World) →
+        Within host w (world_of (called host trees (perform_test host x args w))) }
+    ensures formatted { (host : HostValue) (v : Val) (w : World) →
+        Within host w (world_of (emitted host v w)) }
+    ensures value { (host : HostValue) (trees : Trees) (w : World) →
+        Within host w (world_of (maps_in (evaluated host trees w))) }
 {}
 
 /// The chain of a render's fault arises in it: what ends it is a kind that renders raise, or a chain that an object of the caller states,

@@ -3,11 +3,12 @@ ghost use Rattle.std.specs.Prelude.{◌≡◌, ◌+◌, ◌≤◌, ◌∷◌, []
 ghost use Rattle.tm_meaning.specs.Calls.{enter_include, first_found, include_cost, include_depth, include_found, include_frames, refused};
 ghost use Rattle.tm_meaning.specs.Inheritance.{joined};
 ghost use Rattle.tm_meaning.specs.Memory.{is_want_of_memory};
-ghost use Rattle.tm_meaning.specs.World.{Bad, depth, module_of};
+ghost use Rattle.tm_meaning.specs.World.{Bad, Good, depth, module_with, records_of};
 ghost use Rattle.tm_state.specs.Answers.{IncludeLies, IsChosen, IsFirstEntry, IsNamed, IsEntryThere, KeepsFixedAndNames, NeedsInclude};
 ghost use Rattle.tm_state.specs.Answers.{NeedsSuper, OneDeeper};
 ghost use Rattle.tm_state.specs.State.{lists_of, saved_of};
-ghost use Rattle.tm_values.specs.Answer.{OkOrOutOfMemory};
+ghost use Rattle.tm_definitions.specs.Emitted.{text_answer};
+ghost use Rattle.tm_values.specs.Answer.{IsAnswer};
 
 use crate::nested::{NestedRun, RunOf};
 use crate::saved::{Saved, SavedBlock, SavedInclude};
@@ -16,6 +17,7 @@ use std::alloc::Global;
 use std::mem;
 use tm_meaning::{RunText, StreamId, TemplateId, Wrapping};
 use tm_operations::collection;
+use tm_printing::to_text;
 use tm_syntax::Name;
 use tm_tables::{Host, Lists, TemplateEntry};
 use tm_values::{Error, ErrorKind, SharedText, Value};
@@ -255,11 +257,28 @@ impl StateData {
         }
     }
 
-    /// The module of the names that the innermost scope exports, and of a text. Fails by OutOfMemory alone.
-    pub fn module(&self, alloc: Global, text: SharedText) -> Result<Value, Error>
-        ensures { OkOrOutOfMemory result (λ v. v ≡ module_of self.now text) }
+    /// The module of the names that the innermost scope exports, and of what a value is printed as. What refuses to
+    /// be printed is refused; OutOfMemory.
+    pub fn module(&self, alloc: Global, value: Value) -> Result<Value, Error>
+        ensures ok { IfOk result (λ v. module_with value self.now ≡ Good v self.now) }
+        ensures err { IfErr result (λ e. is_want_of_memory e ≡ false →
+            module_with value self.now ≡ Bad e self.now) }
     {
+        let text = self.printed(alloc, value)?;
         let pairs = self.context.exported(alloc)?;
         Value::module(alloc, pairs, text)
+    }
+
+    /// What a value is printed as: a text is itself. What refuses to be printed is refused; OutOfMemory.
+    fn printed(&self, alloc: Global, value: Value) -> Result<SharedText, Error>
+        ensures { IsAnswer result (text_answer (records_of self.now) value) }
+    {
+        match value.into_text() {
+            Ok((text, _safe)) => Ok(text),
+            Err(value) => {
+                let text = to_text(alloc, &value, self)?;
+                Ok(SharedText::from_string(text)?)
+            }
+        }
     }
 }

@@ -12,7 +12,7 @@ use Rattle.tm_syntax.specs.declared.tree.Application.{Application}
 use Rattle.tm_syntax.specs.declared.tree.Application.TheVariants as applications
 use Rattle.tm_syntax.specs.declared.tree.UnaryOperator.TheVariants as unaries
 use Rattle.tm_meaning.specs.World.{choose, World, Loop, HostValue, Res, Good, Bad, answered, emitted, looked_up, escape_for, items_over}
-use Rattle.tm_meaning.specs.World.{enclose, make_macro, unpacked_items, set_member, open_loop, top_mark, top_loop, push, plain_scope}
+use Rattle.tm_meaning.specs.World.{enclose, make_macro, module_with, unpacked_items, set_member, open_loop, top_mark, top_loop, push, plain_scope}
 use Rattle.tm_meaning.specs.Calls.{Asked, has, refused, runs, recurs, call_named, call_callee, applied, call_innermost, enter_block}
 use Rattle.tm_meaning.specs.Meaning.{none_waits}
 use Rattle.tm_meaning.specs.Operators.{truth, applied_unary, operated, attribute, item_at, slice_of, merged_values, items_of_lists}
@@ -23,7 +23,7 @@ use Rattle.tm_meaning.specs.Machine.{Caches}
 use Rattle.tm_meaning.specs.Machine.{Activation, Capture, Return, Config, Program, End, Failed, Stuck, Next, More, Over, Nest, Back, after}
 use Rattle.tm_meaning.specs.Machine.{on_top, on_taken, taken, on, with_world, writes, audible, new_capture, recursion, place_of_loop, asked}
 use Rattle.tm_meaning.specs.Machine.{Finished, Stuck, asked_in_place, back_to, back_with, first_run, goes, nested}
-use Rattle.tm_meaning.specs.Instructions.{closure_in, names_in, on_parts, on_text}
+use Rattle.tm_meaning.specs.Instructions.{closure_in, names_in, on_parts}
 use Rattle.tm_meaning.specs.Steps.{charge_of, closed, effect}
 use Rattle.tm_state.specs.Answers.{call_of}
 use Rattle.tm_syntax.specs.Entries.{entry_number}
@@ -111,10 +111,6 @@ module _ (Holds : Next → Type 0) (over : (e : End) → Holds (Over e)) where
   on_parts_all None names w next k = over (Stuck w)
   on_parts_all (Some own) None w next k = over (Stuck w)
   on_parts_all (Some own) (Some names) w next k = k own names
-
-  on_text_all : (t : Option (List ℕ)) (w : World) (next : List ℕ → Next) → ((t : List ℕ) → Holds (next t)) → Holds (on_text t w next)
-  on_text_all None w next k = over (Stuck w)
-  on_text_all (Some t) w next k = k t
 
 -- A parent waits only where one did, or one was loaded.
 abbrev Follows : HostValue → Config → Config → Type 0
@@ -378,7 +374,7 @@ adds p f (i.Include missing) c = on_top_all (Adds p.host 1 c) (ends_adds p.host 
 adds p f i.IncludeModule c = on_top_all (Adds p.host 1 c) (ends_adds p.host 1 c) c.run.operands c.world _
     (λ v vs. asked_in_place_adds p f c vs (enter_include p.host false v false c.world))
 adds p f i.ExportLocals c = on_top_all (Adds p.host 0 c) (ends_adds p.host 0 c) c.run.operands c.world _
-    (λ v vs. on_text_all (Adds p.host 0 c) (ends_adds p.host 0 c) (text_in v) c.world _ (λ t. none_more 0 c))
+    (λ v vs. after_all (Adds p.host 0 c) (ends_adds p.host 0 c) (module_with v c.world) _ (λ m w. none_more 0 c))
 adds p f (i.StoreLocal x) c = on_top_all (Adds p.host 1 c) (ends_adds p.host 1 c) c.run.operands c.world _ (λ v vs. none_more 1 c)
 adds p f (i.Enclose x) c = after_all (Adds p.host 1 c) (ends_adds p.host 1 c) (enclose p.host x c.world) _ (λ _ w. none_more 1 c)
 adds p f i.GetClosure c = none_more 1 c
@@ -473,7 +469,7 @@ free_onward p f (i.BuildMacro x place caller) c free =
 free_onward p f i.LoadBlocks c free = on_top_all (Onward c) (ends_onward c) c.run.operands c.world _ (λ v rest.
     after_all (Onward c) (ends_onward c) (load p.host v c.run.parent (nat_lt f.captures (length c.captures)) c.world) _ (λ t w. inl refl))
 free_onward p f i.ExportLocals c free = on_top_all (Onward c) (ends_onward c) c.run.operands c.world _
-    (λ v rest. on_text_all (Onward c) (ends_onward c) (text_in v) c.world _ (λ t. inl refl))
+    (λ v rest. after_all (Onward c) (ends_onward c) (module_with v c.world) _ (λ m w. inl refl))
 free_onward p f i.Return c free = choose_all (Onward c) (ends_onward c) (closed f c) _ _ tt tt
 free_onward p f i.PopAutoEscape c free = escape_onward c c.run.escapes
 free_onward p f _ c free = absurd cc

@@ -41,7 +41,8 @@ impl Machine {
         }
     }
 
-    /// Replaces a captured text by the module of the innermost scope's names and the text.
+    /// Replaces a value, as a captured text, by the module of the innermost scope's names and of what the value is
+    /// printed as. What refuses to be printed is refused.
     #[inline(never)]
     pub(crate) fn do_export_locals(&mut self, alloc: Global) -> Result<Flow, Halt>
         requires { CanGoOn self.old.run }
@@ -50,10 +51,7 @@ impl Machine {
         let Some(value) = self.run.pop() else {
             return Err(Halt::Stuck);
         };
-        let Ok((text, _safe)) = value.into_text() else {
-            return Err(Halt::Stuck);
-        };
-        let module = self.state.module(alloc, text)?;
+        let module = self.state.module(alloc, value)?;
         self.push_next(module)
     }
 }
