@@ -55,6 +55,10 @@ Hi {{ who }}!
 
 - float.json
 {"who":1.5}
+- float_twice.json
+{"x":1.5,"x":2}
+- float_text.json
+{"who":"1.5"}
 - inner_float.json
 {"who":"A","b":[{"c":1e0}]}
 - minus_zero.json
@@ -150,7 +154,9 @@ const ROWS: &str = r#"Words with what comes of them.
 - 0 --json c.json -Dname=B - => Hello B! => -
 - 0 --json other.json main.txt => Hi ! => -
 - 0 --json items.json items.txt => [18446744073709551615,-9223372036854775808,true,none,][][läst,<,] => -
+- 0 --json float_text.json main.txt => Hi 1.5! => -
 - 2 --json float.json main.txt =>  => usage
+- 2 --json float_twice.json main.txt =>  => usage
 - 2 --json inner_float.json main.txt =>  => usage
 - 2 --json minus_zero.json main.txt =>  => usage
 - 2 --json large.json main.txt =>  => usage

@@ -1,5 +1,6 @@
 -- The values that JSON gives to a template.
-use Rattle.std.specs.Prelude.{◌≡◌, ◌⊎◌, ℕ, List, [], ◌∷◌, false, Option, None, Some, option_map, option_and_then, Result, MatchResult}
+use Rattle.std.specs.Prelude.{◌≡◌, ◌⊎◌, ℕ, List, [], ◌∷◌, Bool, true, false, ◌==◌, ◌||◌, ◌&&◌, if◌then◌else◌, Option, None, Some, option_map, option_and_then, Result, MatchResult}
+use Rattle.std.specs.Char.{is_ascii_digit}
 use Rattle.serde_json.specs.Data as json
 use Rattle.serde_json.specs.Find.{as_integer, as_object}
 use Rattle.serde_json.specs.Read.{read}
@@ -28,9 +29,32 @@ abbrev mutual
   members_of json.no_members = Some []
   members_of (json.member k d ms) = option_and_then (λ v. option_map (λ ps. (text k false, v) ∷ ps) (members_of ms)) (value_of d)
 
--- the members of the JSON object that a text spells: none where it spells no object, or a float is in it
+-- a point, an e or an E: after a digit it begins a fraction or an exponent
+abbrev pub begins_decimal : ℕ → Bool
+begins_decimal b = b == 46 || b == 101 || b == 69
+
+abbrev mutual
+  -- a fraction or an exponent comes, outside of strings, first after a digit or not: 34 is a quote, 92 a backslash
+  pub decimal_outside : Bool → List ℕ → Bool
+  decimal_outside after_digit [] = false
+  decimal_outside after_digit (b ∷ bs) =
+      if b == 34 then decimal_inside false bs
+      else if after_digit && begins_decimal b then true
+      else decimal_outside (is_ascii_digit b) bs
+
+  -- the same from within a string on, first after a backslash that escapes or not
+  pub decimal_inside : Bool → List ℕ → Bool
+  decimal_inside escaped [] = false
+  decimal_inside true (b ∷ bs) = decimal_inside false bs
+  decimal_inside false (b ∷ bs) = if b == 34 then decimal_outside false bs else decimal_inside (b == 92) bs
+
+-- a number with a fraction or an exponent stands in a JSON text, also one that `read` drops since its key comes again
+abbrev pub has_decimal : List ℕ → Bool
+has_decimal bytes = decimal_outside false bytes
+
+-- the members of the JSON object that a text spells: none where it spells no object, or a number with a fraction or an exponent stands in it
 abbrev pub members_read : List ℕ → Option (List (Val × Val))
-members_read bytes = option_and_then members_of (option_and_then as_object (read bytes))
+members_read bytes = if has_decimal bytes then None else option_and_then members_of (option_and_then as_object (read bytes))
 
 -- There was no memory, or what was asked for isn't there.
 abbrev pub IsRefusal : {A : Type 0} → Refusal → Option A → Type 0

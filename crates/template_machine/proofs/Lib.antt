@@ -9,4 +9,4 @@ mod StateCalls
 mod Texts
 mod Walked
 mod Expected
-pub mod MacroLists
+pub mod CallLists

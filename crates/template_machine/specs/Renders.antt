@@ -10,7 +10,7 @@ use Rattle.tm_values.specs.declared.error.ErrorKind.{ErrorKind}
 use Rattle.tm_values.specs.declared.error.ErrorKind.TheVariants.{InvalidOperation, WriteFailure}
 use Rattle.tm_syntax.specs.Named.{put}
 use Rattle.tm_meaning.specs.World.{World, Res, Good, Bad, answered}
-use Rattle.tm_meaning.specs.Calls.{Asked, has, refused, runs, Callee}
+use Rattle.tm_meaning.specs.Calls.{Asked, has, refused, runs, Callee, Undo, of_block}
 use Rattle.tm_tables.specs.Stated.{StatedObjects}
 use Rattle.tm_meaning.specs.declared.stream.StreamId.{StreamId}
 use Rattle.tm_meaning.specs.declared.stream.TemplateId.TheVariants.{Own}
@@ -236,6 +236,15 @@ pub data Evaluated (m : Res Val) (result : Result Val (List ErrorKind)) : Type 0
 -- The lists of blocks and the loaded names are those from before.
 abbrev pub SameLists : World → World → Type 0
 SameLists old new = (new.blocks ≡ old.blocks) × (new.loaded ≡ old.loaded)
+
+-- Whether a block's run is asked for: it stands in these lists, and may extend a template.
+abbrev pub is_of_block : Undo → Bool
+is_of_block (of_block b) = true
+is_of_block _ = false
+
+abbrev pub runs_a_block : Asked → Bool
+runs_a_block (runs c w) = is_of_block c.undo
+runs_a_block _ = false
 
 -- They are, or are put back after the run that is needed, which is a macro's.
 abbrev pub KeepsLists : CallResult → World → World → Type 0

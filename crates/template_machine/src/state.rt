@@ -12,7 +12,7 @@ ghost use Rattle.tm_state.specs.Answers.{Becomes, CallDeeper, CallLies, IsEmitte
 ghost use Rattle.tm_state.specs.State.{callee_of, exported};
 ghost use Rattle.template_machine.specs.Environment.{host_of, named_template};
 ghost use Rattle.template_machine.specs.Renders.{as_text, block_meaning, call_by_name, called_value, callee_run, with_temp, with_world};
-ghost use Rattle.template_machine.specs.Renders.{KeepsLists, SameLists};
+ghost use Rattle.template_machine.specs.Renders.{KeepsLists, SameLists, runs_a_block};
 ghost use Rattle.tm_values.specs.Val.{macro};
 ghost use Rattle.tm_state.specs.State.{saved_scopes};
 ghost use Rattle.tm_state.specs.declared.saved.Saved.TheVariants as saved;
@@ -170,6 +170,9 @@ impl<'env, O: Parties> StateOf<'env, O> {
         ensures template { self.new.template ≡ self.old.template }
         ensures stays { StaysInPlace self.old.world self.new.world }
         ensures kept { KeepsFixed self.old.world self.new.world }
+        ensures lists { runs_a_block (apply_filter (host_of O.stated self.old.template)
+            name.now args.now self.old.world) ≡ false →
+            SameLists self.old.world self.new.world }
     {
         let alloc = self.rendering.allocator();
         let called = self
@@ -188,6 +191,9 @@ impl<'env, O: Parties> StateOf<'env, O> {
         ensures template { self.new.template ≡ self.old.template }
         ensures stays { StaysInPlace self.old.world self.new.world }
         ensures kept { KeepsFixed self.old.world self.new.world }
+        ensures lists { runs_a_block (perform_test (host_of O.stated self.old.template)
+            name.now args.now self.old.world) ≡ false →
+            SameLists self.old.world self.new.world }
     {
         let alloc = self.rendering.allocator();
         let called = self
@@ -202,7 +208,7 @@ impl<'env, O: Parties> StateOf<'env, O> {
     /// there is none, InvalidOperation where its value can't be called, where a macro isn't of this state or its run
     /// stands too deep, or where the answer can't be printed, and the fault of what is called; OutOfMemory. However
     /// it ends, the state stands where it stood, and what the call kept is kept.
-    #[tactic(auto, using(crate::proofs::MacroLists::macro_keeps))]
+    #[tactic(auto, using(crate::proofs::CallLists::macro_runs_none))]
     pub fn call_macro(&mut self, name: &str, args: &[Value]) -> Result<String, Error>
         ensures called { IsEmitted result (as_text (called_value O.stated self.old.template
             (call_by_name (host_of O.stated self.old.template) name.now args.now self.old.world)))
@@ -210,7 +216,10 @@ impl<'env, O: Parties> StateOf<'env, O> {
         ensures template { self.new.template ≡ self.old.template }
         ensures stays { StaysInPlace self.old.world self.new.world }
         ensures kept { KeepsFixed self.old.world self.new.world }
-        ensures lists { (m : _) → find_name (view_of (host_of O.stated self.old.template)
+        ensures lists { runs_a_block (call_by_name (host_of O.stated self.old.template)
+            name.now args.now self.old.world) ≡ false →
+            SameLists self.old.world self.new.world }
+        ensures of_macro { (m : _) → find_name (view_of (host_of O.stated self.old.template)
             self.old.world) name.now ≡ Ok (Some (macro m)) → SameLists self.old.world self.new.world }
     {
         let alloc = self.rendering.allocator();

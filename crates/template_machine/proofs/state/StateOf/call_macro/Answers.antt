@@ -1,10 +1,10 @@
 use Rattle.std.proofs.Common.{◌≡◌, ◌∙◌, ℕ, List, Ok, ap, subst, sym}
-use Rattle.tm_meaning.specs.Calls.{Asked}
+use Rattle.tm_meaning.specs.Calls.{Asked, by_depths}
 use Rattle.tm_state.specs.Answers.{Becomes}
 use Rattle.template_machine.specs.Environment.{host_of}
 use Rattle.template_machine.specs.Renders.{StateValue, call_by_name, called_value}
 use Rattle.template_machine.proofs.Texts.{printed}
-use Rattle.template_machine.proofs.MacroLists.{macro_keeps}
+use Rattle.template_machine.proofs.CallLists.{macro_runs_none, name_keeps}
 use Rattle.template_machine.proofs.state.StateOf.call_macro.Goals as goal
 
 pub returns-clause-called : goal.returns-clause-called
@@ -23,7 +23,7 @@ returns-clause-called g c =
     ∙ c.in_ok-value.ensures.called asked becomes) c.to_text.ensures
 
 pub returns-clause-lists : goal.returns-clause-lists
-returns-clause-lists g c = λ m found.
+returns-clause-lists g c = λ none.
     let of_state : StateValue g.row.O.Denot → List ℕ → Asked =
     λ s x. call_by_name (host_of g.O.Parties.stated s.template) x c.args.args.now s.world in
     let asked = of_state c.args.self.now c.args.name.now in
@@ -32,10 +32,17 @@ returns-clause-lists g c = λ m found.
     (ap (λ s. of_state s c.in_ok-hashed.hashed) c.self.view_is ∙ ap (λ x. of_state c.args.self.now x) c.in_ok-hashed.ensures)
     c.in_ok-called.ensures.called in
     c.in_ok-value.ensures.lists c.args.self.now.world
-    (macro_keeps _ c.in_ok-called.called c.args.self.now.world c.call_named.new.self (host_of g.O.Parties.stated c.args.self.now.template) c.args.name.now m c.args.args.now found becomes)
+    (name_keeps c.in_ok-called.called c.args.self.now.world c.call_named.new.self (host_of g.O.Parties.stated c.args.self.now.template)
+    c.args.name.now c.args.args.now none becomes)
+
+pub returns-clause-of_macro : goal.returns-clause-of_macro
+returns-clause-of_macro g c = λ m found.
+    let host = host_of g.O.Parties.stated c.args.self.now.template in
+    let w = c.args.self.now.world in
+    returns-clause-lists g c (macro_runs_none (by_depths host w) host c.args.name.now m c.args.args.now w found)
 
 pub returns-in_err-value-clause-lists : goal.returns-in_err-value-clause-lists
-returns-in_err-value-clause-lists g c = λ m found.
+returns-in_err-value-clause-lists g c = λ none.
     let of_state : StateValue g.row.O.Denot → List ℕ → Asked =
     λ s x. call_by_name (host_of g.O.Parties.stated s.template) x c.args.args.now s.world in
     let asked = of_state c.args.self.now c.args.name.now in
@@ -44,4 +51,11 @@ returns-in_err-value-clause-lists g c = λ m found.
     (ap (λ s. of_state s c.in_ok-hashed.hashed) c.self.view_is ∙ ap (λ x. of_state c.args.self.now x) c.in_ok-hashed.ensures)
     c.in_ok-called.ensures.called in
     c.value_of.ensures.lists c.args.self.now.world
-    (macro_keeps _ c.in_ok-called.called c.args.self.now.world c.call_named.new.self (host_of g.O.Parties.stated c.args.self.now.template) c.args.name.now m c.args.args.now found becomes)
+    (name_keeps c.in_ok-called.called c.args.self.now.world c.call_named.new.self (host_of g.O.Parties.stated c.args.self.now.template)
+    c.args.name.now c.args.args.now none becomes)
+
+pub returns-in_err-value-clause-of_macro : goal.returns-in_err-value-clause-of_macro
+returns-in_err-value-clause-of_macro g c = λ m found.
+    let host = host_of g.O.Parties.stated c.args.self.now.template in
+    let w = c.args.self.now.world in
+    returns-in_err-value-clause-lists g c (macro_runs_none (by_depths host w) host c.args.name.now m c.args.args.now w found)

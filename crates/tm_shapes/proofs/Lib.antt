@@ -1,0 +1,13 @@
+pub mod Stacked
+pub mod Comes
+pub mod Fine
+pub mod Effects
+pub mod Never
+pub mod Lays
+pub mod Trees
+pub mod Tags
+pub mod Made
+pub mod Finds
+pub mod Readings
+pub mod Entered
+pub mod Accepted

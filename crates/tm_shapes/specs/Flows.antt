@@ -1,0 +1,285 @@
+-- Where an instruction leads from a shape, and with which shapes: the table of instructions.
+use Rattle.std.specs.Prelude.{◌≡◌, length, ℕ, zero, suc, ◌+◌, pos, List, [], ◌∷◌, ◌++◌, Option, Some, None, Bool, true, false, slice_get, nat_eq, not, ◌&&◌}
+use Rattle.tm_values.specs.Val.{Val, number}
+use Rattle.tm_meaning.specs.World.{choose}
+use Rattle.tm_meaning.specs.Instructions.{names_in}
+use Rattle.tm_meaning.specs.Steps.{is_empty}
+use Rattle.tm_syntax.specs.declared.instruction.LoopFlags.{LoopFlags}
+use Rattle.tm_syntax.specs.declared.instruction.Instruction.{Instruction}
+use Rattle.tm_syntax.specs.declared.instruction.Instruction.TheVariants as i
+use Rattle.tm_shapes.specs.Shapes.{Kind, value, nothing, group, closure, names, opened, one, FrameKind, scope, loop, Part, no_part, Shape, entry_shape}
+
+-- An instruction lacks what it takes or closes; it ends the run; or it leads to a place in a shape, or to either of two.
+pub data Flow : Type 0 where
+  refused : Flow
+  ends : Flow
+  leads : ℕ → Shape → Flow
+  both : Flow → Flow → Flow
+
+-- Where an instruction stands: its place, those after it, whether a jump leads between the next two, whether it is the 1 between `Swap` and
+-- `Add`, and whether 0 may stand for a group.
+pub record Site : Type 0 where
+  pub place : ℕ
+  pub rest : List Instruction
+  pub entered : Bool
+  pub between : Bool
+  pub loose : Bool
+
+-- ---------------------------------------------------------------- operands
+-- whether an operand can be taken as a value
+abbrev pub is_value : Kind → Bool
+is_value value = true
+is_value nothing = true
+is_value one = true
+is_value k = false
+
+abbrev pub pop : List Kind → (List Kind → Flow) → Flow
+pop [] f = refused
+pop (k ∷ ks) f = choose (is_value k) (λ _. f ks) (λ _. refused)
+
+abbrev pub pops : ℕ → List Kind → (List Kind → Flow) → Flow
+pops zero ks f = f ks
+pops (suc n) ks f = pop ks (λ ks1. pops n ks1 f)
+
+abbrev pub pop_group : List Kind → (List Kind → Flow) → Flow
+pop_group (group ∷ ks) f = f ks
+pop_group (nothing ∷ ks) f = f ks
+pop_group ks f = refused
+
+-- so many values, or a group
+abbrev pub pop_counted : Option ℕ → List Kind → (List Kind → Flow) → Flow
+pop_counted (Some n) ks f = pops n ks f
+pop_counted None ks f = pop_group ks f
+
+abbrev pub pushed : ℕ → List Kind → List Kind
+pushed zero ks = ks
+pushed (suc n) ks = value ∷ pushed n ks
+
+abbrev pub with_operands : List Kind → Shape → Shape
+with_operands ks s = record s { part = record s.part { operands = ks } }
+
+abbrev pub next : Site → List Kind → Shape → Flow
+next at ks s = leads (at.place + 1) (with_operands ks s)
+
+-- ---------------------------------------------------------------- what stands together
+abbrev pub is_one : Val → Bool
+is_one (number (pos n)) = nat_eq n 1
+is_one v = false
+
+abbrev pub is_zero : Val → Bool
+is_zero (number (pos n)) = nat_eq n 0
+is_zero v = false
+
+-- 1 and then `Add` stand next
+abbrev pub adds_one : List Instruction → Bool
+adds_one (i.LoadConst v ∷ i.Add ∷ more) = is_one v
+adds_one more = false
+
+abbrev pub builds : List Instruction → Bool
+builds (i.BuildMacro x place caller ∷ more) = true
+builds more = false
+
+abbrev pub builds_after : List Instruction → Bool
+builds_after (i.LoadConst v ∷ more) = builds more
+builds_after more = false
+
+-- ---------------------------------------------------------------- instructions
+-- so many values are replaced by so many
+abbrev pub replaces : Site → ℕ → ℕ → Shape → Flow
+replaces at n m s = pops n s.part.operands (λ ks. next at (pushed m ks) s)
+
+abbrev pub replaces_counted : Site → Option ℕ → Shape → Flow
+replaces_counted at n s = pop_counted n s.part.operands (λ ks. next at (value ∷ ks) s)
+
+abbrev pub load_value : Site → Val → Shape → Flow
+load_value at v s =
+    choose (at.loose && is_zero v) (λ _. next at (nothing ∷ s.part.operands) s) (λ _. next at (value ∷ s.part.operands) s)
+
+abbrev pub load_on : Site → Val → Shape → Flow
+load_on at v s = choose (at.between && is_one v) (λ _. next at (one ∷ s.part.operands) s) (λ _. load_value at v s)
+
+abbrev pub load_names : Option (List (List ℕ)) → Site → Shape → Flow
+load_names (Some xs) at s = next at (names (length xs) ∷ s.part.operands) s
+load_names None at s = refused
+
+abbrev pub load : Site → Val → Shape → Flow
+load at v s = choose (builds at.rest) (λ _. load_names (names_in v) at s) (λ _. load_on at v s)
+
+abbrev pub get_closure : Site → Shape → Flow
+get_closure at s =
+    choose (builds_after at.rest) (λ _. next at (closure ∷ s.part.operands) s) (λ _. next at (value ∷ s.part.operands) s)
+
+-- a macro, which is entered at a place over as many values
+abbrev pub build_macro : Site → ℕ → Shape → List Kind → Flow
+build_macro at place s (names n ∷ closure ∷ ks) = both (next at (value ∷ ks) s) (leads place (entry_shape n))
+build_macro at place s ks = refused
+
+-- A value over a group goes into it, where nothing jumps between.
+abbrev pub swap_group : Site → Shape → List Kind → Flow
+swap_group at s ks = choose (adds_one at.rest && not at.entered) (λ _. next at (opened ∷ ks) s) (λ _. refused)
+
+abbrev pub swap : Site → Shape → List Kind → Flow
+swap at s (value ∷ group ∷ ks) = swap_group at s ks
+swap at s (nothing ∷ group ∷ ks) = swap_group at s ks
+swap at s (value ∷ nothing ∷ ks) = choose (adds_one at.rest) (λ _. swap_group at s ks) (λ _. next at (value ∷ value ∷ ks) s)
+swap at s (nothing ∷ nothing ∷ ks) = choose (adds_one at.rest) (λ _. swap_group at s ks) (λ _. next at (value ∷ value ∷ ks) s)
+swap at s ks = pops 2 ks (λ ks1. next at (value ∷ value ∷ ks1) s)
+
+abbrev pub add : Site → Shape → List Kind → Flow
+add at s (one ∷ opened ∷ ks) = next at (group ∷ ks) s
+add at s ks = pops 2 ks (λ ks1. next at (value ∷ ks1) s)
+
+abbrev pub jump_if : Site → ℕ → Shape → Flow
+jump_if at n s = pop s.part.operands (λ ks. both (next at ks s) (leads n (with_operands ks s)))
+
+abbrev pub jump_or_pop : Site → ℕ → Shape → Flow
+jump_or_pop at n s = pop s.part.operands (λ ks. both (next at ks s) (leads n (with_operands (value ∷ ks) s)))
+
+-- ---------------------------------------------------------------- scopes, loops, captures and escapes
+abbrev pub with_frames : List FrameKind → Shape → Shape
+with_frames fs s = record s { part = record s.part { frames = fs } }
+
+abbrev pub with_captures : ℕ → Shape → Shape
+with_captures n s = record s { part = record s.part { captures = n } }
+
+abbrev pub with_escapes : ℕ → Shape → Shape
+with_escapes n s = record s { part = record s.part { escapes = n } }
+
+abbrev pub on : Site → Shape → Flow
+on at s = leads (at.place + 1) s
+
+abbrev pub push_with : Site → Shape → Flow
+push_with at s = on at (with_frames (scope ∷ s.part.frames) s)
+
+abbrev pub pop_frame : Site → Shape → List FrameKind → Flow
+pop_frame at s (scope ∷ fs) = on at (with_frames fs s)
+pop_frame at s fs = refused
+
+-- a loop that can be called begins a part
+abbrev pub loop_begun : Bool → Shape → Shape
+loop_begun true s = record { part = no_part; below = s.part ∷ s.below }
+loop_begun false s = with_frames (loop s.part.captures s.part.escapes ∷ s.part.frames) s
+
+abbrev pub push_loop : Site → LoopFlags → Shape → Flow
+push_loop at flags s = pop s.part.operands (λ ks. on at (loop_begun flags.recursive (with_operands ks s)))
+
+abbrev pub in_part : List Part → Flow → Flow
+in_part [] f = refused
+in_part (q ∷ qs) f = f
+
+-- where the innermost scope is a loop's
+abbrev pub on_loop : List FrameKind → List Part → Flow → Flow
+on_loop [] below f = in_part below f
+on_loop (scope ∷ fs) below f = refused
+on_loop (loop c e ∷ fs) below f = f
+
+abbrev pub iterate : Site → ℕ → Shape → Flow
+iterate at n s = on_loop s.part.frames s.below (both (next at (value ∷ s.part.operands) s) (leads n s))
+
+abbrev pub did_not_iterate : Site → Shape → Flow
+did_not_iterate at s = on_loop s.part.frames s.below (next at (value ∷ s.part.operands) s)
+
+-- the operands of a part that ends lie over those below
+abbrev pub over_part : List Kind → Part → List Part → Shape
+over_part ks q qs = record { part = record q { operands = ks ++ q.operands }; below = qs }
+
+abbrev pub pop_part : Site → Shape → List Part → Flow
+pop_part at s [] = refused
+pop_part at s (q ∷ qs) = choose (nat_eq s.part.captures 0 && nat_eq s.part.escapes 0) (λ _. on at (over_part s.part.operands q qs)) (λ _. refused)
+
+abbrev pub pop_loop : Site → Shape → List FrameKind → Flow
+pop_loop at s [] = pop_part at s s.below
+pop_loop at s (scope ∷ fs) = refused
+pop_loop at s (loop c e ∷ fs) =
+    choose (nat_eq s.part.captures c && nat_eq s.part.escapes e) (λ _. on at (with_frames fs s)) (λ _. refused)
+
+abbrev pub end_capture : Site → Shape → ℕ → Flow
+end_capture at s zero = refused
+end_capture at s (suc n) = next at (value ∷ s.part.operands) (with_captures n s)
+
+abbrev pub push_escape : Site → Shape → Flow
+push_escape at s = pop s.part.operands (λ ks. next at ks (with_escapes (suc s.part.escapes) s))
+
+abbrev pub pop_escape : Site → Shape → ℕ → Flow
+pop_escape at s zero = refused
+pop_escape at s (suc n) = on at (with_escapes n s)
+
+-- all that was opened is closed
+abbrev pub is_closed : Shape → Bool
+is_closed s = is_empty s.part.frames && nat_eq s.part.captures 0 && nat_eq s.part.escapes 0 && is_empty s.below
+
+abbrev pub returns : Shape → Flow
+returns s = choose (is_closed s) (λ _. ends) (λ _. refused)
+
+abbrev pub unpack_lists : Site → ℕ → Shape → Flow
+unpack_lists at n s = pops n s.part.operands (λ ks. next at (group ∷ ks) s)
+
+abbrev pub flow_of : Site → Instruction → Shape → Flow
+flow_of at (i.EmitRaw t) s = replaces at 0 0 s
+flow_of at i.Emit s = replaces at 1 0 s
+flow_of at (i.Lookup x) s = replaces at 0 1 s
+flow_of at (i.LoadConst v) s = load at v s
+flow_of at (i.GetAttr x) s = replaces at 1 1 s
+flow_of at i.GetItem s = replaces at 2 1 s
+flow_of at i.Slice s = replaces at 4 1 s
+flow_of at (i.BuildList n) s = replaces_counted at n s
+flow_of at (i.BuildTuple n) s = replaces at n 1 s
+flow_of at (i.BuildMap n) s = replaces at (n + n) 1 s
+flow_of at (i.BuildKwargs n) s = replaces at (n + n) 1 s
+flow_of at (i.MergeKwargs n) s = replaces at n 1 s
+flow_of at (i.UnpackLists n) s = unpack_lists at n s
+flow_of at i.Eq s = replaces at 2 1 s
+flow_of at i.Ne s = replaces at 2 1 s
+flow_of at i.Lt s = replaces at 2 1 s
+flow_of at i.Lte s = replaces at 2 1 s
+flow_of at i.Gt s = replaces at 2 1 s
+flow_of at i.Gte s = replaces at 2 1 s
+flow_of at i.In s = replaces at 2 1 s
+flow_of at (i.CompareAndPreserve op) s = replaces at 2 2 s
+flow_of at i.Add s = add at s s.part.operands
+flow_of at i.Sub s = replaces at 2 1 s
+flow_of at i.StringConcat s = replaces at 2 1 s
+flow_of at i.Mul s = replaces at 2 1 s
+flow_of at i.Div s = replaces at 2 1 s
+flow_of at i.IntDiv s = replaces at 2 1 s
+flow_of at i.Rem s = replaces at 2 1 s
+flow_of at i.Pow s = replaces at 2 1 s
+flow_of at i.Neg s = replaces at 1 1 s
+flow_of at i.Not s = replaces at 1 1 s
+flow_of at i.IsUndefined s = replaces at 1 1 s
+flow_of at i.Swap s = swap at s s.part.operands
+flow_of at i.DupTop s = replaces at 1 2 s
+flow_of at i.DiscardTop s = replaces at 1 0 s
+flow_of at (i.Jump n) s = leads n s
+flow_of at (i.JumpIfFalse n) s = jump_if at n s
+flow_of at (i.JumpIfFalseOrPop n) s = jump_or_pop at n s
+flow_of at (i.JumpIfTrueOrPop n) s = jump_or_pop at n s
+flow_of at (i.CallFunction x n) s = replaces_counted at n s
+flow_of at (i.CallMethod x n) s = replaces_counted at n s
+flow_of at (i.CallObject n) s = replaces_counted at n s
+flow_of at (i.ApplyFilter x n cache) s = replaces_counted at n s
+flow_of at (i.PerformTest x n cache) s = replaces_counted at n s
+flow_of at i.FastRecurse s = replaces at 1 0 s
+flow_of at (i.CallBlock b) s = replaces at 0 0 s
+flow_of at i.FastSuper s = replaces at 0 0 s
+flow_of at i.LoadBlocks s = replaces at 1 0 s
+flow_of at (i.Include missing) s = replaces at 1 0 s
+flow_of at i.IncludeModule s = replaces at 1 0 s
+flow_of at i.ExportLocals s = replaces at 1 1 s
+flow_of at (i.StoreLocal x) s = replaces at 1 0 s
+flow_of at (i.Enclose x) s = replaces at 0 0 s
+flow_of at i.GetClosure s = get_closure at s
+flow_of at (i.BuildMacro x place caller) s = build_macro at place s s.part.operands
+flow_of at i.Return s = returns s
+flow_of at (i.UnpackList n) s = replaces at 1 n s
+flow_of at (i.SetAttr x) s = replaces at 2 0 s
+flow_of at i.PushWith s = push_with at s
+flow_of at i.PopFrame s = pop_frame at s s.part.frames
+flow_of at (i.PushLoop flags) s = push_loop at flags s
+flow_of at (i.Iterate n) s = iterate at n s
+flow_of at i.PushDidNotIterate s = did_not_iterate at s
+flow_of at i.PopLoopFrame s = pop_loop at s s.part.frames
+flow_of at (i.BeginCapture mode) s = on at (with_captures (suc s.part.captures) s)
+flow_of at i.EndCapture s = end_capture at s s.part.captures
+flow_of at i.PushAutoEscape s = push_escape at s
+flow_of at i.PopAutoEscape s = pop_escape at s s.part.escapes

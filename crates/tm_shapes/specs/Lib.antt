@@ -1,0 +1,9 @@
+pub mod Shapes
+pub mod Flows
+pub mod Shaped
+pub mod Fits
+pub mod Runs
+pub mod Search
+pub mod Placed
+pub mod Accepts
+pub mod StreamRows
