@@ -1,3 +1,4 @@
 pub mod Converted
 pub mod Ascending
 pub mod Refused
+pub mod Pairs

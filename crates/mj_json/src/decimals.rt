@@ -1,12 +1,20 @@
 //! Numbers with a fraction or an exponent in a text of JSON.
-ghost use Rattle.std.specs.Prelude.{◌≡◌, ◌≤◌, drop, false, true};
+ghost use Rattle.std.specs.Prelude.{◌&&◌, ◌+◌, ◌≡◌, ◌≤◌, drop, false, length, true};
+ghost use Rattle.std.specs.Bool.{OnFalse};
+ghost use Rattle.std.specs.Char.{is_ascii_digit};
+ghost use Rattle.std.specs.Simd.Lanes.{chunk, mask_l, zip2};
 ghost use Rattle.mj_json.specs.Json as spec;
+
+use std::simd::prelude::*;
 
 /// Whether a number with a fraction or an exponent stands in the text, also where its key comes
 /// again.
 pub(crate) fn has_decimal(bytes: &[u8]) -> bool
     ensures { result ≡ spec.has_decimal bytes.now }
 {
+    if !may_have_decimal(bytes) {
+        return false;
+    }
     let mut place = 0;
     while place < bytes.len() {
         match bytes[place] {
@@ -21,6 +29,41 @@ pub(crate) fn has_decimal(bytes: &[u8]) -> bool
         }
     }
     false
+}
+
+/// Whether there may be one: not where no digit comes before a `.`, an `e` or an `E`. The last
+/// block ends with the text, and so may overlap the one before it.
+fn may_have_decimal(bytes: &[u8]) -> bool
+    ensures { OnFalse result (spec.has_decimal bytes.now ≡ false) }
+{
+    if bytes.len() < 33 {
+        return true;
+    }
+    let last = bytes.len() - 33;
+    let mut at = 0;
+    while at < last {
+        if decimal_lanes(bytes, at) != 0 {
+            return true;
+        }
+        at += 32;
+    }
+    decimal_lanes(bytes, last) != 0
+}
+
+/// A bit for each of the 32 bytes from `at` on: whether it is a digit, and the byte after it begins
+/// a fraction or an exponent.
+#[inline(always)]
+fn decimal_lanes(bytes: &[u8], at: usize) -> u64
+    requires { at + 33 ≤ length bytes.now }
+    ensures { result ≡ mask_l (zip2 (λ x y. is_ascii_digit x && spec.begins_decimal y)
+        (chunk at 32 bytes.now) (chunk (at + 1) 32 bytes.now)) }
+{
+    let byte = u8x32::from_slice(&bytes[at..]);
+    let next = u8x32::from_slice(&bytes[at + 1..]);
+    let digit = (byte - u8x32::splat(b'0')).simd_lt(u8x32::splat(10));
+    let point = next.simd_eq(u8x32::splat(b'.'));
+    let exponent = (next | u8x32::splat(0x20)).simd_eq(u8x32::splat(b'e'));
+    (digit & (point | exponent)).to_bitmask()
 }
 
 /// Whether the byte begins a fraction or an exponent where it comes after a digit.

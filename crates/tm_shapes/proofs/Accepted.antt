@@ -1,5 +1,5 @@
 -- A stream that is accepted has shapes.
-use Rattle.std.proofs.Common.{◌≡◌, ◌⊎◌, inl, inr, ℕ, zero, suc, ◌+◌, ◌≤◌, List, [], ◌∷◌, length, Option, Some, None, Bool, true, false, refl, sym, ap}
+use Rattle.std.proofs.Common.{◌≡◌, ◌⊎◌, inl, inr, ℕ, zero, suc, ◌+◌, List, [], ◌∷◌, length, Option, Some, None, Bool, true, false, refl, sym, ap}
 use Rattle.std.proofs.Common.{◌∙◌, subst, arith, eqb-true}
 use Rattle.std.specs.Prelude.{slice_get, option_and_then, nat_eq, nat_lt, not, is_some, ◌&&◌, ◌||◌, ◌++◌, if◌then◌else◌}
 use Rattle.std.proofs.lemmas.Slice.Eq.{bytes_eq-Decides}
@@ -11,8 +11,8 @@ use Rattle.tm_syntax.specs.Entries.{Entries, entries}
 use Rattle.tm_syntax.specs.Named.{same_name}
 use Rattle.tm_shapes.specs.Shapes.{Kind, value, nothing, group, closure, names, opened, one, FrameKind, scope, loop, Part, Shape, Shapes, first_shape}
 use Rattle.tm_shapes.specs.Shapes.{entry_shape, shape_at}
-use Rattle.tm_shapes.specs.Flows.{Flow, refused, ends, leads, both, Site, flow_of, is_closed}
-use Rattle.tm_shapes.specs.Shaped.{Meets, ReadsTo, HasCache, UsesCache, IsShaped}
+use Rattle.tm_shapes.specs.Flows.{Flow, refused, ends, leads, both, flow_of, is_closed}
+use Rattle.tm_shapes.specs.Shaped.{Meets, HasCache, UsesCache, IsShaped}
 use Rattle.tm_shapes.specs.Search.{Found, Has, search}
 use Rattle.tm_shapes.specs.Placed.{Numbered, agrees, caches_fit, filter_of, filters_in, is_placed, parts_fit, targets_within, test_of, tests_in}
 use Rattle.tm_shapes.specs.Accepts.{FitsStrictly, accepts, begun, ends_with, found, no_shapes, reaching, same_frames, same_kind, same_kinds, same_part, same_parts}
@@ -325,25 +325,27 @@ module _ (operands : ℕ) (code : List Instruction) where
       let steps = length (no_shapes code) in
       let fit = finds.search_fits same_shape shape_is is_shape code (site_of code) (ends_with operands) steps f.work f.shapes out.0 first.2
       (λ n s q. inl (started.fresh n s q)) in
-      let grows = finds.search_grows same_shape shape_is is_shape code (site_of code) (ends_with operands) steps f.work f.shapes out.0 first.2 in
-      (out.0, record {
-        start = record { shape = first_shape; at = grows 0 first_shape started.start; reads = shape_same first_shape };
-        steps = λ n x s at there. (
+      let grows = finds.search_grows same_shape shape_is is_shape code (site_of code) (ends_with operands) steps f.work f.shapes out.0 first.2 in (
+        out.0,
+        record {
+          start = record { shape = first_shape; at = grows 0 first_shape started.start; reads = shape_same first_shape };
+          steps = λ n x s at there. (
             site_of code n,
             refl,
             has_meets out.0 (flow_of (site_of code n) x s)
-            (subst (λ o. finds.Fits same_shape shape_is is_shape code (site_of code) (ends_with operands) out.0 n o s) at (fit n s there)),
+                (subst (λ o. finds.Fits same_shape shape_is is_shape code (site_of code) (ends_with operands) out.0 n o s) at (fit n s there)),
           );
-        last = λ n s at there. fits_last out.0 n (slice_get code n) s refl at (fit n s there);
-        macros = λ k e q. record {
-          shape = entry_shape e.1;
-          at = grows e.0 (entry_shape e.1) (started.macros k e q);
-          reads = shape_same (entry_shape e.1);
-        };
-        filters = name_at (filters_in code);
-        tests = name_at (tests_in code);
-        caches = uses h.0;
-      })
+          last = λ n s at there. fits_last out.0 n (slice_get code n) s refl at (fit n s there);
+          macros = λ k e q. record {
+            shape = entry_shape e.1;
+            at = grows e.0 (entry_shape e.1) (started.macros k e q);
+            reads = shape_same (entry_shape e.1);
+          };
+          filters = name_at (filters_in code);
+          tests = name_at (tests_in code);
+          caches = uses h.0;
+        },
+      )
 
   -- ---------------------------------------------------------------- where shapes meet the rules it is accepted
   unmet_all : (xs : List Instruction) →
@@ -381,13 +383,16 @@ module _ (operands : ℕ) (code : List Instruction) where
         (g : Found) × (reaching code operands n s f ≡ Some g) × Going g
     reach_by n s f None at went going = absurd went
     reach_by n s f (Some g) at went going =
-        let x = reached n s f g at in
-        (g, at, record {
-          agrees = went;
-          long = x.long ∙ going.long;
-          met = λ m a. met_by f g m going x.grows (x.added m a);
-          enough = x.less ∙ going.enough;
-        })
+        let x = reached n s f g at in (
+          g,
+          at,
+          record {
+            agrees = went;
+            long = x.long ∙ going.long;
+            met = λ m a. met_by f g m going x.grows (x.added m a);
+            enough = x.less ∙ going.enough;
+          },
+        )
 
     reach_on : (n : ℕ) (s : Shape) (f : Found) → shape_at d n ≡ Some s → Going f →
         (g : Found) × (reaching code operands n s f ≡ Some g) × Going g

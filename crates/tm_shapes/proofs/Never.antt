@@ -1,10 +1,10 @@
 -- A stream that has shapes is never stuck.
-use Rattle.std.proofs.Common.{◌≡◌, ◌⊎◌, inl, inr, ℕ, zero, suc, ◌+◌, ◌≤◌, pos, List, [], ◌∷◌, ◌++◌, length, Option, Some, None, Bool, true, false, Ok, Err}
-use Rattle.std.proofs.Common.{refl, sym, ap, ◌∙◌, subst, arith, append_assoc}
-use Rattle.std.specs.Prelude.{slice_get, option_and_then, nat_eq, nat_lt, ◌&&◌, cond, ℤ, ◌==◌, if◌then◌else◌, codes, not, is_none, negsuc, ◌+ℤ◌}
+use Rattle.std.proofs.Common.{◌≡◌, ◌⊎◌, inl, inr, ℕ, ◌+◌, pos, List, [], ◌∷◌, ◌++◌, length, Option, Some, None, Bool, true, false, Ok, Err}
+use Rattle.std.proofs.Common.{refl, sym, ap, ◌∙◌, subst, arith}
+use Rattle.std.specs.Prelude.{slice_get, nat_eq, nat_lt, ◌&&◌, cond, ℤ, not, is_none, negsuc, ◌+ℤ◌}
 use Rattle.std.proofs.lemmas.Bool.Decides.{nat_tests}
 use Rattle.tm_values.specs.Answer.{Answer, invalid}
-use Rattle.tm_values.specs.Val.{Val, number, undefined, boolean, text_in}
+use Rattle.tm_values.specs.Val.{Val, number, boolean, text_in}
 use Rattle.tm_values.specs.Truth.{is_undefined}
 use Rattle.tm_values.specs.declared.error.ErrorKind.{ErrorKind}
 use Rattle.tm_values.specs.declared.error.ErrorKind.TheVariants.{InvalidOperation, TemplateNotFound, OutOfFuel}
@@ -23,30 +23,30 @@ use Rattle.tm_meaning.specs.World.{escape_for, enclose, has_enclosed, put_enclos
 use Rattle.tm_meaning.specs.World.{name_of, find, records_of, captured_text, top_loop, store, Scope, read_closure, put_in}
 use Rattle.tm_definitions.specs.Iteration.{items_or}
 use Rattle.tm_definitions.specs.Members.{or_undefined}
-use Rattle.tm_meaning.specs.Operators.{result_of, result_of_unary, keyword_map, map_of_pairs, truth, applied_unary, operated, attribute, item_at, slice_of, merged_values, items_of_lists, list_of_values}
-use Rattle.tm_meaning.specs.Inheritance.{load, loading}
+use Rattle.tm_meaning.specs.Operators.{result_of, result_of_unary, keyword_map, map_of_pairs, operated, list_of_values}
+use Rattle.tm_meaning.specs.Inheritance.{load}
 use Rattle.tm_meaning.specs.Calls.{call_named, call_callee, applied, call_innermost, enter_block, enter_super, enter_include, Asked, Callee}
 use Rattle.tm_meaning.specs.Meaning.{none_waits}
 use Rattle.tm_meaning.specs.declared.base.Base.{Base}
 use Rattle.tm_meaning.specs.declared.stream.StreamId.{StreamId}
 use Rattle.tm_meaning.specs.declared.stream.TemplateId.{TemplateId}
-use Rattle.tm_meaning.specs.Machine.{Activation, Capture, Config, Program, End, Finished, Failed, Stuck, Back, back_to, Next, More, Over, Restart, Nest, with_world}
-use Rattle.tm_meaning.specs.Machine.{after, on_top, on_taken, taken, onto, on, goes, jumps, writes, audible, new_capture, first_run, running, base_of, asked, asked_in_place}
+use Rattle.tm_meaning.specs.Machine.{Activation, Capture, Config, Program, End, Finished, Failed, Stuck, Next, with_world}
+use Rattle.tm_meaning.specs.Machine.{after, on_top, on_taken, taken, on, goes, jumps, writes, audible, new_capture, first_run, running, base_of, asked, asked_in_place}
 use Rattle.tm_meaning.specs.Instructions.{apply_of, take_counted, on_truth, iterate_with, closure_in, names_in, on_parts, closure_value, group_on, on_used, used}
 use Rattle.tm_meaning.specs.Instructions.{with_filters, with_tests, is_heard, awaiting, on_loop as on_top_loop, replacing}
 use Rattle.tm_meaning.specs.Steps.{effect, pay, act, step, closed, finish, parent_next, Final, final, Leads, over, more, restart, nest, begun as run_begun, begins}
-use Rattle.tm_shapes.specs.Shapes.{Kind, value, nothing, group, closure, names, opened, one, FrameKind, scope, loop, Part, no_part, Shape, Shapes, shape_at}
+use Rattle.tm_shapes.specs.Shapes.{Kind, value, nothing, group, closure, names, opened, one, FrameKind, scope, loop, Part, Shape, Shapes}
 use Rattle.tm_shapes.specs.Flows.{Flow, refused, ends, leads, both, Site, flow_of, pop, pops, replaces, replaces_counted, with_operands, next, pushed, on_loop}
 use Rattle.tm_shapes.specs.Flows.{is_value, swap, swap_group, add, load as load_flow, load_on, load_names, get_closure, build_macro, builds, builds_after, adds_one, is_one, is_zero as is_nought, is_closed}
 use Rattle.tm_shapes.specs.Flows.{jump_if, jump_or_pop, pop_loop}
 use Rattle.tm_shapes.specs.Shaped.{ReadsTo, Meets, IsShaped, HasCache, UsesCache}
-use Rattle.tm_shapes.specs.Fits.{Match, marks_of, ids_of, Ground, AllEnter, stacks_of, count_of, HoldOnly, Stand, Stands}
-use Rattle.tm_shapes.proofs.Comes.{Calm, calm_same, calm_then, callee_stream, Comes, named_comes, callee_comes, applied_comes, innermost_comes, block_comes, super_comes}
+use Rattle.tm_shapes.specs.Fits.{Match, ids_of, Ground, AllEnter, Stand}
+use Rattle.tm_shapes.proofs.Comes.{Calm, calm_same, callee_stream, Comes, named_comes, callee_comes, applied_comes, innermost_comes, block_comes, super_comes}
 use Rattle.tm_shapes.proofs.Comes.{include_comes, owning_marks}
 use Rattle.tm_shapes.proofs.Fine.{Grounded, Enter, At, EndsWell, EndFine, Nests, Fine, back_fine, after_fine, choose_fine, pop_fine, pops_fine, counted_fine, settles}
 use Rattle.tm_shapes.proofs.Fine.{calm_enter, moves, at_next, goes_fine, writes_fine, ground_of, First, first_is}
-use Rattle.tm_shapes.proofs.Effects.{store_calm, use_cache, asked_fine, placed_fine, loop_fine, iterate_fine, OnLoop, push_loop_fine, push_with_fine, pop_frame_fine}
-use Rattle.tm_shapes.proofs.Effects.{pop_loop_frame_fine, begin_fine, end_fine, push_escape_fine, pop_escape_fine, closed_by, Closed, parent_fine, return_fine}
+use Rattle.tm_shapes.proofs.Effects.{store_calm, use_cache, asked_fine, placed_fine, loop_fine, iterate_fine, push_loop_fine, push_with_fine, pop_frame_fine}
+use Rattle.tm_shapes.proofs.Effects.{pop_loop_frame_fine, begin_fine, end_fine, push_escape_fine, pop_escape_fine, closed_by, parent_fine, return_fine}
 use Rattle.tm_shapes.proofs.Effects.{unpack_fine, group_match}
 
 -- ---------------------------------------------------------------- worlds

@@ -1,11 +1,11 @@
 -- The code of statements leaves the shape from which it begins.
-use Rattle.std.proofs.Common.{◌≡◌, ℕ, zero, suc, ◌+◌, List, [], ◌∷◌, ◌++◌, length, Option, Some, None, Bool, true, false, refl, sym, ap, ◌∙◌, subst, arith}
+use Rattle.std.proofs.Common.{◌≡◌, ℕ, zero, suc, ◌+◌, List, [], ◌∷◌, length, Option, Some, None, Bool, true, false, refl, sym, ap, ◌∙◌, subst, arith}
 use Rattle.std.specs.Prelude.{pos, nat_eq, codes}
 use Rattle.std.proofs.lemmas.Bool.Decides.{nat_tests}
 use Rattle.tm_values.specs.Val.{number, text}
 use Rattle.tm_syntax.specs.declared.tree.Expr.{Expr, Var, Const, List', Tuple', Map', Call', SelfBlock, Row_of-Step}
 use Rattle.tm_syntax.specs.declared.tree.Expr.{end_of-Step as no_step, more_of-Step as step}
-use Rattle.tm_syntax.specs.declared.tree.Step.{Step, Attribute, Apply', Call' as Called}
+use Rattle.tm_syntax.specs.declared.tree.Step.{Step, Apply', Call' as Called}
 use Rattle.tm_syntax.specs.declared.tree.AssignmentTarget.{AssignmentTarget, Name as To, Unpack' as Items, Attribute as Member}
 use Rattle.tm_syntax.specs.declared.tree.AssignmentTarget.{Row_of-AssignmentTarget}
 use Rattle.tm_syntax.specs.declared.tree.AssignmentTarget.{end_of-AssignmentTarget as no_target, more_of-AssignmentTarget as target}
@@ -20,22 +20,17 @@ use Rattle.tm_syntax.specs.declared.tree.Stmt.{Include, Import, FromImport}
 use Rattle.tm_syntax.specs.declared.tree.Stmt.{end_of-Stmt as no_statement}
 use Rattle.tm_syntax.specs.declared.tree.Stmt.{more_of-Stmt as statement, Held-Stmt-If-2 as Otherwise, None' as no_else}
 use Rattle.tm_syntax.specs.declared.tree.Stmt.{Some' as otherwise}
-use Rattle.tm_syntax.specs.declared.instruction.CaptureMode.{CaptureMode}
-use Rattle.tm_syntax.specs.declared.instruction.CaptureMode.TheVariants.{Capture, Discard}
-use Rattle.tm_syntax.specs.declared.instruction.LoopFlags.{LoopFlags}
-use Rattle.tm_syntax.specs.declared.instruction.Instruction.{Instruction}
 use Rattle.tm_syntax.specs.declared.instruction.Instruction.TheVariants as i
 use Rattle.tm_syntax.specs.declared.opened.Opened.{Opened}
 use Rattle.tm_syntax.specs.declared.opened.Opened.TheVariants.{Scope as a_scope, Escape as an_escape, Capture as a_capture}
-use Rattle.tm_syntax.specs.Forms.{unary, chained, conditional, with_condition, with_comparison, with_pair, plain, spread, keyword}
-use Rattle.tm_syntax.specs.Forms.{spread_keywords, item, slice, binary, compare, and_then, or_else}
-use Rattle.tm_syntax.specs.Code.{rows_of, map_of_row, RowEnd, row_end, caller_end, passed_count, application_code, expr_code, step_code, steps_code}
+use Rattle.tm_syntax.specs.Forms.{chained}
+use Rattle.tm_syntax.specs.Code.{map_of_row, RowEnd, caller_end, passed_count, expr_code}
 use Rattle.tm_syntax.specs.Code.{passing_code, called_alone, step_call_code, steps_call_code, call_code, count_targets, target_code, targets_code, set_code}
-use Rattle.tm_syntax.specs.Code.{assignments_code, filters_code, use_code, included_code, lookups_code, stores_code, close, close_all, for_flags, pass_flags}
-use Rattle.tm_syntax.specs.Code.{take_item, pass_round, iterable_code, default_code, parameter_code, parameters_code, macro_head, statement_code}
+use Rattle.tm_syntax.specs.Code.{assignments_code, filters_code, use_code, included_code, lookups_code, stores_code, close_all}
+use Rattle.tm_syntax.specs.Code.{iterable_code, default_code, parameter_code, parameters_code, macro_head, statement_code}
 use Rattle.tm_syntax.specs.Code.{statements_code, branches_code, after_loop_code}
 use Rattle.tm_syntax.specs.Names.{parameter_names}
-use Rattle.tm_syntax.specs.Fragments.{Fragment, straight, ◌⨾◌, over, either, declares, break_loop, looped, next_round}
+use Rattle.tm_syntax.specs.Fragments.{Fragment, straight, ◌⨾◌, declares}
 use Rattle.tm_shapes.specs.Shapes.{Kind, value, nothing, group, opened, one, FrameKind, scope, loop, Part, no_part, Shape, ReadsShape, first_shape, entry_shape, values}
 use Rattle.tm_shapes.specs.Flows.{Flow, Site, flow_of, leads, pops, pushed, with_operands, with_frames, with_captures, with_escapes, replaces, on_loop}
 use Rattle.tm_shapes.specs.Flows.{over_part, loop_begun}
@@ -53,10 +48,10 @@ mutual
   pub target_types : (t : AssignmentTarget) → Replaces 1 0 (target_code t)
   target_types (To x) = one_step (i.StoreLocal x) 1 0 (λ at s. refl)
   target_types (Items _ ts) = λ e s ks. (
-      Over (count_targets ts) ks s,
-      one_step (i.UnpackList (count_targets ts)) 1 (count_targets ts) (λ at s. refl) e s ks,
-      targets_types ts e s ks,
-    )
+    Over (count_targets ts) ks s,
+    one_step (i.UnpackList (count_targets ts)) 1 (count_targets ts) (λ at s. refl) e s ks,
+    targets_types ts e s ks,
+  )
   target_types (Member x name) =
       then_replace 1 1 2 0 (expr_code x) (straight (i.SetAttr name ∷ [])) refl (expr_types x) (one_step (i.SetAttr name) 2 0 (λ at s. refl))
 
@@ -108,15 +103,15 @@ Within (a_capture ∷ os) s b = (n : ℕ) × (s.part.captures ≡ suc n) × With
 close_types : (os : List Opened) (s b : Shape) → Within os s b → Straight (close_all os) s b
 close_types [] s b h = h
 close_types (a_scope ∷ os) s b (fs, is, h) = (
-    with_frames fs s,
-    λ pc. (site pc, refl, ap (λ x. Rattle.tm_shapes.specs.Flows.pop_frame (site pc) s x) is),
-    close_types os (with_frames fs s) b h,
-  )
+  with_frames fs s,
+  λ pc. (site pc, refl, ap (λ x. Rattle.tm_shapes.specs.Flows.pop_frame (site pc) s x) is),
+  close_types os (with_frames fs s) b h,
+)
 close_types (an_escape ∷ os) s b (n, is, h) = (
-    with_escapes n s,
-    λ pc. (site pc, refl, ap (λ x. Rattle.tm_shapes.specs.Flows.pop_escape (site pc) s x) is),
-    close_types os (with_escapes n s) b h,
-  )
+  with_escapes n s,
+  λ pc. (site pc, refl, ap (λ x. Rattle.tm_shapes.specs.Flows.pop_escape (site pc) s x) is),
+  close_types os (with_escapes n s) b h,
+)
 close_types (a_capture ∷ os) s b (n, is, h) =
     let t = with_captures n s in (
       with_operands (value ∷ s.part.operands) t,
@@ -154,14 +149,14 @@ reads_group ks = (tt, Rattle.tm_shapes.proofs.Lays.all_same ks)
 counting_types : (ks : List Kind) (b : Shape) → Straight (i.Swap ∷ i.LoadConst (number (pos 1)) ∷ i.Add ∷ [])
     (with_operands (value ∷ group ∷ ks) b) (with_operands (group ∷ ks) b)
 counting_types ks b = (
-    with_operands (opened ∷ ks) b,
-    λ pc. (record (site pc) { rest = i.LoadConst (number (pos 1)) ∷ i.Add ∷ [] }, refl, refl),
-    (
-      with_operands (one ∷ opened ∷ ks) b,
-      λ pc. (record (site pc) { between = true }, refl, refl),
-      (with_operands (group ∷ ks) b, λ pc. (site pc, refl, refl), shape_same (with_operands (group ∷ ks) b)),
-    ),
-  )
+  with_operands (opened ∷ ks) b,
+  λ pc. (record (site pc) { rest = i.LoadConst (number (pos 1)) ∷ i.Add ∷ [] }, refl, refl),
+  (
+    with_operands (one ∷ opened ∷ ks) b,
+    λ pc. (record (site pc) { between = true }, refl, refl),
+    (with_operands (group ∷ ks) b, λ pc. (site pc, refl, refl), shape_same (with_operands (group ∷ ks) b)),
+  ),
+)
 
 pass_types : (t : AssignmentTarget) (x c : Expr) → (e : Around) (s : Shape) →
     Types e (iterable_code t x (Some c)) s (with_operands (value ∷ s.part.operands) s)
@@ -172,15 +167,19 @@ pass_types t x c e s =
     let a = with_operands (nothing ∷ ks) (with_frames fs s) in
     let b = with_operands (group ∷ ks) (with_frames fs s) in
     let inside = record e { again = b; after = b } in
-    let on = record inside { out = with_operands (value ∷ group ∷ ks) b } in
-    (
+    let on = record inside { out = with_operands (value ∷ group ∷ ks) b } in (
       zero_on,
       (zero_on, λ pc. (record (site pc) { loose = true }, refl, refl), shape_same zero_on),
       (
         with_operands (value ∷ nothing ∷ ks) s,
         expr_types x e zero_on (nothing ∷ ks),
         (
-          value, (nothing ∷ ks), b, b, refl, refl,
+          value,
+          (nothing ∷ ks),
+          b,
+          b,
+          refl,
+          refl,
           record {
             part = record { operands = reads_group ks; frames = refl; captures = refl; escapes = refl };
             below = Rattle.tm_shapes.proofs.Lays.parts_same s.below;
@@ -199,8 +198,14 @@ pass_types t x c e s =
                   with_operands (value ∷ group ∷ ks) b,
                   (
                     with_operands (value ∷ group ∷ ks) b,
-                    (value, (value ∷ group ∷ ks), refl, refl, shape_same (with_operands (value ∷ group ∷ ks) b),
-                    shape_same (with_operands (value ∷ group ∷ ks) b)),
+                    (
+                      value,
+                      (value ∷ group ∷ ks),
+                      refl,
+                      refl,
+                      shape_same (with_operands (value ∷ group ∷ ks) b),
+                      shape_same (with_operands (value ∷ group ∷ ks) b),
+                    ),
                     (b, counting_types ks b, shape_same b),
                   ),
                   one_step i.DiscardTop 1 0 (λ at s. refl) inside b (group ∷ ks),
@@ -222,18 +227,18 @@ pass_types t x c e s =
 default_types : (o : Option Expr) → Replaces 1 1 (default_code o)
 default_types None = λ e s ks. shape_same (Over 1 ks s)
 default_types (Some x) = λ e s ks. (
-    Over 2 ks s,
-    (Over 2 ks s, λ pc. (site pc, refl, refl), one_step i.IsUndefined 1 1 (λ at s. refl) e s (value ∷ ks)),
+  Over 2 ks s,
+  (Over 2 ks s, λ pc. (site pc, refl, refl), one_step i.IsUndefined 1 1 (λ at s. refl) e s (value ∷ ks)),
+  (
+    Over 1 ks s,
+    (value, (value ∷ ks), refl, refl, shape_same (Over 1 ks s), shape_same (Over 1 ks s)),
     (
-      Over 1 ks s,
-      (value, (value ∷ ks), refl, refl, shape_same (Over 1 ks s), shape_same (Over 1 ks s)),
-      (
-        with_operands ks s,
-        one_step i.DiscardTop 1 0 (λ at s. refl) (record e { out = Over 1 ks s }) s ks,
-        expr_types x (record e { out = Over 1 ks s }) s ks,
-      ),
+      with_operands ks s,
+      one_step i.DiscardTop 1 0 (λ at s. refl) (record e { out = Over 1 ks s }) s ks,
+      expr_types x (record e { out = Over 1 ks s }) s ks,
     ),
-  )
+  ),
+)
 
 parameter_types : (p : Parameter) → Replaces 1 0 (parameter_code p)
 parameter_types p = λ e s ks. (Over 1 ks s, default_types p.default e s ks, one_step (i.StoreLocal p.name) 1 0 (λ at s. refl) e s ks)
@@ -290,15 +295,15 @@ module _ (end : RowEnd) (h : Ends end) where
 
   step_call_types : (x : Step) → Replaces 1 1 (step_call_code end x)
   step_call_types (Apply' k x _ given _ named) = λ e s ks. (
-      with_operands (left (passed_count end 1 given named) ks) s,
-      passed 1 given named e s ks,
-      application_types k x (passed_count end 1 given named) e s ks,
-    )
+    with_operands (left (passed_count end 1 given named) ks) s,
+    passed 1 given named e s ks,
+    application_types k x (passed_count end 1 given named) e s ks,
+  )
   step_call_types (Called _ given _ named) = λ e s ks. (
-      with_operands (left (passed_count end 1 given named) ks) s,
-      passed 1 given named e s ks,
-      call_step (i.CallObject (passed_count end 1 given named)) (passed_count end 1 given named) (λ at s. refl) e s ks,
-    )
+    with_operands (left (passed_count end 1 given named) ks) s,
+    passed 1 given named e s ks,
+    call_step (i.CallObject (passed_count end 1 given named)) (passed_count end 1 given named) (λ at s. refl) e s ks,
+  )
   step_call_types x = λ e s ks. (Over 1 ks s, step_types x e s ks, alone_types e s ks)
 
   steps_call_types : {n : _} (ss : Row_of-Step n) → Replaces 1 1 (steps_call_code end ss)
@@ -308,10 +313,10 @@ module _ (end : RowEnd) (h : Ends end) where
 
   call_types : (x : Expr) → Pushes 1 (call_code end x)
   call_types (Call' f _ given _ named) = λ e s ks. (
-      with_operands (left (passed_count end 0 given named) ks) s,
-      passed 0 given named e s ks,
-      call_step (i.CallFunction f (passed_count end 0 given named)) (passed_count end 0 given named) (λ at s. refl) e s ks,
-    )
+    with_operands (left (passed_count end 0 given named) ks) s,
+    passed 0 given named e s ks,
+    call_step (i.CallFunction f (passed_count end 0 given named)) (passed_count end 0 given named) (λ at s. refl) e s ks,
+  )
   call_types (chained a _ ss) = λ e s ks. (Over 1 ks s, expr_types a e s ks, steps_call_types ss e s ks)
   call_types x = λ e s ks. (Over 1 ks s, expr_types x e s ks, alone_types e s ks)
 
@@ -324,12 +329,14 @@ items_types t x (Some c) e s = pass_types t x c e s
 -- what stands in a scope of its own, where a template runs
 included_types : (x : Expr) (e : Around) (s : Shape) → Types e (included_code x) s (with_frames (scope ∷ s.part.frames) s)
 included_types x e s =
-    let inside = with_frames (scope ∷ s.part.frames) s in
-    (
+    let inside = with_frames (scope ∷ s.part.frames) s in (
       inside,
       (inside, λ pc. (site pc, refl, refl), shape_same inside),
-      (with_operands (value ∷ s.part.operands) inside, expr_types x e inside s.part.operands,
-      one_step i.IncludeModule 1 0 (λ at s. refl) e inside s.part.operands),
+      (
+        with_operands (value ∷ s.part.operands) inside,
+        expr_types x e inside s.part.operands,
+        one_step i.IncludeModule 1 0 (λ at s. refl) e inside s.part.operands,
+      ),
     )
 
 import_types : (x : Expr) (t : AssignmentTarget) (e : Around) (s : Shape) → Types e (statement_code [] (Import x t)) s s
@@ -337,8 +344,7 @@ import_types x t e s =
     let ks = s.part.operands in
     let caught = with_captures (suc s.part.captures) s in
     let inside = with_frames (scope ∷ s.part.frames) caught in
-    let named = with_frames (scope ∷ s.part.frames) s in
-    (
+    let named = with_frames (scope ∷ s.part.frames) s in (
       caught,
       (caught, λ pc. (site pc, refl, refl), shape_same caught),
       (
@@ -346,8 +352,15 @@ import_types x t e s =
         included_types x e caught,
         (
           with_operands (value ∷ ks) s,
-          (with_operands (value ∷ ks) named, λ pc. (site pc, refl, refl), (with_operands (value ∷ ks) named, λ pc. (site pc, refl, refl),
-          (with_operands (value ∷ ks) s, λ pc. (site pc, refl, refl), shape_same (with_operands (value ∷ ks) s)))),
+          (
+            with_operands (value ∷ ks) named,
+            λ pc. (site pc, refl, refl),
+            (
+              with_operands (value ∷ ks) named,
+              λ pc. (site pc, refl, refl),
+              (with_operands (value ∷ ks) s, λ pc. (site pc, refl, refl), shape_same (with_operands (value ∷ ks) s)),
+            ),
+          ),
           target_types t e s ks,
         ),
       ),
@@ -358,8 +371,7 @@ from_types x xs e s =
     let ks = s.part.operands in
     let n = length xs in
     let caught = with_captures (suc s.part.captures) s in
-    let inside = with_frames (scope ∷ s.part.frames) caught in
-    (
+    let inside = with_frames (scope ∷ s.part.frames) caught in (
       caught,
       (caught, λ pc. (site pc, refl, refl), shape_same caught),
       (
@@ -371,8 +383,15 @@ from_types x xs e s =
           (
             with_operands (pushed n ks) caught,
             (with_operands (pushed n ks) caught, λ pc. (site pc, refl, refl), shape_same (with_operands (pushed n ks) caught)),
-            (caught, stores_types xs e caught ks, (with_operands (value ∷ ks) s, λ pc. (site pc, refl, refl),
-            one_step i.DiscardTop 1 0 (λ at s. refl) e s ks)),
+            (
+              caught,
+              stores_types xs e caught ks,
+              (
+                with_operands (value ∷ ks) s,
+                λ pc. (site pc, refl, refl),
+                one_step i.DiscardTop 1 0 (λ at s. refl) e s ks,
+              ),
+            ),
           ),
         ),
       ),
@@ -390,19 +409,30 @@ mutual
       (Over 1 s.part.operands s, expr_types x e s s.part.operands, one_step i.FastRecurse 1 0 (λ at s. refl) e s s.part.operands)
   statement_types os (EmitBlock x) e s h = (s, λ pc. (site pc, refl, refl), shape_same s)
   statement_types os EmitSuper e s h = (s, λ pc. (site pc, refl, refl), shape_same s)
-  statement_types os (If' c _ body other) e s h =
-      (Over 1 s.part.operands s, expr_types c e s s.part.operands,
-      branches_types os (statements_code os body) other e s h (λ e1 g. statements_types os body e1 s g))
+  statement_types os (If' c _ body other) e s h = (
+    Over 1 s.part.operands s,
+    expr_types c e s s.part.operands,
+    branches_types os (statements_code os body) other e s h (λ e1 g. statements_types os body e1 s g),
+  )
   statement_types os (For' t x c recursive _ body other) e s h =
       let ks = s.part.operands in
-      let b = loop_begun recursive s in
-      (
+      let b = loop_begun recursive s in (
         with_operands (value ∷ ks) s,
         items_types t x c e s,
         (
-          value, ks, b, b, refl, refl, shape_same b, tops recursive s,
-          (b, target_types t (record e { again = b; after = b }) b b.part.operands,
-          statements_types [] body (record e { again = b; after = b }) b (shape_same b, shape_same b)),
+          value,
+          ks,
+          b,
+          b,
+          refl,
+          refl,
+          shape_same b,
+          tops recursive s,
+          (
+            b,
+            target_types t (record e { again = b; after = b }) b b.part.operands,
+            statements_types [] body (record e { again = b; after = b }) b (shape_same b, shape_same b),
+          ),
           shape_same b,
           after_types os recursive other e s h,
         ),
@@ -415,8 +445,7 @@ mutual
   statement_types os (Set t x) e s h = set_types t x e s
   statement_types os (CaptureBlock' u filters _ body) e s h =
       let ks = s.part.operands in
-      let inside = with_captures (suc s.part.captures) s in
-      (
+      let inside = with_captures (suc s.part.captures) s in (
         inside,
         (inside, λ pc. (site pc, refl, refl), shape_same inside),
         (
@@ -430,8 +459,7 @@ mutual
         ),
       )
   statement_types os (With' given _ body) e s h =
-      let inside = with_frames (scope ∷ s.part.frames) s in
-      (
+      let inside = with_frames (scope ∷ s.part.frames) s in (
         inside,
         (inside, λ pc. (site pc, refl, refl), shape_same inside),
         (
@@ -447,8 +475,7 @@ mutual
   statement_types os (Do x) e s h =
       (Over 1 s.part.operands s, expr_types x e s s.part.operands, one_step i.DiscardTop 1 0 (λ at s. refl) e s s.part.operands)
   statement_types os (AutoEscape' x _ body) e s h =
-      let inside = with_escapes (suc s.part.escapes) s in
-      (
+      let inside = with_escapes (suc s.part.escapes) s in (
         Over 1 s.part.operands s,
         expr_types x e s s.part.operands,
         (
@@ -461,20 +488,23 @@ mutual
           ),
         ),
       )
-  statement_types os (Macro' x ps _ body) e s h =
-      (
-        with_operands (value ∷ s.part.operands) s,
-        (body_types ps (statements_code [] body)
-        (statements_types [] body ending first_shape (shape_same first_shape, shape_same first_shape)),
-        shape_same (with_operands (value ∷ s.part.operands) s)),
-        one_step (i.StoreLocal x) 1 0 (λ at s. refl) e s s.part.operands,
-      )
+  statement_types os (Macro' x ps _ body) e s h = (
+    with_operands (value ∷ s.part.operands) s,
+    (
+      body_types ps (statements_code [] body)
+          (statements_types [] body ending first_shape (shape_same first_shape, shape_same first_shape)),
+      shape_same (with_operands (value ∷ s.part.operands) s),
+    ),
+    one_step (i.StoreLocal x) 1 0 (λ at s. refl) e s s.part.operands,
+  )
   statement_types os (CallBlock' x ps _ body) e s h =
       let m = macro_head (codes "caller") ps body in
       let c = declares m (parameters_code ps ⨾ statements_code [] body) in
-      let made : Pushes 1 c = λ e1 s1 ks. (body_types ps (statements_code [] body)
-      (statements_types [] body ending first_shape (shape_same first_shape, shape_same first_shape)), shape_same (Over 1 ks s1)) in
-      (
+      let made : Pushes 1 c = λ e1 s1 ks. (
+        body_types ps (statements_code [] body)
+            (statements_types [] body ending first_shape (shape_same first_shape, shape_same first_shape)),
+        shape_same (Over 1 ks s1),
+      ) in (
         Over 1 s.part.operands s,
         call_types (caller_end c) (caller_ends c made) x e s s.part.operands,
         one_step i.Emit 1 0 (λ at s. refl) e s s.part.operands,
@@ -493,9 +523,13 @@ mutual
       ((e1 : Around) → Closes os e1 s → Types e1 first s s) → Types e (branches_code os first other) (Over 1 s.part.operands s) s
   branches_types os first no_else e s h k =
       (s, (value, s.part.operands, refl, refl, shape_same s, shape_same s), k (record e { out = s }) h)
-  branches_types os first (otherwise _ body) e s h k =
-      (s, s, (s, (value, s.part.operands, refl, refl, shape_same s, shape_same s), k (record e { out = s }) h), shape_same s,
-      statements_types os body e s h)
+  branches_types os first (otherwise _ body) e s h k = (
+    s,
+    s,
+    (s, (value, s.part.operands, refl, refl, shape_same s, shape_same s), k (record e { out = s }) h),
+    shape_same s,
+    statements_types os body e s h,
+  )
 
   after_types : (os : List Opened) (r : Bool) (other : Otherwise) (e : Around) (s : Shape) → Closes os e s →
       Types e (after_loop_code os other) (loop_begun r s) s
@@ -503,7 +537,14 @@ mutual
   after_types os r (otherwise _ body) e s h =
       let b = loop_begun r s in (
         with_operands (value ∷ s.part.operands) s,
-        (with_operands (value ∷ b.part.operands) b, asks_none r s, (with_operands (value ∷ s.part.operands) s, pop_one r s,
-        shape_same (with_operands (value ∷ s.part.operands) s))),
+        (
+          with_operands (value ∷ b.part.operands) b,
+          asks_none r s,
+          (
+            with_operands (value ∷ s.part.operands) s,
+            pop_one r s,
+            shape_same (with_operands (value ∷ s.part.operands) s),
+          ),
+        ),
         (s, (value, s.part.operands, refl, refl, shape_same s, shape_same s), statements_types os body (record e { out = s }) s h),
       )

@@ -1,5 +1,5 @@
 -- Where an instruction leads from a shape, and with which shapes: the table of instructions.
-use Rattle.std.specs.Prelude.{◌≡◌, length, ℕ, zero, suc, ◌+◌, pos, List, [], ◌∷◌, ◌++◌, Option, Some, None, Bool, true, false, slice_get, nat_eq, not, ◌&&◌}
+use Rattle.std.specs.Prelude.{length, ℕ, zero, suc, ◌+◌, pos, List, [], ◌∷◌, ◌++◌, Option, Some, None, Bool, true, false, nat_eq, not, ◌&&◌}
 use Rattle.tm_values.specs.Val.{Val, number}
 use Rattle.tm_meaning.specs.World.{choose}
 use Rattle.tm_meaning.specs.Instructions.{names_in}

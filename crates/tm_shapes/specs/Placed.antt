@@ -1,6 +1,5 @@
 -- What is tested at every instruction of a stream, reached or not.
-use Rattle.std.specs.Prelude.{ℕ, zero, suc, ◌+◌, ◌-◌, List, [], ◌∷◌, ◌++◌, length, Option, Some, None, Bool, true, false, nat_eq, nat_lt, not, is_some, ◌&&◌, ◌||◌}
-use Rattle.tm_values.specs.Val.{Val}
+use Rattle.std.specs.Prelude.{ℕ, ◌+◌, ◌-◌, List, [], ◌∷◌, ◌++◌, length, Option, Some, None, Bool, true, false, nat_eq, nat_lt, not, is_some, ◌&&◌, ◌||◌}
 use Rattle.tm_syntax.specs.declared.instruction.Instruction.{Instruction}
 use Rattle.tm_syntax.specs.declared.instruction.Instruction.TheVariants as i
 use Rattle.tm_syntax.specs.CacheNumbers.{no_cache, cache_count}

@@ -39,6 +39,10 @@ taking_from_under recursive =
 abbrev pub unreached_macro : List Instruction
 unreached_macro = i.Jump 4 ∷ i.GetClosure ∷ i.LoadConst nothing_in ∷ i.BuildMacro (codes "m") 5 false ∷ i.Jump 6 ∷ i.Emit ∷ []
 
+-- a macro that is jumped over, before an instruction that nothing reaches
+abbrev pub macro_before : Instruction → List Instruction
+macro_before x = i.Jump 5 ∷ i.GetClosure ∷ i.LoadConst nothing_in ∷ i.BuildMacro (codes "m") 5 false ∷ x ∷ []
+
 -- a macro whose parts don't stand together
 abbrev pub parts_apart : List Instruction
 parts_apart = i.GetClosure ∷ i.LoadConst nothing_in ∷ one_value ∷ i.Emit ∷ i.BuildMacro (codes "m") 0 false ∷ i.DiscardTop ∷ []

@@ -4,8 +4,6 @@
 
 mod rows;
 
-pub use rows::{end_rows, loop_rows, placed_rows, shape_rows};
-
 ghost use Rattle.std.specs.Prelude.{◌≡◌, ℕ, List, Bool, Some, slice_get, true};
 ghost use Rattle.tm_meaning.specs.Calls.{Callee};
 ghost use Rattle.tm_meaning.specs.Machine.{Capture, Program, Stuck, base_of};
@@ -21,6 +19,8 @@ ghost use Rattle.tm_syntax.specs.Entries.{entries};
 ghost use Rattle.tm_syntax.specs.declared.instruction.Instruction.{Instruction};
 ghost use Rattle.tm_shapes.specs.Shapes.{Shapes, entry_shape};
 ghost use Rattle.tm_shapes.specs.Runs.{stream_of, EndsIn};
+
+pub use rows::{end_rows, loop_rows, placed_rows, shape_rows};
 
 /// A run of a stream that has shapes is never stuck, nor is one of a macro of it: whatever is open
 /// below it, in any world whose loops' records are of loops that are reached. And so it leaves one.

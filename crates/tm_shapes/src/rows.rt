@@ -4,7 +4,7 @@ ghost use Rattle.tm_values.specs.Val.{boolean, text};
 ghost use Rattle.tm_syntax.specs.declared.instruction.CaptureMode.TheVariants.{Capture};
 ghost use Rattle.tm_syntax.specs.declared.instruction.Instruction.TheVariants as i;
 ghost use Rattle.tm_shapes.specs.Accepts.{accepts};
-ghost use Rattle.tm_shapes.specs.StreamRows.{called_again, filter, looping, nothing_in, one_value, parts_apart, taking_from_under, test, through, unreached_macro};
+ghost use Rattle.tm_shapes.specs.StreamRows.{called_again, filter, looping, macro_before, nothing_in, one_value, parts_apart, taking_from_under, test, through, unreached_macro};
 
 /// Ends and targets: a target is a place or the end, where all is closed and so many operands are
 /// left; a stream needs no end.
@@ -40,10 +40,16 @@ pub fn loop_rows()
     ensures called { accepts 0 called_again ≡ true }
 {}
 
-/// Entries and parts of macros, and cache numbers, count also where nothing reaches them.
+/// Targets, entries and parts of macros, jumps between these, and cache numbers count also where
+/// nothing reaches them.
 pub fn placed_rows()
+    ensures target { accepts 0 (i.Jump 2 ∷ i.Jump 9 ∷ []) ≡ false }
     ensures unreached { accepts 0 unreached_macro ≡ false }
     ensures parts { accepts 0 parts_apart ≡ false }
+    ensures alone { accepts 0 (i.Jump 2 ∷ i.BuildMacro (codes "m") 2 false ∷ []) ≡ false }
+    ensures together { accepts 0 (macro_before (i.Jump 5)) ≡ true }
+    ensures middle { accepts 0 (macro_before (i.Jump 2)) ≡ false }
+    ensures last { accepts 0 (macro_before (i.Jump 3)) ≡ false }
     ensures two_names { accepts 0 (through (filter (codes "a") 0) (filter (codes "b") 0)) ≡ false }
     ensures two_caches { accepts 0 (through (filter (codes "a") 0) (filter (codes "b") 1)) ≡ true }
     ensures tests_apart { accepts 0 (through (filter (codes "a") 0) (test (codes "b") 0)) ≡ true }
