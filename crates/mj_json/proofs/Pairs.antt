@@ -90,7 +90,7 @@ lanes (x ∷ v) (y ∷ w) p q = ap₂ (λ b l. b ∷ l) (lane x y p.0.fits q.0.f
 -- the test as the code makes it, of n lanes
 masked : (v w : List ℕ) (n : ℕ) → length v ≡ n → length w ≡ n → n ≤ 64 → Each1 (Fits w8) v → Each1 (Fits w8) w
     → mask_l (map (top 7) (zip2 bit_and (zip2 below (zip2 less v (replicate n 48)) (replicate n 10)) (zip2 bit_or (zip2 hit w (replicate n 46)) (zip2 hit (zip2 bit_or w (replicate n 32)) (replicate n 101))))) % 2 ^ 64
-      ≡ mask_l (zip2 pair v w)
+    ≡ mask_l (zip2 pair v w)
 masked v w n long longw few p q =
     let digits = zip2_of_maps below _ _ v (zip2_splat less v n 48 long) (splat_is_map v n 10 long) in
     let exponents = zip2_of_maps hit _ _ w (zip2_splat bit_or w n 32 longw) (splat_is_map w n 101 longw) in
@@ -100,7 +100,7 @@ masked v w n long longw few p q =
 
 pub mask_is : (bs : List ℕ) (i : ℕ) → i + 33 ≤ length bs → ((k : ℕ) → Fits w8 (get_or bs k 0))
     → mask_l (map (top 7) (zip2 bit_and (zip2 below (zip2 less (chunk i 32 bs) (replicate 32 48)) (replicate 32 10)) (zip2 bit_or (zip2 hit (chunk (i + 1) 32 bs) (replicate 32 46)) (zip2 hit (zip2 bit_or (chunk (i + 1) 32 bs) (replicate 32 32)) (replicate 32 101))))) % 2 ^ 64
-      ≡ mask_l (zip2 pair (chunk i 32 bs) (chunk (i + 1) 32 bs))
+    ≡ mask_l (zip2 pair (chunk i 32 bs) (chunk (i + 1) 32 bs))
 mask_is bs i room fits =
     masked (chunk i 32 bs) (chunk (i + 1) 32 bs) 32 (length-chunk i 32 bs (omega arith)) (length-chunk (i + 1) 32 bs (omega arith)) (omega arith)
     (chunk-fits w8 i 32 bs fits) (chunk-fits w8 (i + 1) 32 bs fits)

@@ -31,8 +31,9 @@ pub(crate) fn has_decimal(bytes: &[u8]) -> bool
     false
 }
 
-/// Whether there may be one: not where no digit comes before a `.`, an `e` or an `E`. The last
-/// block ends with the text, and so may overlap the one before it.
+/// Whether such a number may stand in the text: none does where no digit comes right before a `.`,
+/// an `e` or an `E`. A text of less than 33 bytes is not looked at. The last block ends with the
+/// text, and so may overlap the one before it.
 fn may_have_decimal(bytes: &[u8]) -> bool
     ensures { OnFalse result (spec.has_decimal bytes.now ≡ false) }
 {

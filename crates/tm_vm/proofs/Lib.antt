@@ -12,3 +12,4 @@ pub mod Called
 pub mod Returned
 pub mod StepsAtOnce
 pub mod Texts
+pub mod Exported
