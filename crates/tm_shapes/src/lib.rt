@@ -4,7 +4,7 @@
 
 mod rows;
 
-ghost use Rattle.std.specs.Prelude.{◌≡◌, ℕ, List, Bool, Some, slice_get, true};
+ghost use Rattle.std.specs.Prelude.{◌≡◌, ℕ, List, [], Bool, Some, slice_get, true};
 ghost use Rattle.tm_meaning.specs.Calls.{Callee};
 ghost use Rattle.tm_meaning.specs.Machine.{Capture, Program, Stuck, base_of};
 ghost use Rattle.tm_meaning.specs.Steps.{Final, final, Leads, begins};
@@ -54,4 +54,15 @@ pub fn a_stream_is_accepted_where_shapes_fit()
         (shapes : Shapes) × IsShaped code shapes }
     ensures accepted { (operands : ℕ) (code : List Instruction) (shapes : Shapes) →
         FitsStrictly operands code shapes → accepts operands code ≡ true }
+{}
+
+/// Where all streams of a program are accepted none is ever stuck, from any world that has no record
+/// of a loop yet, as a state's first one: not a stream from its start, nor a macro from its entry.
+pub fn accepted_streams_are_never_stuck()
+    ensures { (p : Program) (operands : StreamId → ℕ) (k : Callee) (heard : Bool)
+        (captures : List Capture) (told got : List ℕ) (w left : World) →
+        ((s : StreamId) → accepts (operands s) (p.code s) ≡ true) →
+        w.stream ≡ stream_of k → w.loops ≡ [] →
+        let f = base_of heard captures w in
+        Leads p f told (begins p f k captures w) (final got (Stuck left)) → ⊥ }
 {}
