@@ -1,8 +1,6 @@
 pub mod Shapes
 pub mod Flows
 pub mod Shaped
-pub mod Fits
-pub mod Runs
 pub mod Search
 pub mod Placed
 pub mod Accepts

@@ -1,8 +1,8 @@
 -- The search for the shapes of a stream.
-use Rattle.std.specs.Prelude.{◌≡◌, ℕ, zero, suc, List, [], ◌∷◌, length, Option, Some, None, option_and_then, slice_get, Bool, true, false, nat_eq, ◌&&◌}
+use Rattle.std.specs.Prelude.{◌≡◌, ℕ, zero, suc, List, [], ◌∷◌, length, Option, Some, None, option_and_then, slice_get, slice_set, Bool, true, false, nat_eq, ◌&&◌}
 use Rattle.tm_syntax.specs.declared.instruction.Instruction.{Instruction}
 use Rattle.tm_shapes.specs.Shapes.{Shape, Shapes, shape_at}
-use Rattle.tm_shapes.specs.Flows.{Flow, refused, ends, leads, both, Site, flow_of}
+use Rattle.tm_shapes.specs.Flows.{Flow, refused, ends, leads, both, takes, Site, flow_of}
 
 -- the places that have shapes so far, and those of them that are still to be looked at
 pub record Found : Type 0 where
@@ -10,9 +10,7 @@ pub record Found : Type 0 where
   pub work : List ℕ
 
 abbrev pub put_shape : ℕ → Shape → Shapes → Shapes
-put_shape n s [] = []
-put_shape zero s (o ∷ sh) = Some s ∷ sh
-put_shape (suc n) s (o ∷ sh) = o ∷ put_shape n s sh
+put_shape n s sh = slice_set sh n (Some s)
 
 module _ (same : Shape → Shape → Bool) (code : List Instruction) (site : ℕ → Site) (ends_well : Shape → Bool) where
   -- A place is reached in a shape: refused past the end, and where it has another.
@@ -33,6 +31,7 @@ module _ (same : Shape → Shape → Bool) (code : List Instruction) (site : ℕ
   follow ends f = Some f
   follow (leads n s) f = reach n s f
   follow (both a b) f = option_and_then (follow b) (follow a f)
+  follow (takes p a) f = follow a f
 
   abbrev pub look_by : Option Instruction → ℕ → Option Shape → Found → Option Found
   look_by o n None f = None
@@ -54,3 +53,40 @@ Has shapes refused = ⊥
 Has shapes ends = Unit {0}
 Has shapes (leads n s) = shape_at shapes n ≡ Some s
 Has shapes (both a b) = Has shapes a × Has shapes b
+Has shapes (takes p a) = Has shapes a
+
+-- ---------------------------------------------------------------- as what each 0 is taken
+-- The places that were met so far, those of them that are still to be looked at, and of which the 0 is taken as a group.
+pub record Seen : Type 0 where
+  pub shapes : Shapes
+  pub work : List ℕ
+  pub groups : List Bool
+
+module _ (code : List Instruction) (site : ℕ → Site) where
+  -- A place keeps the first shape in which it is met, and none lies past the end.
+  abbrev pub note_by : Option (Option Shape) → ℕ → Shape → Seen → Seen
+  note_by (Some None) n s f = record f { shapes = put_shape n s f.shapes; work = n ∷ f.work }
+  note_by o n s f = f
+
+  abbrev pub note : ℕ → Shape → Seen → Seen
+  note n s f = note_by (slice_get f.shapes n) n s f
+
+  abbrev pub trace : Flow → Seen → Seen
+  trace refused f = f
+  trace ends f = f
+  trace (leads n s) f = note n s f
+  trace (both a b) f = trace b (trace a f)
+  trace (takes p a) f = trace a (record f { groups = slice_set f.groups p true })
+
+  abbrev pub glance_by : Option Instruction → ℕ → Option Shape → Seen → Seen
+  glance_by (Some x) n (Some s) f = trace (flow_of (site n) x s) f
+  glance_by o n t f = f
+
+  abbrev pub glance : ℕ → Seen → Seen
+  glance n f = glance_by (slice_get code n) n (shape_at f.shapes n) f
+
+  -- in so many steps
+  abbrev pub wander : ℕ → List ℕ → Seen → Seen
+  wander k [] f = f
+  wander zero (n ∷ work) f = f
+  wander (suc k) (n ∷ work) f = let g = glance n (record f { work = work }) in wander k g.work g

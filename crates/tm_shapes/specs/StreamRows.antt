@@ -1,6 +1,6 @@
 -- Streams for rows.
-use Rattle.std.specs.Prelude.{ℕ, pos, List, [], ◌∷◌, Some, Bool, true, false, codes}
-use Rattle.tm_values.specs.Val.{Val, number, list, text, vals_of}
+use Rattle.std.specs.Prelude.{ℕ, pos, List, [], ◌∷◌, ◌++◌, Some, None, Bool, true, false, codes}
+use Rattle.tm_values.specs.Val.{Val, boolean, number, list, text, vals_of}
 use Rattle.tm_syntax.specs.declared.instruction.LoopFlags.{LoopFlags}
 use Rattle.tm_syntax.specs.declared.instruction.Instruction.{Instruction}
 use Rattle.tm_syntax.specs.declared.instruction.Instruction.TheVariants as i
@@ -50,3 +50,46 @@ parts_apart = i.GetClosure ∷ i.LoadConst nothing_in ∷ one_value ∷ i.Emit �
 -- a loop that its rounds call again
 abbrev pub called_again : List Instruction
 called_again = i.LoadConst one_list ∷ i.PushLoop (looping true) ∷ i.Iterate 5 ∷ i.FastRecurse ∷ i.Jump 2 ∷ i.PopLoopFrame ∷ []
+
+-- ---------------------------------------------------------------- ways that meet
+-- one of two, and then a capture's end
+abbrev pub one_way_or : Instruction → Instruction → List Instruction
+one_way_or a b = i.LoadConst (boolean true) ∷ i.JumpIfFalse 4 ∷ a ∷ i.Jump 5 ∷ b ∷ i.EndCapture ∷ i.Emit ∷ []
+
+-- a loop that began over no operand, or over one, and one operand by both ways
+abbrev pub loop_over_one_or_none : List Instruction
+loop_over_one_or_none =
+    i.LoadConst (boolean true) ∷ i.JumpIfFalse 6 ∷ i.LoadConst one_list ∷ i.PushLoop (looping false) ∷ one_value ∷ i.Jump 9
+    ∷ one_value ∷ i.LoadConst one_list ∷ i.PushLoop (looping false) ∷ i.PopLoopFrame ∷ i.DiscardTop ∷ []
+
+-- ---------------------------------------------------------------- groups
+abbrev pub zero_value : Instruction
+zero_value = i.LoadConst (number (pos 0))
+
+-- 1 over 0, turned round, and 1 added to 0
+abbrev pub added : List Instruction
+added = zero_value ∷ one_value ∷ i.Swap ∷ one_value ∷ i.Add ∷ i.Emit ∷ i.Emit ∷ []
+
+-- a value that goes into a group, if the last of the row is `Add`
+abbrev pub counted : Instruction → List Instruction
+counted last = zero_value ∷ i.Lookup (codes "a") ∷ i.Swap ∷ one_value ∷ last ∷ i.BuildList None ∷ i.Emit ∷ []
+
+-- the same, to a place of which leads a jump that nothing reaches
+abbrev pub into_the_middle : ℕ → List Instruction
+into_the_middle place = counted i.Add ++ i.Jump 9 ∷ i.Jump place ∷ []
+
+-- the items of a list for which a name is true
+abbrev pub filtered_loop : List Instruction
+filtered_loop =
+    zero_value ∷ i.LoadConst one_list ∷ i.PushLoop (record { variable = false; recursive = false }) ∷ i.Iterate 11 ∷ i.Lookup (codes "a")
+    ∷ i.JumpIfFalse 10 ∷ i.Swap ∷ one_value ∷ i.Add ∷ i.Jump 3 ∷ i.DiscardTop ∷ i.PopLoopFrame ∷ i.BuildList None ∷ i.Emit ∷ []
+
+-- 0 or another value
+abbrev pub zero_or_value : List Instruction
+zero_or_value = i.LoadConst (boolean true) ∷ i.JumpIfFalse 4 ∷ zero_value ∷ i.Jump 5 ∷ one_value ∷ i.Emit ∷ []
+
+-- ---------------------------------------------------------------- forms
+-- a macro as a value, whose body is one instruction before its `Return`
+abbrev pub macro_value : Instruction → List Instruction
+macro_value x =
+    i.Jump 3 ∷ x ∷ i.Return ∷ i.GetClosure ∷ i.LoadConst nothing_in ∷ i.BuildMacro (codes "m") 1 false ∷ i.Return ∷ []

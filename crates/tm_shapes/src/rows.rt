@@ -1,57 +1,87 @@
 //! Rows: streams that no compiler wrote, and whether they are accepted.
 ghost use Rattle.std.specs.Prelude.{◌≡◌, [], ◌∷◌, codes, false, true};
 ghost use Rattle.tm_values.specs.Val.{boolean, text};
-ghost use Rattle.tm_syntax.specs.declared.instruction.CaptureMode.TheVariants.{Capture};
+ghost use Rattle.tm_syntax.specs.declared.instruction.CaptureMode.TheVariants.{Capture, Discard};
 ghost use Rattle.tm_syntax.specs.declared.instruction.Instruction.TheVariants as i;
 ghost use Rattle.tm_shapes.specs.Accepts.{accepts};
-ghost use Rattle.tm_shapes.specs.StreamRows.{called_again, filter, looping, macro_before, nothing_in, one_value, parts_apart, taking_from_under, test, through, unreached_macro};
+ghost use Rattle.tm_shapes.specs.declared.kind.Form.TheVariants as forms;
+ghost use Rattle.tm_shapes.specs.StreamRows.{added, called_again, counted, filter, filtered_loop, into_the_middle, loop_over_one_or_none};
+ghost use Rattle.tm_shapes.specs.StreamRows.{looping, macro_before, macro_value, nothing_in, one_value, one_way_or, parts_apart};
+ghost use Rattle.tm_shapes.specs.StreamRows.{taking_from_under, test, through, unreached_macro, zero_or_value};
 
 /// Ends and targets: a target is a place or the end, where all is closed and so many operands are
 /// left; a stream needs no end.
 pub fn end_rows()
-    ensures empty { accepts 0 [] ≡ true }
-    ensures end { accepts 0 (i.Jump 1 ∷ []) ≡ true }
-    ensures past { accepts 0 (i.Jump 5 ∷ []) ≡ false }
-    ensures endless { accepts 0 (i.Jump 0 ∷ []) ≡ true }
-    ensures left { accepts 0 (one_value ∷ []) ≡ false }
-    ensures value { accepts 1 (one_value ∷ []) ≡ true }
+    ensures empty { accepts forms.Template [] ≡ true }
+    ensures end { accepts forms.Template (i.Jump 1 ∷ []) ≡ true }
+    ensures past { accepts forms.Template (i.Jump 5 ∷ []) ≡ false }
+    ensures endless { accepts forms.Template (i.Jump 0 ∷ []) ≡ true }
+    ensures left { accepts forms.Template (one_value ∷ []) ≡ false }
+    ensures value { accepts forms.Expression (one_value ∷ []) ≡ true }
 {}
 
 /// What an instruction takes or closes is there, and where ways meet all is the same.
 pub fn shape_rows()
-    ensures emit { accepts 0 (i.Emit ∷ []) ≡ false }
-    ensures escape { accepts 0 (i.PopAutoEscape ∷ []) ≡ false }
-    ensures iterate { accepts 0 (i.Iterate 1 ∷ []) ≡ false }
-    ensures capture { accepts 0 (i.EndCapture ∷ []) ≡ false }
-    ensures frame { accepts 0 (i.PopFrame ∷ []) ≡ false }
-    ensures joined { accepts 0
+    ensures emit { accepts forms.Template (i.Emit ∷ []) ≡ false }
+    ensures escape { accepts forms.Template (i.PopAutoEscape ∷ []) ≡ false }
+    ensures iterate { accepts forms.Template (i.Iterate 1 ∷ []) ≡ false }
+    ensures capture { accepts forms.Template (i.EndCapture ∷ []) ≡ false }
+    ensures frame { accepts forms.Template (i.PopFrame ∷ []) ≡ false }
+    ensures joined { accepts forms.Template
         (i.LoadConst (boolean true) ∷ i.JumpIfFalse 3 ∷ i.BeginCapture Capture ∷ []) ≡ false }
-    ensures frame_of_loop { accepts 0
+    ensures frame_of_loop { accepts forms.Template
         (i.LoadConst nothing_in ∷ i.PushLoop (looping false) ∷ i.PopFrame ∷ []) ≡ false }
-    ensures included { accepts 0
+    ensures included { accepts forms.Template
         (i.LoadConst (text (codes "e") false) ∷ i.IncludeModule ∷ []) ≡ true }
-    ensures exported { accepts 0 (one_value ∷ i.ExportLocals ∷ i.DiscardTop ∷ []) ≡ true }
+    ensures exported { accepts forms.Template (one_value ∷ i.ExportLocals ∷ i.DiscardTop ∷ []) ≡ true }
+{}
+
+/// Captures are the same by their modes, and loops by what was there at their `PushLoop`.
+pub fn way_rows()
+    ensures modes { accepts forms.Template (one_way_or (i.BeginCapture Capture) (i.BeginCapture Discard)) ≡ false }
+    ensures mode { accepts forms.Template (one_way_or (i.BeginCapture Capture) (i.BeginCapture Capture)) ≡ true }
+    ensures loops { accepts forms.Template loop_over_one_or_none ≡ false }
+{}
+
+/// 0 is a value, or a group of none; a value goes into a group by `Swap`, `LoadConst 1` and `Add` in a row.
+pub fn group_rows()
+    ensures values { accepts forms.Template added ≡ true }
+    ensures counted { accepts forms.Template (counted i.Add) ≡ true }
+    ensures other { accepts forms.Template (counted i.Sub) ≡ false }
+    ensures middle { accepts forms.Template (into_the_middle 3) ≡ false }
+    ensures before { accepts forms.Template (into_the_middle 2) ≡ true }
+    ensures filtered { accepts forms.Template filtered_loop ≡ true }
+    ensures literal { accepts forms.Template zero_or_value ≡ true }
+{}
+
+/// A `Return` leaves what the form asks where the start reaches it, and nothing where a macro's entry does.
+pub fn form_rows()
+    ensures start { accepts forms.Expression (one_value ∷ i.Return ∷ []) ≡ true }
+    ensures none { accepts forms.Expression (i.Return ∷ []) ≡ false }
+    ensures value { accepts forms.Template (one_value ∷ i.Return ∷ []) ≡ false }
+    ensures entry { accepts forms.Expression (macro_value i.Return) ≡ true }
+    ensures entered { accepts forms.Expression (macro_value one_value) ≡ false }
 {}
 
 /// A loop that can be called takes nothing from under it; another one may.
 pub fn loop_rows()
-    ensures recursive { accepts 0 (taking_from_under true) ≡ false }
-    ensures not_recursive { accepts 0 (taking_from_under false) ≡ true }
-    ensures called { accepts 0 called_again ≡ true }
+    ensures recursive { accepts forms.Template (taking_from_under true) ≡ false }
+    ensures not_recursive { accepts forms.Template (taking_from_under false) ≡ true }
+    ensures called { accepts forms.Template called_again ≡ true }
 {}
 
 /// Targets, entries and parts of macros, jumps between these, and cache numbers count also where
 /// nothing reaches them.
 pub fn placed_rows()
-    ensures target { accepts 0 (i.Jump 2 ∷ i.Jump 9 ∷ []) ≡ false }
-    ensures unreached { accepts 0 unreached_macro ≡ false }
-    ensures parts { accepts 0 parts_apart ≡ false }
-    ensures alone { accepts 0 (i.Jump 2 ∷ i.BuildMacro (codes "m") 2 false ∷ []) ≡ false }
-    ensures together { accepts 0 (macro_before (i.Jump 5)) ≡ true }
-    ensures middle { accepts 0 (macro_before (i.Jump 2)) ≡ false }
-    ensures last { accepts 0 (macro_before (i.Jump 3)) ≡ false }
-    ensures two_names { accepts 0 (through (filter (codes "a") 0) (filter (codes "b") 0)) ≡ false }
-    ensures two_caches { accepts 0 (through (filter (codes "a") 0) (filter (codes "b") 1)) ≡ true }
-    ensures tests_apart { accepts 0 (through (filter (codes "a") 0) (test (codes "b") 0)) ≡ true }
-    ensures no_cache { accepts 0 (one_value ∷ filter (codes "a") 60 ∷ i.Emit ∷ []) ≡ false }
+    ensures target { accepts forms.Template (i.Jump 2 ∷ i.Jump 9 ∷ []) ≡ false }
+    ensures unreached { accepts forms.Template unreached_macro ≡ false }
+    ensures parts { accepts forms.Template parts_apart ≡ false }
+    ensures alone { accepts forms.Template (i.Jump 2 ∷ i.BuildMacro (codes "m") 2 false ∷ []) ≡ false }
+    ensures together { accepts forms.Template (macro_before (i.Jump 5)) ≡ true }
+    ensures middle { accepts forms.Template (macro_before (i.Jump 2)) ≡ false }
+    ensures last { accepts forms.Template (macro_before (i.Jump 3)) ≡ false }
+    ensures two_names { accepts forms.Template (through (filter (codes "a") 0) (filter (codes "b") 0)) ≡ false }
+    ensures two_caches { accepts forms.Template (through (filter (codes "a") 0) (filter (codes "b") 1)) ≡ true }
+    ensures tests_apart { accepts forms.Template (through (filter (codes "a") 0) (test (codes "b") 0)) ≡ true }
+    ensures no_cache { accepts forms.Template (one_value ∷ filter (codes "a") 60 ∷ i.Emit ∷ []) ≡ false }
 {}

@@ -9,7 +9,11 @@ use Rattle.tm_syntax.specs.declared.instruction.Instruction.TheVariants as i
 use Rattle.tm_syntax.specs.CacheNumbers.{no_cache, cache_count}
 use Rattle.tm_syntax.specs.Entries.{Entries, entries}
 use Rattle.tm_syntax.specs.Named.{same_name}
-use Rattle.tm_shapes.specs.Shapes.{Kind, value, nothing, group, closure, names, opened, one, FrameKind, scope, loop, Part, Shape, Shapes, first_shape}
+use Rattle.tm_shapes.specs.declared.kind.Kind.{Kind}
+use Rattle.tm_shapes.specs.declared.kind.Kind.TheVariants.{Value as value, Zero as nothing, Group as group, Closure as closure, Names as names, Opened as opened, One as one}
+use Rattle.tm_shapes.specs.declared.kind.Frame.{Frame}
+use Rattle.tm_shapes.specs.declared.kind.Frame.TheVariants.{Scope as scope, Loop as loop}
+use Rattle.tm_shapes.specs.Shapes.{Part, Shape, Shapes, first_shape}
 use Rattle.tm_shapes.specs.Shapes.{entry_shape, shape_at}
 use Rattle.tm_shapes.specs.Flows.{Flow, refused, ends, leads, both, flow_of, is_closed}
 use Rattle.tm_shapes.specs.Shaped.{Meets, HasCache, UsesCache, IsShaped}
@@ -17,8 +21,8 @@ use Rattle.tm_shapes.specs.Search.{Found, Has, search}
 use Rattle.tm_shapes.specs.Placed.{Numbered, agrees, caches_fit, filter_of, filters_in, is_placed, parts_fit, targets_within, test_of, tests_in}
 use Rattle.tm_shapes.specs.Accepts.{FitsStrictly, accepts, begun, ends_with, found, no_shapes, reaching, same_frames, same_kind, same_kinds, same_part, same_parts}
 use Rattle.tm_shapes.specs.Accepts.{same_shape, site_of, with_entries}
-use Rattle.tm_shapes.proofs.Lays.{shape_same}
-use Rattle.tm_shapes.proofs.Finds as finds
+use Rattle.tm_safety.proofs.Lays.{shape_same}
+use Rattle.tm_safety.proofs.Finds as finds
 
 -- ---------------------------------------------------------------- both of two tests
 both_true : (a b : Bool) → (a && b) ≡ true → (a ≡ true) × (b ≡ true)
@@ -44,7 +48,7 @@ kinds_are (j ∷ js) (k ∷ ks) e =
     let h = both_true (same_kind j k) (same_kinds js ks) e in
     ap (λ x. x ∷ js) (kind_is j k h.0) ∙ ap (λ xs. k ∷ xs) (kinds_are js ks h.1)
 
-frames_are : (fs gs : List FrameKind) → same_frames fs gs ≡ true → fs ≡ gs
+frames_are : (fs gs : List Frame) → same_frames fs gs ≡ true → fs ≡ gs
 frames_are [] [] e = refl
 frames_are [] (g ∷ gs) e = absurd (cc e)
 frames_are (scope ∷ fs) [] e = absurd (cc e)
@@ -100,7 +104,7 @@ kinds_same : (ks : List Kind) → same_kinds ks ks ≡ true
 kinds_same [] = refl
 kinds_same (k ∷ ks) = rw (kind_same k) (kinds_same ks)
 
-frames_same : (fs : List FrameKind) → same_frames fs fs ≡ true
+frames_same : (fs : List Frame) → same_frames fs fs ≡ true
 frames_same [] = refl
 frames_same (scope ∷ fs) = frames_same fs
 frames_same (loop a b ∷ fs) = rw (number_same a, number_same b) (frames_same fs)

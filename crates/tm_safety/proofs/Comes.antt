@@ -36,7 +36,7 @@ use Rattle.tm_meaning.specs.Inheritance.{place_in}
 use Rattle.tm_meaning.specs.declared.function.GlobalFunction.{GlobalFunction}
 use Rattle.tm_meaning.specs.declared.function.GlobalFunction.TheVariants as functions
 use Rattle.tm_meaning.specs.declared.stream.StreamId.{StreamId}
-use Rattle.tm_shapes.specs.Fits.{marks_of, ids_of}
+use Rattle.tm_safety.specs.Fits.{marks_of, ids_of}
 
 -- ---------------------------------------------------------------- worlds
 -- scopes, stream and records are as they were, but for names and items
@@ -52,7 +52,7 @@ pub calm_then : {a b c : World} → Calm a b → Calm b c → Calm a c
 calm_then h k = record { stream = k.stream ∙ h.stream; marks = k.marks ∙ h.marks; ids = k.ids ∙ h.ids }
 
 abbrev pub callee_stream : Callee → StreamId
-callee_stream k = Rattle.tm_shapes.specs.Runs.stream_of k
+callee_stream k = Rattle.tm_safety.specs.Runs.stream_of k
 
 -- A run starts in this world, and what is put back after it are scopes and stream.
 pub record Starts (w : World) (c : NestedCall) (w1 : World) : Type 0 where

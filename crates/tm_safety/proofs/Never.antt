@@ -35,19 +35,23 @@ use Rattle.tm_meaning.specs.Machine.{after, on_top, on_taken, taken, on, goes, j
 use Rattle.tm_meaning.specs.Instructions.{apply_of, take_counted, on_truth, iterate_with, closure_in, names_in, on_parts, closure_value, group_on, on_used, used}
 use Rattle.tm_meaning.specs.Instructions.{with_filters, with_tests, is_heard, awaiting, on_loop as on_top_loop, replacing}
 use Rattle.tm_meaning.specs.Steps.{effect, pay, act, step, closed, finish, parent_next, Final, final, Leads, over, more, restart, nest, begun as run_begun, begins}
-use Rattle.tm_shapes.specs.Shapes.{Kind, value, nothing, group, closure, names, opened, one, FrameKind, scope, loop, Part, Shape, Shapes}
+use Rattle.tm_shapes.specs.declared.kind.Kind.{Kind}
+use Rattle.tm_shapes.specs.declared.kind.Kind.TheVariants.{Value as value, Zero as nothing, Group as group, Closure as closure, Names as names, Opened as opened, One as one}
+use Rattle.tm_shapes.specs.declared.kind.Frame.{Frame}
+use Rattle.tm_shapes.specs.declared.kind.Frame.TheVariants.{Scope as scope, Loop as loop}
+use Rattle.tm_shapes.specs.Shapes.{Part, Shape, Shapes}
 use Rattle.tm_shapes.specs.Flows.{Flow, refused, ends, leads, both, Site, flow_of, pop, pops, replaces, replaces_counted, with_operands, next, pushed, on_loop}
 use Rattle.tm_shapes.specs.Flows.{is_value, swap, swap_group, add, load as load_flow, load_on, load_names, get_closure, build_macro, builds, builds_after, adds_one, is_one, is_zero as is_nought, is_closed}
 use Rattle.tm_shapes.specs.Flows.{jump_if, jump_or_pop, pop_loop}
 use Rattle.tm_shapes.specs.Shaped.{ReadsTo, Meets, IsShaped, HasCache, UsesCache}
-use Rattle.tm_shapes.specs.Fits.{Match, ids_of, Ground, AllEnter, Stand}
-use Rattle.tm_shapes.proofs.Comes.{Calm, calm_same, callee_stream, Comes, named_comes, callee_comes, applied_comes, innermost_comes, block_comes, super_comes}
-use Rattle.tm_shapes.proofs.Comes.{include_comes, owning_marks}
-use Rattle.tm_shapes.proofs.Fine.{Grounded, Enter, At, EndsWell, EndFine, Nests, Fine, back_fine, after_fine, choose_fine, pop_fine, pops_fine, counted_fine, settles}
-use Rattle.tm_shapes.proofs.Fine.{calm_enter, moves, at_next, goes_fine, writes_fine, ground_of, First, first_is}
-use Rattle.tm_shapes.proofs.Effects.{store_calm, use_cache, asked_fine, placed_fine, loop_fine, iterate_fine, push_loop_fine, push_with_fine, pop_frame_fine}
-use Rattle.tm_shapes.proofs.Effects.{pop_loop_frame_fine, begin_fine, end_fine, push_escape_fine, pop_escape_fine, closed_by, parent_fine, return_fine}
-use Rattle.tm_shapes.proofs.Effects.{unpack_fine, group_match}
+use Rattle.tm_safety.specs.Fits.{Match, ids_of, Ground, AllEnter, Stand}
+use Rattle.tm_safety.proofs.Comes.{Calm, calm_same, callee_stream, Comes, named_comes, callee_comes, applied_comes, innermost_comes, block_comes, super_comes}
+use Rattle.tm_safety.proofs.Comes.{include_comes, owning_marks}
+use Rattle.tm_safety.proofs.Fine.{Grounded, Enter, At, EndsWell, EndFine, Nests, Fine, back_fine, after_fine, choose_fine, pop_fine, pops_fine, counted_fine, settles}
+use Rattle.tm_safety.proofs.Fine.{calm_enter, moves, at_next, goes_fine, writes_fine, ground_of, First, first_is}
+use Rattle.tm_safety.proofs.Effects.{store_calm, use_cache, asked_fine, placed_fine, loop_fine, iterate_fine, push_loop_fine, push_with_fine, pop_frame_fine}
+use Rattle.tm_safety.proofs.Effects.{pop_loop_frame_fine, begin_fine, end_fine, push_escape_fine, pop_escape_fine, closed_by, parent_fine, return_fine}
+use Rattle.tm_safety.proofs.Effects.{unpack_fine, group_match}
 
 -- ---------------------------------------------------------------- worlds
 enclosed_calm : (x : List ℕ) (v : Val) (o : Option ℕ) (w : World) → Calm w (put_enclosed x v (closing_over o w))
@@ -306,9 +310,9 @@ module _ (p : Program) (shapes : StreamId → Shapes) (shaped : (s : StreamId) �
     lookup_fine (Err chain) k l = st.records
 
     enclose_fine : (x : List ℕ) (b : Bool) (a : Answer (Option Val)) → Meets sh (next at s.part.operands s) →
-        Good_next (after (choose b (λ _. Good (Rattle.tm_shapes.proofs.Fine.unit p shapes shaped) c.world) (λ _.
+        Good_next (after (choose b (λ _. Good (Rattle.tm_safety.proofs.Fine.unit p shapes shaped) c.world) (λ _.
         bind (bind (answered a c.world) (λ found w. Good (or_undefined found) w)) (λ v w.
-        Good (Rattle.tm_shapes.proofs.Fine.unit p shapes shaped) (put_enclosed x v (closing_over (own_closure w.scopes.frames) w)))))
+        Good (Rattle.tm_safety.proofs.Fine.unit p shapes shaped) (put_enclosed x v (closing_over (own_closure w.scopes.frames) w)))))
         (λ _ w. goes vs0 w c))
     enclose_fine x true a h = ok s.part.operands vs0 c.world same h st.holds.operands
     enclose_fine x false (Ok found) h =
@@ -342,13 +346,13 @@ module _ (p : Program) (shapes : StreamId → Shapes) (shaped : (s : StreamId) �
         (record { stream = refl; marks = refl; ids = refl }) h m))))))
 
     member_fine : (a : Answer ℕ) (x : List ℕ) (v : Val) (ks : List Kind) (vs : List Val) → Meets sh (next at ks s) → Match ks vs us →
-        Good_next (after (bind (answered a c.world) (λ n w. Good (Rattle.tm_shapes.proofs.Fine.unit p shapes shaped) (record w {
+        Good_next (after (bind (answered a c.world) (λ n w. Good (Rattle.tm_safety.proofs.Fine.unit p shapes shaped) (record w {
           namespaces = Rattle.tm_meaning.specs.World.with_member n x v w.namespaces;
         }))) (λ _ w. goes vs w c))
     member_fine (Ok n) x v ks vs h m = ok ks vs _ (record { stream = refl; marks = refl; ids = refl }) h m
     member_fine (Err chain) x v ks vs h m = st.records
 
-    loops_there : (fs : List FrameKind) (qs : List Part) → s.below ≡ qs → Meets sh (pop_loop at s fs) → Meets sh (on_loop fs qs ends)
+    loops_there : (fs : List Frame) (qs : List Part) → s.below ≡ qs → Meets sh (pop_loop at s fs) → Meets sh (on_loop fs qs ends)
     loops_there [] [] e h = absurd (subst (λ x. Meets sh (Rattle.tm_shapes.specs.Flows.pop_part at s x)) e h)
     loops_there [] (q ∷ qs) e h = tt
     loops_there (scope ∷ fs) qs e h = h
@@ -601,10 +605,10 @@ module _ (p : Program) (shapes : StreamId → Shapes) (shaped : (s : StreamId) �
       Enter p shapes shaped w → Leads p (base_of heard ks w) t (run_begun p (base_of heard ks w) a ks w) o →
       EndFine p shapes shaped (ground_of p shapes shaped ks w) o.end
   run_fine heard ks w None first records run =
-      ends_fine (ground_of p shapes shaped ks w) (Rattle.tm_shapes.proofs.Fine.grounded_at p shapes shaped heard ks w) records run
+      ends_fine (ground_of p shapes shaped ks w) (Rattle.tm_safety.proofs.Fine.grounded_at p shapes shaped heard ks w) records run
   run_fine heard ks w (Some a) first records run =
       let g = ground_of p shapes shaped ks w in
-      let base = Rattle.tm_shapes.proofs.Fine.grounded_at p shapes shaped heard ks w in
+      let base = Rattle.tm_safety.proofs.Fine.grounded_at p shapes shaped heard ks w in
       ends_fine g base (step_fine g (base_of heard ks w) base (running a ks w) first) run
 
   pub callee_fine : (k : Callee) (heard : Bool) (ks : List Capture) (t : List ℕ) (w : World) (o : Final) → w.stream ≡ callee_stream k →
@@ -624,13 +628,13 @@ module _ (p : Program) (shapes : StreamId → Shapes) (shaped : (s : StreamId) �
       no_end (ground_of p shapes shaped ks w) (Stuck left) left (callee_fine k heard ks t w (final got (Stuck left)) is records run) refl
 
   left_by : (g : Ground) (e : End) → EndFine p shapes shaped g e →
-      Rattle.tm_shapes.specs.Runs.EndsIn (λ left. AllEnter p.code shapes (ids_of left.loops)) e
+      Rattle.tm_safety.specs.Runs.EndsIn (λ left. AllEnter p.code shapes (ids_of left.loops)) e
   left_by g (Finished vs ks w) h = h.records
   left_by g (Failed chain w) h = h
   left_by g (Stuck w) h = absurd h
 
   pub leaves_records : (k : Callee) (heard : Bool) (ks : List Capture) (t : List ℕ) (w : World) (o : Final) → w.stream ≡ callee_stream k →
       Enter p shapes shaped w → Leads p (base_of heard ks w) t (begins p (base_of heard ks w) k ks w) o →
-      Rattle.tm_shapes.specs.Runs.EndsIn (λ left. AllEnter p.code shapes (ids_of left.loops)) o.end
+      Rattle.tm_safety.specs.Runs.EndsIn (λ left. AllEnter p.code shapes (ids_of left.loops)) o.end
   leaves_records k heard ks t w o is records run =
       left_by (ground_of p shapes shaped ks w) o.end (callee_fine k heard ks t w o is records run)

@@ -31,13 +31,17 @@ use Rattle.tm_syntax.specs.Code.{iterable_code, default_code, parameter_code, pa
 use Rattle.tm_syntax.specs.Code.{statements_code, branches_code, after_loop_code}
 use Rattle.tm_syntax.specs.Names.{parameter_names}
 use Rattle.tm_syntax.specs.Fragments.{Fragment, straight, ◌⨾◌, declares}
-use Rattle.tm_shapes.specs.Shapes.{Kind, value, nothing, group, opened, one, FrameKind, scope, loop, Part, no_part, Shape, ReadsShape, first_shape, entry_shape, values}
+use Rattle.tm_shapes.specs.declared.kind.Kind.{Kind}
+use Rattle.tm_shapes.specs.declared.kind.Kind.TheVariants.{Value as value, Zero as nothing, Group as group, Opened as opened, One as one}
+use Rattle.tm_shapes.specs.declared.kind.Frame.{Frame}
+use Rattle.tm_shapes.specs.declared.kind.Frame.TheVariants.{Scope as scope, Loop as loop}
+use Rattle.tm_shapes.specs.Shapes.{Part, no_part, Shape, ReadsShape, first_shape, entry_shape, pushed}
 use Rattle.tm_shapes.specs.Flows.{Flow, Site, flow_of, leads, pops, pushed, with_operands, with_frames, with_captures, with_escapes, replaces, on_loop}
 use Rattle.tm_shapes.specs.Flows.{over_part, loop_begun}
-use Rattle.tm_shapes.proofs.Lays.{Around, Steps, Straight, Types, site, shape_same, shape_then, ending}
-use Rattle.tm_shapes.proofs.Trees.{pops_pushed, pushed_both, Over, over_both, Pushes, Replaces, one_step, call_step, left, Ends, row_ends, self_block}
-use Rattle.tm_shapes.proofs.Trees.{application_types, passing_types, both_push, then_replace, expr_types, arguments_types, lists_types, keywords_types}
-use Rattle.tm_shapes.proofs.Trees.{step_types, steps_types}
+use Rattle.tm_safety.proofs.Lays.{Around, Steps, Straight, Types, site, shape_same, shape_then, ending}
+use Rattle.tm_safety.proofs.Trees.{pops_pushed, pushed_both, Over, over_both, Pushes, Replaces, one_step, call_step, left, Ends, row_ends, self_block}
+use Rattle.tm_safety.proofs.Trees.{application_types, passing_types, both_push, then_replace, expr_types, arguments_types, lists_types, keywords_types}
+use Rattle.tm_safety.proofs.Trees.{step_types, steps_types}
 
 -- code over any operands that leaves them
 abbrev pub Leaves : Fragment → Type 0
@@ -96,7 +100,7 @@ stores_types (x ∷ xs) = λ e s ks.
 -- ---------------------------------------------------------------- what is closed by a jump
 abbrev pub Within : List Opened → Shape → Shape → Type 0
 Within [] s b = ReadsShape s b
-Within (a_scope ∷ os) s b = (fs : List FrameKind) × (s.part.frames ≡ scope ∷ fs) × Within os (with_frames fs s) b
+Within (a_scope ∷ os) s b = (fs : List Frame) × (s.part.frames ≡ scope ∷ fs) × Within os (with_frames fs s) b
 Within (an_escape ∷ os) s b = (n : ℕ) × (s.part.escapes ≡ suc n) × Within os (with_escapes n s) b
 Within (a_capture ∷ os) s b = (n : ℕ) × (s.part.captures ≡ suc n) × Within os (with_captures n s) b
 
@@ -143,7 +147,7 @@ asks_none false s = λ pc. (site pc, refl, refl)
 
 -- ---------------------------------------------------------------- loops with a condition
 reads_group : (ks : List Kind) → Rattle.tm_shapes.specs.Shapes.AllRead (nothing ∷ ks) (group ∷ ks)
-reads_group ks = (tt, Rattle.tm_shapes.proofs.Lays.all_same ks)
+reads_group ks = (tt, Rattle.tm_safety.proofs.Lays.all_same ks)
 
 -- a value goes into the group below it
 counting_types : (ks : List Kind) (b : Shape) → Straight (i.Swap ∷ i.LoadConst (number (pos 1)) ∷ i.Add ∷ [])
@@ -182,7 +186,7 @@ pass_types t x c e s =
           refl,
           record {
             part = record { operands = reads_group ks; frames = refl; captures = refl; escapes = refl };
-            below = Rattle.tm_shapes.proofs.Lays.parts_same s.below;
+            below = Rattle.tm_safety.proofs.Lays.parts_same s.below;
           },
           λ F. refl,
           (
@@ -275,7 +279,7 @@ caller_ends c h n =
     let row = straight (map_of_row (suc n)) in
     then_replace (n + n) 1 (n + n + 1) 1 (straight (i.LoadConst (text (codes "caller") false) ∷ [])) (c ⨾ row) (omega arith)
     (λ e s ks. (Over 1 ks s, λ pc. (site pc, refl, refl), shape_same (Over 1 ks s)))
-    (then_replace (n + n + 1) 1 (suc n + suc n) 1 c row (omega arith) h (Rattle.tm_shapes.proofs.Trees.map_types (suc n)))
+    (then_replace (n + n + 1) 1 (suc n + suc n) 1 c row (omega arith) h (Rattle.tm_safety.proofs.Trees.map_types (suc n)))
 
 module _ (end : RowEnd) (h : Ends end) where
   alone_types : Replaces 1 1 (called_alone end)
