@@ -4,9 +4,73 @@ use Rattle.std.proofs.Common.{refl, sym, ap, ◌∙◌, subst, arith}
 use Rattle.std.specs.Prelude.{slice_get, option_and_then, nat_eq, ◌&&◌}
 use Rattle.tm_syntax.specs.declared.instruction.Instruction.{Instruction}
 use Rattle.tm_shapes.specs.Shapes.{Shape, Shapes, shape_at, itself}
-use Rattle.tm_shapes.specs.Flows.{Flow, refused, ends, leads, both, Site, flow_of}
+use Rattle.tm_shapes.specs.Flows.{Flow, refused, ends, leads, both, takes, Site, flow_of}
 use Rattle.tm_shapes.specs.Search.{Found, Has, put_shape}
 use Rattle.tm_shapes.specs.Search as finder
+
+-- ---------------------------------------------------------------- places and their shapes
+abbrev pub Among : ℕ → List ℕ → Type 0
+Among n [] = ⊥
+Among n (m ∷ ms) = (n ≡ m) ⊎ Among n ms
+
+abbrev pub Grows : Shapes → Shapes → Type 0
+Grows old new = (n : ℕ) (s : Shape) → shape_at old n ≡ Some s → shape_at new n ≡ Some s
+
+abbrev pub HasShape : Shapes → ℕ → Type 0
+HasShape sh n = (s : Shape) × (shape_at sh n ≡ Some s)
+
+pub put_there : (sh : Shapes) (n : ℕ) (s : Shape) → slice_get sh n ≡ Some None → shape_at (put_shape n s sh) n ≡ Some s
+put_there [] n s e = absurd (cc e)
+put_there (o ∷ sh) zero s e = refl
+put_there (o ∷ sh) (suc n) s e = put_there sh n s e
+
+one_on : (n m : ℕ) (s t : Shape) (A : Type 0) → ((m ≡ n) × (t ≡ s)) ⊎ A → ((suc m ≡ suc n) × (t ≡ s)) ⊎ A
+one_on n m s t A (inl h) = inl (ap suc h.0, h.1)
+one_on n m s t A (inr h) = inr h
+
+-- a new shape stands at its place alone
+pub put_is : (sh : Shapes) (n m : ℕ) (s t : Shape) → slice_get sh n ≡ Some None → shape_at (put_shape n s sh) m ≡ Some t →
+    ((m ≡ n) × (t ≡ s)) ⊎ (shape_at sh m ≡ Some t)
+put_is [] n m s t e h = absurd (cc e)
+put_is (o ∷ sh) zero zero s t e h = inl (refl, sym (cc h))
+put_is (o ∷ sh) zero (suc m) s t e h = inr h
+put_is (o ∷ sh) (suc n) zero s t e h = inr h
+put_is (o ∷ sh) (suc n) (suc m) s t e h = one_on n m s t (shape_at sh m ≡ Some t) (put_is sh n m s t e h)
+
+pub put_grows : (sh : Shapes) (n : ℕ) (s : Shape) → slice_get sh n ≡ Some None → Grows sh (put_shape n s sh)
+put_grows [] n s e m t h = absurd (cc e)
+put_grows (o ∷ sh) zero s e zero t h = absurd (let x : o ≡ None = cc e in cc (sym h ∙ ap itself x))
+put_grows (o ∷ sh) zero s e (suc m) t h = h
+put_grows (o ∷ sh) (suc n) s e zero t h = h
+put_grows (o ∷ sh) (suc n) s e (suc m) t h = put_grows sh n s e m t h
+
+-- how many places have no shape
+abbrev pub unmet : Shapes → ℕ
+unmet [] = 0
+unmet (None ∷ sh) = suc (unmet sh)
+unmet (Some s ∷ sh) = unmet sh
+
+pub put_open : (sh : Shapes) (n : ℕ) (s : Shape) → slice_get sh n ≡ Some None → suc (unmet (put_shape n s sh)) ≡ unmet sh
+put_open [] n s e = absurd (cc e)
+put_open (None ∷ sh) zero s e = refl
+put_open (Some t ∷ sh) zero s e = absurd (cc e)
+put_open (None ∷ sh) (suc n) s e = ap suc (put_open sh n s e)
+put_open (Some t ∷ sh) (suc n) s e = put_open sh n s e
+
+pub put_long : (sh : Shapes) (n : ℕ) (s : Shape) → length (put_shape n s sh) ≡ length sh
+put_long [] n s = refl
+put_long (o ∷ sh) zero s = refl
+put_long (o ∷ sh) (suc n) s = ap suc (put_long sh n s)
+
+pub past : {A : Type 0} (xs : List A) (n : ℕ) → slice_get xs n ≡ None → length xs ≤ n
+past [] n e = omega arith
+past (x ∷ xs) zero e = absurd (cc e)
+past (x ∷ xs) (suc n) e = omega (arith, past xs n e)
+
+pub within : (sh : Shapes) (n : ℕ) (s : Shape) → shape_at sh n ≡ Some s → suc n ≤ length sh
+within [] n s e = absurd (cc e)
+within (o ∷ sh) zero s e = omega arith
+within (o ∷ sh) (suc n) s e = omega (arith, within sh n s e)
 
 module _ (same : Shape → Shape → Bool) (same_is : (s t : Shape) → same s t ≡ true → s ≡ t) (is_same : (s : Shape) → same s s ≡ true)
     (code : List Instruction) (site : ℕ → Site) (ends_well : Shape → Bool) where
@@ -43,73 +107,21 @@ module _ (same : Shape → Shape → Bool) (same_is : (s t : Shape) → same s t
   abbrev pub AllFit : Shapes → Type 0
   AllFit sh = (n : ℕ) (s : Shape) → shape_at sh n ≡ Some s → Fits sh n (slice_get code n) s
 
-  abbrev pub Among : ℕ → List ℕ → Type 0
-  Among n [] = ⊥
-  Among n (m ∷ ms) = (n ≡ m) ⊎ Among n ms
-
   abbrev pub FitSoFar : Shapes → List ℕ → Type 0
   FitSoFar sh work = (n : ℕ) (s : Shape) → shape_at sh n ≡ Some s → Among n work ⊎ Fits sh n (slice_get code n) s
-
-  abbrev pub Grows : Shapes → Shapes → Type 0
-  Grows old new = (n : ℕ) (s : Shape) → shape_at old n ≡ Some s → shape_at new n ≡ Some s
 
   met_grows : (old new : Shapes) → Grows old new → (f : Flow) → Met old f → Met new f
   met_grows old new g refused h = h
   met_grows old new g ends h = h
   met_grows old new g (leads n s) h = g n s h
   met_grows old new g (both a b) h = (met_grows old new g a h.0, met_grows old new g b h.1)
+  met_grows old new g (takes p a) h = met_grows old new g a h
 
   fits_grow : (old new : Shapes) → Grows old new → (n : ℕ) (o : Option Instruction) (s : Shape) → Fits old n o s → Fits new n o s
   fits_grow old new g n (Some x) s h = met_grows old new g (flow_of (site n) x s) h
   fits_grow old new g n None s h = h
 
-  put_there : (sh : Shapes) (n : ℕ) (s : Shape) → slice_get sh n ≡ Some None → shape_at (put_shape n s sh) n ≡ Some s
-  put_there [] n s e = absurd (cc e)
-  put_there (o ∷ sh) zero s e = refl
-  put_there (o ∷ sh) (suc n) s e = put_there sh n s e
-
-  one_on : (n m : ℕ) (s t : Shape) (A : Type 0) → ((m ≡ n) × (t ≡ s)) ⊎ A → ((suc m ≡ suc n) × (t ≡ s)) ⊎ A
-  one_on n m s t A (inl h) = inl (ap suc h.0, h.1)
-  one_on n m s t A (inr h) = inr h
-
-  -- a new shape stands at its place alone
-  put_is : (sh : Shapes) (n m : ℕ) (s t : Shape) → slice_get sh n ≡ Some None → shape_at (put_shape n s sh) m ≡ Some t →
-      ((m ≡ n) × (t ≡ s)) ⊎ (shape_at sh m ≡ Some t)
-  put_is [] n m s t e h = absurd (cc e)
-  put_is (o ∷ sh) zero zero s t e h = inl (refl, sym (cc h))
-  put_is (o ∷ sh) zero (suc m) s t e h = inr h
-  put_is (o ∷ sh) (suc n) zero s t e h = inr h
-  put_is (o ∷ sh) (suc n) (suc m) s t e h = one_on n m s t (shape_at sh m ≡ Some t) (put_is sh n m s t e h)
-
-  put_grows : (sh : Shapes) (n : ℕ) (s : Shape) → slice_get sh n ≡ Some None → Grows sh (put_shape n s sh)
-  put_grows [] n s e m t h = absurd (cc e)
-  put_grows (o ∷ sh) zero s e zero t h = absurd (let x : o ≡ None = cc e in cc (sym h ∙ ap itself x))
-  put_grows (o ∷ sh) zero s e (suc m) t h = h
-  put_grows (o ∷ sh) (suc n) s e zero t h = h
-  put_grows (o ∷ sh) (suc n) s e (suc m) t h = put_grows sh n s e m t h
-
-  -- how many places have no shape
-  abbrev pub unmet : Shapes → ℕ
-  unmet [] = 0
-  unmet (None ∷ sh) = suc (unmet sh)
-  unmet (Some s ∷ sh) = unmet sh
-
-  put_open : (sh : Shapes) (n : ℕ) (s : Shape) → slice_get sh n ≡ Some None → suc (unmet (put_shape n s sh)) ≡ unmet sh
-  put_open [] n s e = absurd (cc e)
-  put_open (None ∷ sh) zero s e = refl
-  put_open (Some t ∷ sh) zero s e = absurd (cc e)
-  put_open (None ∷ sh) (suc n) s e = ap suc (put_open sh n s e)
-  put_open (Some t ∷ sh) (suc n) s e = put_open sh n s e
-
-  put_long : (sh : Shapes) (n : ℕ) (s : Shape) → length (put_shape n s sh) ≡ length sh
-  put_long [] n s = refl
-  put_long (o ∷ sh) zero s = refl
-  put_long (o ∷ sh) (suc n) s = ap suc (put_long sh n s)
-
   -- ---------------------------------------------------------------- what following a flow does
-  abbrev pub HasShape : Shapes → ℕ → Type 0
-  HasShape sh n = (s : Shape) × (shape_at sh n ≡ Some s)
-
   -- It has met the flow; what has a shape keeps it, and what has a new one is to be looked at.
   pub record Followed (flow : Flow) (f g : Found) : Type 0 where
     pub grows : Grows f.shapes g.shapes
@@ -204,11 +216,23 @@ module _ (same : Shape → Shape → Bool) (same_is : (s t : Shape) → same s t
   both_followed a b f g None at is k l = absurd (cc is)
   both_followed a b f g (Some h) at is k l = then_followed a b f h g (k h at) (l h is)
 
+  taken_followed : (p : ℕ) (a : Flow) (f g : Found) → Followed a f g → Followed (takes p a) f g
+  taken_followed p a f g x = record {
+    grows = x.grows;
+    meets = x.meets;
+    fresh = x.fresh;
+    keeps = x.keeps;
+    added = x.added;
+    less = x.less;
+    long = x.long;
+  }
+
   followed : (flow : Flow) (f g : Found) → follow flow f ≡ Some g → Followed flow f g
   followed refused f g is = absurd (cc is)
   followed ends f g is = let one : f ≡ g = cc is in subst (Followed ends f) one (same_followed ends f tt)
   followed (leads n s) f g is = reach_followed n s f g (slice_get f.shapes n) refl is
   followed (both a b) f g is = both_followed a b f g (follow a f) refl is (λ h e. followed a f h e) (λ h e. followed b h g e)
+  followed (takes p a) f g is = taken_followed p a f g (followed a f g is)
 
   -- ---------------------------------------------------------------- what is found fits
   fit_old : (n : ℕ) (f g : Found) (flow : Flow) → Followed flow f g → (here : (s : Shape) → shape_at g.shapes n ≡ Some s →
@@ -305,16 +329,6 @@ module _ (same : Shape → Shape → Bool) (same_is : (s t : Shape) → same s t
     agrees_by n s f here a m t (inl h) = ap (shape_at d) h.0 ∙ here ∙ ap (λ x. Some x) (sym h.1)
     agrees_by n s f here a m t (inr h) = a m t h
 
-    past : {A : Type 0} (xs : List A) (n : ℕ) → slice_get xs n ≡ None → length xs ≤ n
-    past [] n e = omega arith
-    past (x ∷ xs) zero e = absurd (cc e)
-    past (x ∷ xs) (suc n) e = omega (arith, past xs n e)
-
-    pub within : (sh : Shapes) (n : ℕ) (s : Shape) → shape_at sh n ≡ Some s → suc n ≤ length sh
-    within [] n s e = absurd (cc e)
-    within (o ∷ sh) zero s e = omega arith
-    within (o ∷ sh) (suc n) s e = omega (arith, within sh n s e)
-
     both_goes : (x y : Flow) (f : Found) (o : Option Found) → follow x f ≡ o → Went o → ((g : Found) → follow x f ≡ Some g → Agrees g → Went (follow y g)) →
         Went (option_and_then (follow y) o)
     both_goes x y f None e h k = absurd h
@@ -345,6 +359,7 @@ module _ (same : Shape → Shape → Bool) (same_is : (s t : Shape) → same s t
         reach_goes n s f (slice_get f.shapes n) refl m (omega (arith, long, within d n s m)) a
     follow_goes (both x y) f m long a =
         both_goes x y f (follow x f) refl (follow_goes x f m.0 long a) (λ g e b. follow_goes y g m.1 ((followed x f g e).long ∙ long) b)
+    follow_goes (takes p x) f m long a = follow_goes x f m long a
 
     placed_goes : (n : ℕ) (s : Shape) (f : Found) (i : Option Instruction) → Fits d n i s → length f.shapes ≡ length d → Agrees f →
         Went (look_by i n (Some s) f)

@@ -1,13 +1,10 @@
+pub mod Readings
 pub mod Stacked
 pub mod Comes
 pub mod Fine
 pub mod Effects
 pub mod Never
-pub mod Lays
-pub mod Trees
-pub mod Tags
-pub mod Made
 pub mod Finds
-pub mod Readings
+pub mod Taken
 pub mod Entered
 pub mod Accepted

@@ -39,10 +39,12 @@ use Rattle.tm_shapes.specs.declared.kind.Kind.{Kind}
 use Rattle.tm_shapes.specs.declared.kind.Kind.TheVariants.{Value as value, Zero as nothing, Group as group, Closure as closure, Names as names, Opened as opened, One as one}
 use Rattle.tm_shapes.specs.declared.kind.Frame.{Frame}
 use Rattle.tm_shapes.specs.declared.kind.Frame.TheVariants.{Scope as scope, Loop as loop}
-use Rattle.tm_shapes.specs.Shapes.{Part, Shape, Shapes}
-use Rattle.tm_shapes.specs.Flows.{Flow, refused, ends, leads, both, Site, flow_of, pop, pops, replaces, replaces_counted, with_operands, next, pushed, on_loop}
-use Rattle.tm_shapes.specs.Flows.{is_value, swap, swap_group, add, load as load_flow, load_on, load_names, get_closure, build_macro, builds, builds_after, adds_one, is_one, is_zero as is_nought, is_closed}
-use Rattle.tm_shapes.specs.Flows.{jump_if, jump_or_pop, pop_loop}
+use Rattle.tm_shapes.specs.declared.kind.Reading.{Reading}
+use Rattle.tm_shapes.specs.declared.kind.Reading.TheVariants as readings
+use Rattle.tm_shapes.specs.Shapes.{Part, Shape, Shapes, entry_shape}
+use Rattle.tm_shapes.specs.Flows.{Flow, refused, ends, leads, both, takes, Site, flow_of, pop, pops, replaces, replaces_counted, with_operands, next}
+use Rattle.tm_shapes.specs.Flows.{add, build_macro, builds, builds_after, in_row, is_one, is_zero as is_nought, load_names, load_on, load_zero, on_loop, pop_loop}
+use Rattle.tm_shapes.specs.Flows.{swap_over, zero_of}
 use Rattle.tm_shapes.specs.Shaped.{ReadsTo, Meets, IsShaped, HasCache, UsesCache}
 use Rattle.tm_safety.specs.Fits.{Match, ids_of, Ground, AllEnter, Stand}
 use Rattle.tm_safety.proofs.Comes.{Calm, calm_same, callee_stream, Comes, named_comes, callee_comes, applied_comes, innermost_comes, block_comes, super_comes}
@@ -176,52 +178,48 @@ module _ (p : Program) (shapes : StreamId → Shapes) (shaped : (s : StreamId) �
         choose_fine p shapes shaped g b _ _ (λ _. k v ks vs h m) (λ _. l v ks vs h m)))
 
     -- ---------------------------------------------------------------- what stands together
-    swaps : Val → Val → List Val → Next
-    swaps y x rest = goes (x ∷ y ∷ rest) c.world c
-
     abbrev Swapped : List Val → Type 0
     Swapped vs = Good_next (on_top vs c.world (λ y us. on_top us c.world (λ x rest. goes (x ∷ y ∷ rest) c.world c)))
 
-    two_swapped : (ks : List Kind) (vs : List Val) → Meets sh (pops 2 ks (λ ks1. next at (value ∷ value ∷ ks1) s)) → Match ks vs us → Swapped vs
-    two_swapped ks vs h m =
-        pops_one ks vs _ _ h m (λ y ks1 vs1 h1 m1. pops_one ks1 vs1 _ _ h1 m1 (λ x ks2 rest h2 m2.
-        ok (value ∷ value ∷ ks2) (x ∷ y ∷ rest) c.world same h2 (x, y ∷ rest, refl, (y, rest, refl, m2))))
+    abbrev Over : Val → List Val → Type 0
+    Over y vs = Good_next (on_top vs c.world (λ x rest. goes (x ∷ y ∷ rest) c.world c))
 
-    group_swapped : (y : Val) (xs rest : List Val) (ks : List Kind) (b : Bool) →
-        Meets sh (choose b (λ _. next at (opened ∷ ks) s) (λ _. refused)) → Match ks rest us →
+    group_swapped : (y : Val) (xs rest : List Val) (o : Option ℕ) (ks : List Kind) (b : Bool) →
+        Meets sh (choose b (λ _. next at (opened o ∷ ks) s) (λ _. refused)) → Match ks rest us →
         Good_next (goes (number (pos (length xs)) ∷ y ∷ (xs ++ rest)) c.world c)
-    group_swapped y xs rest ks false h m = absurd h
-    group_swapped y xs rest ks true h m =
-        ok (opened ∷ ks) (number (pos (length xs)) ∷ y ∷ (xs ++ rest)) c.world same h (y, xs, rest, refl, m)
+    group_swapped y xs rest o ks false h m = absurd h
+    group_swapped y xs rest o ks true h m =
+        ok (opened o ∷ ks) (number (pos (length xs)) ∷ y ∷ (xs ++ rest)) c.world same h (y, xs, rest, refl, m)
 
-    zero_swapped : (y : Val) (rest : List Val) (ks : List Kind) (a b : Bool) →
-        Meets sh (choose a (λ _. choose b (λ _. next at (opened ∷ ks) s) (λ _. refused)) (λ _. next at (value ∷ value ∷ ks) s)) → Match ks rest us →
+    zero_swapped : (y : Val) (rest : List Val) (z : ℕ) (ks : List Kind) (b : Bool) →
+        Meets sh (choose b (λ _. takes z (next at (opened (Some z) ∷ ks) s)) (λ _. next at (value ∷ value ∷ ks) s)) → Match ks rest us →
         Good_next (goes (number (pos 0) ∷ y ∷ rest) c.world c)
-    zero_swapped y rest ks true b h m = group_swapped y [] rest ks b h m
-    zero_swapped y rest ks false b h m =
+    zero_swapped y rest z ks true h m =
+        ok (opened (Some z) ∷ ks) (number (pos 0) ∷ y ∷ rest) c.world same h (y, [], rest, refl, m)
+    zero_swapped y rest z ks false h m =
         ok (value ∷ value ∷ ks) (number (pos 0) ∷ y ∷ rest) c.world same h (number (pos 0), y ∷ rest, refl, (y, rest, refl, m))
 
-    swap_fine : (ks : List Kind) (vs : List Val) → Meets sh (swap at s ks) → Match ks vs us → Swapped vs
-    swap_fine (value ∷ group ∷ ks) vs h (y, vs1, e, (xs, rest, e1, m)) =
-        subst Swapped (sym (e ∙ ap (λ z. y ∷ z) e1)) (group_swapped y xs rest ks _ h m)
-    swap_fine (nothing ∷ group ∷ ks) vs h (vs1, e, (xs, rest, e1, m)) =
-        subst Swapped (sym (e ∙ ap (λ z. number (pos 0) ∷ z) e1)) (group_swapped (number (pos 0)) xs rest ks _ h m)
-    swap_fine (value ∷ nothing ∷ ks) vs h (y, vs1, e, (rest, e1, m)) =
-        subst Swapped (sym (e ∙ ap (λ z. y ∷ z) e1)) (zero_swapped y rest ks _ _ h m)
-    swap_fine (nothing ∷ nothing ∷ ks) vs h (vs1, e, (rest, e1, m)) =
-        subst Swapped (sym (e ∙ ap (λ z. number (pos 0) ∷ z) e1)) (zero_swapped (number (pos 0)) rest ks _ _ h m)
-    swap_fine ks vs h m = two_swapped ks vs h m
+    -- a value over others
+    over_fine : (y : Val) (ks : List Kind) (vs : List Val) → Meets sh (swap_over at s ks) → Match ks vs us → Over y vs
+    over_fine y (group o ∷ ks) vs h (xs, rest, e, m) = subst (Over y) (sym e) (group_swapped y xs rest o ks (in_row at) h m)
+    over_fine y (nothing z ∷ ks) vs h (rest, e, m) = subst (Over y) (sym e) (zero_swapped y rest z ks (in_row at) h m)
+    over_fine y ks vs h m =
+        pops_one ks vs (λ ks1. next at (value ∷ value ∷ ks1) s) _ h m (λ x ks1 rest h1 m1.
+        ok (value ∷ value ∷ ks1) (x ∷ y ∷ rest) c.world same h1 (x, y ∷ rest, refl, (y, rest, refl, m1)))
+
+    swap_fine : (ks : List Kind) (vs : List Val) → Meets sh (pop ks (swap_over at s)) → Match ks vs us → Swapped vs
+    swap_fine ks vs h m = pops_one ks vs (swap_over at s) _ h m (λ y ks1 vs1 h1 m1. over_fine y ks1 vs1 h1 m1)
 
     abbrev Added : List Val → Type 0
     Added vs = Good_next (on_top vs c.world (λ y us. on_top us c.world (λ x rest. after (operated p.host binaries.Add x y c.world) (λ z w. goes (z ∷ rest) w c))))
 
-    counted_by : (x : Val) (xs rest : List Val) (ks : List Kind) (a : Answer Val) →
-        (a ≡ Ok (number (pos (length (x ∷ xs))))) ⊎ (a ≡ invalid) → Meets sh (next at (group ∷ ks) s) →
+    counted_by : (x : Val) (xs rest : List Val) (o : Option ℕ) (ks : List Kind) (a : Answer Val) →
+        (a ≡ Ok (number (pos (length (x ∷ xs))))) ⊎ (a ≡ invalid) → Meets sh (next at (group o ∷ ks) s) →
         Match ks rest us → Good_next (after (answered a c.world) (λ z w. goes (z ∷ x ∷ (xs ++ rest)) w c))
-    counted_by x xs rest ks a (inl e) h m =
+    counted_by x xs rest o ks a (inl e) h m =
         subst (λ a. Good_next (after (answered a c.world) (λ z w. goes (z ∷ x ∷ (xs ++ rest)) w c))) (sym e)
-        (ok (group ∷ ks) (number (pos (length (x ∷ xs))) ∷ x ∷ (xs ++ rest)) c.world same h (x ∷ xs, rest, refl, m))
-    counted_by x xs rest ks a (inr e) h m =
+        (ok (group o ∷ ks) (number (pos (length (x ∷ xs))) ∷ x ∷ (xs ++ rest)) c.world same h (x ∷ xs, rest, refl, m))
+    counted_by x xs rest o ks a (inr e) h m =
         subst (λ a. Good_next (after (answered a c.world) (λ z w. goes (z ∷ x ∷ (xs ++ rest)) w c))) (sym e) st.records
 
     two_added : (ks : List Kind) (vs : List Val) → Meets sh (pops 2 ks (λ ks1. next at (value ∷ ks1) s)) → Match ks vs us → Added vs
@@ -231,18 +229,26 @@ module _ (p : Program) (shapes : StreamId → Shapes) (shaped : (s : StreamId) �
         (λ z. ok (value ∷ ks2) (z ∷ rest) c.world same h2 (z, rest, refl, m2))))
 
     add_fine : (ks : List Kind) (vs : List Val) → Meets sh (add at s ks) → Match ks vs us → Added vs
-    add_fine (one ∷ opened ∷ ks) vs h (vs1, e, (x, xs, rest, e1, m)) =
+    add_fine (one ∷ opened o ∷ ks) vs h (vs1, e, (x, xs, rest, e1, m)) =
         let z : ℤ = pos (length xs) +ℤ pos 1 in
         let is : z ≡ pos (length (x ∷ xs)) = ap (λ n. pos n) (omega arith) in
         subst Added (sym (e ∙ ap (λ y. number (pos 1) ∷ y) e1))
-        (counted_by x xs rest ks _ (counted_on (length (x ∷ xs)) (in_range z) z is refl) h m)
+        (counted_by x xs rest o ks _ (counted_on (length (x ∷ xs)) (in_range z) z is refl) h m)
     add_fine ks vs h m = two_added ks vs h m
 
-    load_by : (v : Val) (ks : List Kind) (a : Bool) → a ≡ (at.loose && is_nought v) →
-        Meets sh (choose a (λ _. next at (nothing ∷ ks) s) (λ _. next at (value ∷ ks) s)) → Match ks vs0 us → Good_next (goes (v ∷ vs0) c.world c)
-    load_by v ks true e h m =
-        ok (nothing ∷ ks) (v ∷ vs0) c.world same h (vs0, ap (λ x. x ∷ vs0) (zero_is v (and_second at.loose (is_nought v) (sym e))), m)
-    load_by v ks false e h m = ok (value ∷ ks) (v ∷ vs0) c.world same h (v, vs0, refl, m)
+    -- 0 is a value, and a group of none
+    zero_read : (v : Val) (r : Reading) (place : ℕ) (ks : List Kind) → v ≡ number (pos 0) → Meets sh (next at (zero_of r place ks ∷ ks) s) →
+        Match ks vs0 us → Good_next (goes (v ∷ vs0) c.world c)
+    zero_read v readings.Value place ks e h m = ok (value ∷ ks) (v ∷ vs0) c.world same h (v, vs0, refl, m)
+    zero_read v readings.Group place ks e h m =
+        ok (group (Some place) ∷ ks) (v ∷ vs0) c.world same h ([], vs0, ap (λ x. x ∷ vs0) e, m)
+    zero_read v readings.Open place [] e h m = ok (nothing place ∷ []) (v ∷ vs0) c.world same h (vs0, ap (λ x. x ∷ vs0) e, m)
+    zero_read v readings.Open place (k ∷ ks) e h m = ok (value ∷ k ∷ ks) (v ∷ vs0) c.world same h (v, vs0, refl, m)
+
+    load_by : (v : Val) (a : Bool) → is_nought v ≡ a →
+        Meets sh (choose a (λ _. load_zero at s) (λ _. next at (value ∷ s.part.operands) s)) → Good_next (goes (v ∷ vs0) c.world c)
+    load_by v true e h = zero_read v at.reading at.place s.part.operands (zero_is v e) h st.holds.operands
+    load_by v false e h = ok (value ∷ s.part.operands) (v ∷ vs0) c.world same h (v, vs0, refl, st.holds.operands)
 
     load_one : (v : Val) (a : Bool) → a ≡ (at.between && is_one v) →
         Meets sh (choose a (λ _. next at (one ∷ s.part.operands) s) (λ _. Rattle.tm_shapes.specs.Flows.load_value at v s)) →
@@ -250,7 +256,7 @@ module _ (p : Program) (shapes : StreamId → Shapes) (shaped : (s : StreamId) �
     load_one v true e h =
         ok (one ∷ s.part.operands) (v ∷ vs0) c.world same h
         (vs0, ap (λ x. x ∷ vs0) (one_is v (and_second at.between (is_one v) (sym e))), st.holds.operands)
-    load_one v false e h = load_by v s.part.operands (at.loose && is_nought v) refl h st.holds.operands
+    load_one v false e h = load_by v (is_nought v) refl h
 
     names_fine : (v : Val) (o : Option (List (List ℕ))) → names_in v ≡ o → Meets sh (load_names o at s) → Good_next (goes (v ∷ vs0) c.world c)
     names_fine v (Some xs) e h = ok (names (length xs) ∷ s.part.operands) (v ∷ vs0) c.world same h (v, vs0, xs, refl, e, st.holds.operands)
@@ -275,6 +281,11 @@ module _ (p : Program) (shapes : StreamId → Shapes) (shaped : (s : StreamId) �
         after (make_macro (Rattle.tm_syntax.specs.Entries.entry_number place (p.code c.run.stream)) own x arguments caller c.world)
         (λ v w. goes (v ∷ rest) w c)))))
 
+    -- what is built leads on, whether or not it is entered there as well
+    entering_next : (b : Bool) (a e : Flow) → Meets sh (choose b (λ _. both a e) (λ _. a)) → Meets sh a
+    entering_next true a e h = h.0
+    entering_next false a e h = h
+
     macro_fine : (x : List ℕ) (place : ℕ) (caller : Bool) (ks : List Kind) (vs : List Val) → Meets sh (build_macro at place s ks) → Match ks vs us →
         Builds x place caller vs
     macro_fine x place caller (names n ∷ closure ∷ ks) vs h (v, vs1, xs, e, is, (u, rest, own, e1, is1, m)) =
@@ -285,7 +296,8 @@ module _ (p : Program) (shapes : StreamId → Shapes) (shaped : (s : StreamId) �
         (subst (λ o. Good_next (on_parts (Some own) o c.world (λ own arguments.
         after (make_macro (Rattle.tm_syntax.specs.Entries.entry_number place (p.code c.run.stream)) own x arguments caller c.world)
         (λ v w. goes (v ∷ rest) w c)))) (sym is)
-        (ok (value ∷ ks) _ _ (record { stream = refl; marks = refl; ids = refl }) h.0 (_, rest, refl, m))))
+        (ok (value ∷ ks) _ _ (record { stream = refl; marks = refl; ids = refl })
+        (entering_next at.enters (next at (value ∷ ks) s) (leads place (entry_shape n)) h) (_, rest, refl, m))))
     macro_fine x place caller ks vs h m = absurd h
 
     -- ---------------------------------------------------------------- results
@@ -356,7 +368,7 @@ module _ (p : Program) (shapes : StreamId → Shapes) (shaped : (s : StreamId) �
     loops_there [] [] e h = absurd (subst (λ x. Meets sh (Rattle.tm_shapes.specs.Flows.pop_part at s x)) e h)
     loops_there [] (q ∷ qs) e h = tt
     loops_there (scope ∷ fs) qs e h = h
-    loops_there (loop x y ∷ fs) qs e h = tt
+    loops_there (loop m x y ∷ fs) qs e h = tt
 
     -- ---------------------------------------------------------------- instructions
     -- Caches aren't for this instruction.
@@ -398,7 +410,7 @@ module _ (p : Program) (shapes : StreamId → Shapes) (shaped : (s : StreamId) �
     effect_fine (i.UnpackLists n) code none h =
         pops_fine p shapes shaped g sh us c.world n s.part.operands vs0 [] _ _ h st.holds.operands (λ xs ks rest h m.
         answers (Rattle.tm_definitions.specs.Spread.items_of_all p.host.undefined (records_of c.world) xs) (λ us w. goes (group_on us rest) w c)
-        (λ ys. ok (group ∷ ks) (group_on ys rest) c.world same h (group_match p shapes shaped g c s st at here ys ks rest us m)))
+        (λ ys. ok (group None ∷ ks) (group_on ys rest) c.world same h (group_match p shapes shaped g c s st at here ys ks rest us m)))
     effect_fine i.Eq code none h = two_fine (result_of binaries.Equal p.host.undefined (records_of c.world)) h
     effect_fine i.Ne code none h = two_fine (result_of binaries.NotEqual p.host.undefined (records_of c.world)) h
     effect_fine i.Lt code none h = two_fine (result_of binaries.Less p.host.undefined (records_of c.world)) h
@@ -490,7 +502,7 @@ module _ (p : Program) (shapes : StreamId → Shapes) (shaped : (s : StreamId) �
         (boolean (nat_eq (length l.items) 0), vs0, refl, st.holds.operands))
     effect_fine i.PopLoopFrame code none h =
         pop_loop_frame_fine p shapes shaped g c s st at here f base h (loops_there s.part.frames s.below refl h)
-    effect_fine (i.BeginCapture mode) code none h = begin_fine p shapes shaped g c s st at here (new_capture (is_heard mode)) h
+    effect_fine (i.BeginCapture mode) code none h = begin_fine p shapes shaped g c s st at here mode (new_capture (is_heard mode)) h
     effect_fine i.EndCapture code none h = end_fine p shapes shaped g c s st at here s.part.captures refl h
     effect_fine i.PushAutoEscape code none h =
         pops_one s.part.operands vs0 _ _ h st.holds.operands (λ v ks vs h m.
@@ -571,17 +583,24 @@ module _ (p : Program) (shapes : StreamId → Shapes) (shaped : (s : StreamId) �
           any_fine (with_world (record c.world { fuel = left }) c) at.shape (paid left) m.0 m.1 x code
           ((shaped c.run.stream).caches c.run.place x code) m.2
 
-      no_site : Site
-      no_site = record { place = c.run.place; rest = []; entered = false; between = false; loose = false }
+      abbrev no_site : Site
+      no_site = record {
+        place = c.run.place;
+        rest = [];
+        entered = false;
+        between = false;
+        reading = readings.Value;
+        returned = None;
+        enters = false;
+      }
 
       acted : (o : Option Instruction) → slice_get (p.code c.run.stream) c.run.place ≡ o → Goes_on (act p f o c)
       acted (Some x) code = paid_by x code (charged (Rattle.tm_meaning.specs.Steps.charge_of x) c.world.fuel)
       acted None code =
           let l = (shaped c.run.stream).last c.run.place at.shape code at.at in
-          let site : Site = record { place = c.run.place; rest = []; entered = false; between = false; loose = false } in
-          let x = closed_by p shapes shaped g c at.shape at.stand site refl f base l.1 in
+          let x = closed_by p shapes shaped g c at.shape at.stand no_site refl f base l.1 in
           let there : nat_eq c.run.place (length (p.code c.run.stream)) ≡ true = grind (arith, nat_tests, l.0) in
-          rw (there, x.closed_is) (parent_fine p shapes shaped g c at.shape at.stand site refl f x c.run.parent)
+          rw (there, x.closed_is) (parent_fine p shapes shaped g c at.shape at.stand no_site refl f x c.run.parent)
 
       pub step_fine : Goes_on (step p f c)
       step_fine = acted (slice_get (p.code c.run.stream) c.run.place) refl

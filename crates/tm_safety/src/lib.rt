@@ -1,8 +1,6 @@
 //! Proofs: streams that no compiler wrote. What stands at each place of a stream, whatever ran before it, is its shape; a stream with shapes
-//! is never stuck, the code of trees has them, and a search finds them. The functions here are laws: they run nothing.
+//! is never stuck, and a search finds them. The functions here are laws: they run nothing.
 #![tactic(auto)]
-
-mod rows;
 
 ghost use Rattle.std.specs.Prelude.{◌≡◌, ℕ, List, [], Bool, Some, slice_get, true};
 ghost use Rattle.tm_meaning.specs.Calls.{Callee};
@@ -10,17 +8,14 @@ ghost use Rattle.tm_meaning.specs.Machine.{Capture, Program, Stuck, base_of};
 ghost use Rattle.tm_meaning.specs.Steps.{Final, final, Leads, begins};
 ghost use Rattle.tm_meaning.specs.World.{World};
 ghost use Rattle.tm_meaning.specs.declared.stream.StreamId.{StreamId};
-ghost use Rattle.tm_shapes.specs.Accepts.{FitsStrictly, accepts};
+ghost use Rattle.tm_shapes.specs.Accepts.{MeetsRules, accepts, all_values};
+ghost use Rattle.tm_shapes.specs.Placed.{is_placed};
+ghost use Rattle.tm_shapes.specs.declared.kind.Form.{Form};
 ghost use Rattle.tm_safety.specs.Fits.{AllEnter, ids_of};
-ghost use Rattle.tm_shapes.specs.Shaped.{Flowing, IsShaped, ReadsTo};
-ghost use Rattle.tm_syntax.specs.Blocks.{StreamTree, fragment_of};
-ghost use Rattle.tm_syntax.specs.Fragments.{assembled};
-ghost use Rattle.tm_syntax.specs.Entries.{entries};
+ghost use Rattle.tm_shapes.specs.Shaped.{IsShaped};
 ghost use Rattle.tm_syntax.specs.declared.instruction.Instruction.{Instruction};
-ghost use Rattle.tm_shapes.specs.Shapes.{Shapes, entry_shape};
+ghost use Rattle.tm_shapes.specs.Shapes.{Shapes};
 ghost use Rattle.tm_safety.specs.Runs.{stream_of, EndsIn};
-
-pub use rows::{end_rows, loop_rows, placed_rows, shape_rows};
 
 /// A run of a stream that has shapes is never stuck, nor is one of a macro of it: whatever is open
 /// below it, in any world whose loops' records are of loops that are reached. And so it leaves one.
@@ -40,28 +35,21 @@ pub fn a_shaped_stream_is_never_stuck()
         EndsIn (λ left. AllEnter p.code shapes (ids_of left.loops)) o.end }
 {}
 
-/// The code of every tree has shapes, and so have the entries of its macros.
-pub fn the_code_of_trees_has_shapes()
-    ensures { (tree : StreamTree) → let code = assembled (fragment_of tree) in
-        (shapes : Shapes) × Flowing code shapes
-        × ((k : ℕ) (e : ℕ × ℕ) → slice_get (entries code) k ≡ Some e → ReadsTo shapes e.0 (entry_shape e.1)) }
-{}
-
-/// A stream is accepted, each `LoadConst 0` taken as a value, exactly where shapes meet the rules; and
-/// one that is accepted has shapes.
+/// A stream that is accepted has shapes; and one is accepted whose parts stand together, and where shapes
+/// meet the rules with each `LoadConst 0` taken as a value.
 pub fn a_stream_is_accepted_where_shapes_fit()
-    ensures shaped { (operands : ℕ) (code : List Instruction) → accepts operands code ≡ true →
+    ensures shaped { (form : Form) (code : List Instruction) → accepts form code ≡ true →
         (shapes : Shapes) × IsShaped code shapes }
-    ensures accepted { (operands : ℕ) (code : List Instruction) (shapes : Shapes) →
-        FitsStrictly operands code shapes → accepts operands code ≡ true }
+    ensures accepted { (form : Form) (code : List Instruction) → is_placed code ≡ true →
+        MeetsRules all_values form code → accepts form code ≡ true }
 {}
 
 /// Where all streams of a program are accepted none is ever stuck, from any world that has no record
 /// of a loop yet, as a state's first one: not a stream from its start, nor a macro from its entry.
 pub fn accepted_streams_are_never_stuck()
-    ensures { (p : Program) (operands : StreamId → ℕ) (k : Callee) (heard : Bool)
+    ensures { (p : Program) (form : StreamId → Form) (k : Callee) (heard : Bool)
         (captures : List Capture) (told got : List ℕ) (w left : World) →
-        ((s : StreamId) → accepts (operands s) (p.code s) ≡ true) →
+        ((s : StreamId) → accepts (form s) (p.code s) ≡ true) →
         w.stream ≡ stream_of k → w.loops ≡ [] →
         let f = base_of heard captures w in
         Leads p f told (begins p f k captures w) (final got (Stuck left)) → ⊥ }

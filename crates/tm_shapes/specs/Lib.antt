@@ -5,3 +5,7 @@ pub mod Search
 pub mod Placed
 pub mod Accepts
 pub mod StreamRows
+pub mod Cells
+pub mod Numbers
+pub mod Shown
+pub mod Told

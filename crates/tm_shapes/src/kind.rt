@@ -1,7 +1,7 @@
 //! What is known of an operand, and of a scope.
 
 /// What is known of an operand.
-#[derive(Clone, Copy, PartialEq, Eq)]
+#[derive(Clone, Copy, PartialEq, Eq, PartialOrd, Ord)]
 pub enum Kind {
     /// It is a value.
     Value,
@@ -21,7 +21,7 @@ pub enum Kind {
 }
 
 /// What a scope is.
-#[derive(Clone, Copy, PartialEq, Eq)]
+#[derive(Clone, Copy, PartialEq, Eq, PartialOrd, Ord)]
 pub enum Frame {
     /// One of `PushWith`.
     Scope,
@@ -30,7 +30,7 @@ pub enum Frame {
 }
 
 /// As what a `LoadConst 0` is read.
-#[derive(Clone, Copy, PartialEq, Eq)]
+#[derive(Clone, Copy, PartialEq, Eq, PartialOrd, Ord)]
 pub enum Reading {
     /// As a value.
     Value,

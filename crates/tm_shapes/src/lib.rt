@@ -2,8 +2,11 @@
 //! where a search finds shapes.
 #![tactic(auto)]
 
+mod cells;
+mod flow;
 mod kind;
 mod rows;
+mod shape;
 
 pub use kind::{Form, Frame, Kind, Reading};
 pub use rows::{end_rows, form_rows, group_rows, loop_rows, placed_rows, shape_rows, way_rows};

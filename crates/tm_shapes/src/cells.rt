@@ -1,0 +1,108 @@
+//! Stacks that share what lies below: each is the number of its topmost cell, and the same stack has one number, so that two are compared at once.
+ghost use Rattle.std.specs.Prelude.{◌≡◌, [], IfOk, Some};
+ghost use Rattle.tm_shapes.specs.Cells.{AllOnce, Grown, cell_at};
+
+use crate::kind::{Frame, Kind};
+use std::alloc::{AllocError, Global};
+use std::collections::BTreeMap;
+use std::marker::Model;
+
+/// What is open in a part.
+#[derive(Clone, Copy, PartialEq, Eq, PartialOrd, Ord)]
+pub(crate) struct Level {
+    /// The scopes.
+    pub(crate) frames: usize,
+    /// The captures.
+    pub(crate) captures: usize,
+    /// How many captures there are.
+    pub(crate) open: usize,
+    /// How many escapes there are.
+    pub(crate) escapes: usize,
+    /// How many operands lie below the part.
+    pub(crate) floor: usize,
+}
+
+/// What lies on a stack.
+#[derive(Clone, Copy, PartialEq, Eq, PartialOrd, Ord)]
+pub(crate) enum Item {
+    /// An operand of a kind other than a value, over so many values.
+    Operand(Kind, usize),
+    /// A scope.
+    Frame(Frame),
+    /// A capture whose text becomes a value.
+    Capture,
+    /// A capture whose text is dropped.
+    Discard,
+    /// A part that another one lies over.
+    Part(Level),
+}
+
+/// An item, and the stack below it.
+#[derive(Clone, Copy, PartialEq, Eq, PartialOrd, Ord)]
+pub(crate) struct Cell {
+    /// What lies here.
+    pub(crate) item: Item,
+    /// The number of the stack below, 0 for none.
+    pub(crate) below: usize,
+}
+
+/// The cells of all stacks, from the number 1, each once. A contract sees the cells.
+#[derive(Drop)]
+pub(crate) struct Cells {
+    cells: Vec<Cell>,
+    numbers: BTreeMap<Cell, usize>,
+}
+
+impl Model for Cells {
+    ghost use Rattle.std.specs.Prelude.{List};
+    ghost use Rattle.tm_shapes.specs.declared.cells.Cell.{Cell as Made};
+    ghost use Rattle.tm_shapes.specs.Numbers.{Fit};
+
+    ghost Value = { List Made };
+
+    ghost view = { λ a. a.cells.items };
+
+    ghost invariant = { λ a. Fit a.cells.items a.numbers.entries };
+}
+
+impl Cells {
+    /// No cells.
+    pub(crate) fn new(alloc: Global) -> Cells
+        ensures { result ≡ [] }
+    {
+        Cells {
+            cells: Vec::new(alloc),
+            numbers: BTreeMap::new(alloc),
+        }
+    }
+
+    /// The cell of a number, where it has one.
+    pub(crate) fn get(&self, number: usize) -> Option<Cell>
+        ensures found { result ≡ cell_at self.now number }
+        ensures once { AllOnce self.now }
+    {
+        match self.cells.get(number.checked_sub(1)?) {
+            Some(cell) => Some(*cell),
+            None => None,
+        }
+    }
+
+    /// The number of a cell, which it gets where it has none. AllocError when out of memory.
+    pub(crate) fn put(&mut self, cell: Cell) -> Result<usize, AllocError>
+        ensures found { IfOk result (λ n. cell_at self.new n ≡ Some cell) }
+        ensures grown { Grown self.old self.new }
+    {
+        if let Some(number) = self.numbers.get(&cell) {
+            return Ok(*number);
+        }
+        self.cells.push(cell)?;
+        let number = self.cells.len();
+        match self.numbers.insert(cell, number) {
+            Ok(_) => Ok(number),
+            Err(failed) => {
+                self.cells.pop();
+                Err(failed.into())
+            }
+        }
+    }
+}
