@@ -4,3 +4,10 @@ pub mod Trees
 pub mod Tags
 pub mod Entered
 pub mod Made
+pub mod Chunks
+pub mod Tidied
+pub mod Targets
+pub mod Numbers
+pub mod Caches
+pub mod Sited
+pub mod Placing

@@ -30,7 +30,7 @@ use Rattle.tm_safety.proofs.Entered.{entry_begins}
 use Rattle.tm_safety.proofs.Finds as finds
 
 -- ---------------------------------------------------------------- both of two tests
-both_true : (a b : Bool) → (a && b) ≡ true → (a ≡ true) × (b ≡ true)
+pub both_true : (a b : Bool) → (a && b) ≡ true → (a ≡ true) × (b ≡ true)
 both_true true b e = (refl, e)
 both_true false b e = absurd (cc e)
 
@@ -250,7 +250,7 @@ first_is : (o : Option Found) (on : Found → Option Shapes) (out : Shapes) → 
 first_is None on out e = absurd (cc e)
 first_is (Some f) on out e = (f, refl, e)
 
-no_shape_at : (xs : List Instruction) (n : ℕ) (s : Shape) → shape_at (no_shapes xs) n ≡ Some s → ⊥
+pub no_shape_at : (xs : List Instruction) (n : ℕ) (s : Shape) → shape_at (no_shapes xs) n ≡ Some s → ⊥
 no_shape_at [] zero s e = cc e
 no_shape_at [] (suc n) s e = cc e
 no_shape_at (x ∷ xs) zero s e = cc e

@@ -8,3 +8,4 @@ pub mod Finds
 pub mod Taken
 pub mod Entered
 pub mod Accepted
+pub mod Discovers

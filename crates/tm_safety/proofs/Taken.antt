@@ -38,6 +38,11 @@ zero_turned None n ks = refl
 zero_turned (Some true) n ks = refl
 zero_turned (Some false) n ks = refl
 
+place_inside : {A : Type 0} (xs : List A) (n : ℕ) (x : A) → slice_get xs n ≡ Some x → suc n ≤ length xs
+place_inside [] n x e = absurd (cc e)
+place_inside (y ∷ xs) zero x e = omega arith
+place_inside (y ∷ xs) (suc n) x e = omega (arith, place_inside xs n x e)
+
 -- some shapes fit where each 0 is read so; of these places the 0 is marked
 module _ (code : List Instruction) (read : Readings) (sh : Shapes) (marks : List Bool) where
   abbrev pub marked : ℕ → Bool
@@ -121,6 +126,12 @@ module _ (code : List Instruction) (read : Readings) (sh : Shapes) (marks : List
   pushed_turned zero ds = refl
   pushed_turned (suc n) ds = ap (λ ks. value ∷ ks) (pushed_turned n ds)
 
+  pub entry_turned : (m : ℕ) → entry_shape m ≡ turn_shape (entry_shape m)
+  entry_turned m = ap (λ ks. record { part = record { operands = ks; frames = []; captures = []; escapes = 0 }; below = [] }) (pushed_turned m [])
+
+  pub entry_as : (m : ℕ) → ShapeAs (entry_shape m) (entry_shape m)
+  entry_as m = record { part = record { operands = pushed_as m [] [] tt; is = refl }; below = tt }
+
   over_as : (js ds ks es : List Kind) → AllAs js ds → AllAs ks es → AllAs (js ++ ks) (ds ++ es)
   over_as [] [] ks es r q = q
   over_as [] (d ∷ ds) ks es r q = absurd r
@@ -150,6 +161,14 @@ module _ (code : List Instruction) (read : Readings) (sh : Shapes) (marks : List
   pub none_turned : (qs : List Part) → is_empty (turn_parts qs) ≡ is_empty qs
   none_turned [] = refl
   none_turned (q ∷ qs) = refl
+
+  pub closed_turned : (t : Shape) → is_closed (turn_shape t) ≡ is_closed t
+  closed_turned t =
+      ap (λ b. is_empty t.part.frames && is_empty t.part.captures && nat_eq t.part.escapes 0 && b) (none_turned t.below)
+
+  pub are_turned : (o : Option ℕ) (ds : List Kind) → are o (turns ds) ≡ are o ds
+  are_turned None ds = refl
+  are_turned (Some m) ds = ap (λ k. nat_eq k m) (turned_long ds)
 
   -- what can be taken as a value is one
   values_by : (d : Kind) → Settled d → is_value d ≡ true → turn d ≡ d
@@ -389,3 +408,431 @@ module _ (code : List Instruction) (read : Readings) (sh : Shapes) (marks : List
           chosen (builds_after rest) (next site_open (closure ∷ js) s) (next site_open (value ∷ js) s) (next at (closure ∷ t.part.operands) t)
           (next at (value ∷ t.part.operands) t) (next by_marks (closure ∷ turns t.part.operands) u)
           (next by_marks (value ∷ turns t.part.operands) u) h (λ _ _. push_three closure tt refl) (λ _ _. push_three value tt refl)
+
+      -- ---------------------------------------------------------------- what stands together
+      two_swapped : (ks ds : List Kind) → AllAs ks ds →
+          Three (next site_open (value ∷ value ∷ ks) s) (next at (value ∷ value ∷ ds) t) (next by_marks (value ∷ value ∷ turns ds) u)
+      two_swapped ks ds r =
+          next_three (value ∷ value ∷ ks) (value ∷ value ∷ ds) (value ∷ value ∷ turns ds) js bs t (value_as, (value_as, r)) lower (λ _. refl)
+
+      opened_three : (o : Option ℕ) (ks ds : List Kind) → Settled (opened o) → AllAs ks ds →
+          Three (next site_open (opened o ∷ ks) s) (next at (opened o ∷ ds) t) (next by_marks (opened o ∷ turns ds) u)
+      opened_three o ks ds st r =
+          next_three (opened o ∷ ks) (opened o ∷ ds) (opened o ∷ turns ds) js bs t (inl (refl, st), r) lower (λ _. refl)
+
+      group_swapped : (o : Option ℕ) (ks ds : List Kind) → Settled (opened o) → AllAs ks ds → Has sh (swap_group at t o ds) →
+          Three (swap_group site_open s o ks) (swap_group at t o ds) (swap_group by_marks u o (turns ds))
+      group_swapped o ks ds st r h =
+          chosen (in_row at) (next site_open (opened o ∷ ks) s) refused (next at (opened o ∷ ds) t) refused (next by_marks (opened o ∷ turns ds) u)
+          refused h (λ _ _. opened_three o ks ds st r) (λ _ h. absurd h)
+
+      over_same : (d : Kind) (ks ds : List Kind) → Settled d → AllAs ks ds → Has sh (swap_over at t (d ∷ ds)) →
+          Three (swap_over site_open s (d ∷ ks)) (swap_over at t (d ∷ ds)) (swap_over by_marks u (turns (d ∷ ds)))
+      over_same value ks ds st r h = two_swapped ks ds r
+      over_same (nothing p) ks ds st r h = absurd st
+      over_same (group None) ks ds st r h = group_swapped None ks ds tt r h
+      over_same (group (Some p)) ks ds st r h = rw st (group_swapped (Some p) ks ds st r h)
+      over_same closure ks ds st r h = absurd h
+      over_same (names m) ks ds st r h = absurd h
+      over_same (opened o) ks ds st r h = absurd h
+      over_same one ks ds st r h = two_swapped ks ds r
+
+      -- a 0 that is read as a value, where no row stands
+      zero_value : (p : ℕ) (ks ds : List Kind) (b : Bool) → (b ≡ true → ⊥) → AllAs ks ds →
+          Three (choose b (λ _. takes p (next site_open (opened (Some p) ∷ ks) s)) (λ _. next site_open (value ∷ value ∷ ks) s))
+          (next at (value ∷ value ∷ ds) t) (next by_marks (value ∷ value ∷ turns ds) u)
+      zero_value p ks ds true never r = absurd (never refl)
+      zero_value p ks ds false never r = two_swapped ks ds r
+
+      -- and one that is read as a group, where one stands
+      zero_group : (p : ℕ) (ks ds : List Kind) (R : Flow) (b : Bool) → read p ≡ readings.Group → Inside p → AllAs ks ds →
+          (marked p ≡ true → R ≡ choose b (λ _. next by_marks (opened (Some p) ∷ turns ds) u) (λ _. refused)) →
+          Has sh (choose b (λ _. next at (opened (Some p) ∷ ds) t) (λ _. refused)) →
+          Three (choose b (λ _. takes p (next site_open (opened (Some p) ∷ ks) s)) (λ _. next site_open (value ∷ value ∷ ks) s))
+          (choose b (λ _. next at (opened (Some p) ∷ ds) t) (λ _. refused)) R
+      zero_group p ks ds R false g inside r is h = absurd h
+      zero_group p ks ds R true g inside r is h =
+          (g, inside, λ e. subst (λ R. Three (next site_open (opened (Some p) ∷ ks) s) (next at (opened (Some p) ∷ ds) t) R) (sym (is e))
+          (opened_three (Some p) ks ds e r))
+
+      marked_over : (p : ℕ) (ds : List Kind) → marked p ≡ true →
+          swap_over by_marks u (turned_group (marked p) p ∷ turns ds) ≡ swap_group by_marks u (Some p) (turns ds)
+      marked_over p ds e = rw e refl
+
+      over_by : (j d : Kind) (ks ds : List Kind) → ReadAs j d → AllAs ks ds → ((more : List Kind) → in_row at ≡ true → d ∷ ds ≡ value ∷ more → ⊥) →
+          Has sh (swap_over at t (d ∷ ds)) →
+          Three (swap_over site_open s (j ∷ ks)) (swap_over at t (d ∷ ds)) (swap_over by_marks u (turns (d ∷ ds)))
+      over_by j d ks ds (inl (same, st)) r never h =
+          subst (λ j. Three (swap_over site_open s (j ∷ ks)) (swap_over at t (d ∷ ds)) (swap_over by_marks u (turns (d ∷ ds)))) (sym same)
+          (over_same d ks ds (subst Settled same st) r h)
+      over_by j d ks ds (inr (p, zero_is, inside, inl (is, v))) r never h =
+          subst (λ j. Three (swap_over site_open s (j ∷ ks)) (swap_over at t (d ∷ ds)) (swap_over by_marks u (turns (d ∷ ds)))) (sym zero_is)
+          (subst (λ d. Three (swap_over site_open s (nothing p ∷ ks)) (swap_over at t (d ∷ ds)) (swap_over by_marks u (turns (d ∷ ds)))) (sym is)
+          (zero_value p ks ds (in_row at) (λ row. never ds row (ap (λ d. d ∷ ds) is)) r))
+      over_by j d ks ds (inr (p, zero_is, inside, inr (is, g))) r never h =
+          let h1 : Has sh (swap_group at t (Some p) ds) = subst (λ d. Has sh (swap_over at t (d ∷ ds))) is h in
+          subst (λ j. Three (swap_over site_open s (j ∷ ks)) (swap_over at t (d ∷ ds)) (swap_over by_marks u (turns (d ∷ ds)))) (sym zero_is)
+          (subst (λ d. Three (swap_over site_open s (nothing p ∷ ks)) (swap_over at t (d ∷ ds)) (swap_over by_marks u (turns (d ∷ ds)))) (sym is)
+          (zero_group p ks ds (swap_over by_marks u (turned_group (marked p) p ∷ turns ds)) (in_row at) g inside r (marked_over p ds) h1))
+
+      over_three : (ks ds : List Kind) → AllAs ks ds → ((more : List Kind) → in_row at ≡ true → ds ≡ value ∷ more → ⊥) →
+          Has sh (swap_over at t ds) → Three (swap_over site_open s ks) (swap_over at t ds) (swap_over by_marks u (turns ds))
+      over_three [] [] r never h = absurd h
+      over_three [] (d ∷ ds) r never h = absurd r
+      over_three (j ∷ ks) [] r never h = absurd r
+      over_three (j ∷ ks) (d ∷ ds) r never h = over_by j d ks ds r.0 r.1 never h
+
+      swap_three : (ks ds : List Kind) → AllAs ks ds → ((d : Kind) (more : List Kind) → in_row at ≡ true → ds ≡ d ∷ value ∷ more → ⊥) →
+          Has sh (pop ds (swap_over at t)) →
+          Three (pop ks (swap_over site_open s)) (pop ds (swap_over at t)) (pop (turns ds) (swap_over by_marks u))
+      swap_three [] [] r never h = absurd h
+      swap_three [] (d ∷ ds) r never h = absurd r
+      swap_three (j ∷ ks) [] r never h = absurd r
+      swap_three (j ∷ ks) (d ∷ ds) r never h =
+          popped_by j d (swap_over site_open s ks) (swap_over at t ds) (swap_over by_marks u (turns ds)) r.0 (is_value d) refl h (λ h1.
+          over_three ks ds r.1 (λ more row e. never d more row (ap (λ x. d ∷ x) e)) h1)
+
+      two_added : (ks ds : List Kind) → AllAs ks ds → Has sh (pops 2 ds (λ ks. next at (value ∷ ks) t)) →
+          Three (pops 2 ks (λ ks. next site_open (value ∷ ks) s)) (pops 2 ds (λ ks. next at (value ∷ ks) t))
+          (pops 2 (turns ds) (λ ks. next by_marks (value ∷ ks) u))
+      two_added ks ds r h =
+          pops_three 2 (λ ks. next site_open (value ∷ ks) s) (λ ks. next at (value ∷ ks) t) (λ ks. next by_marks (value ∷ ks) u)
+          (λ ks ds r h. next_three (value ∷ ks) (value ∷ ds) (value ∷ turns ds) js bs t (value_as, r) lower (λ _. refl)) ks ds r h
+
+      counted_added : (o : Option ℕ) (ks ds : List Kind) → Settled (group o) → turn (group o) ≡ group o → AllAs ks ds →
+          Three (next site_open (group o ∷ ks) s) (next at (group o ∷ ds) t) (next by_marks (group o ∷ turns ds) u)
+      counted_added o ks ds st same r =
+          next_three (group o ∷ ks) (group o ∷ ds) (group o ∷ turns ds) js bs t (inl (refl, st), r) lower
+          (λ _. ap (λ k. k ∷ turns ds) (sym same))
+
+      marked_group : (p : ℕ) → marked p ≡ true → turn (group (Some p)) ≡ group (Some p)
+      marked_group p e = rw e refl
+
+      one_same : (d : Kind) (ks ds : List Kind) → Settled d → AllAs ks ds → Has sh (add at t (one ∷ d ∷ ds)) →
+          Three (add site_open s (one ∷ d ∷ ks)) (add at t (one ∷ d ∷ ds)) (add by_marks u (turns (one ∷ d ∷ ds)))
+      one_same value ks ds st r h = two_added (one ∷ value ∷ ks) (one ∷ value ∷ ds) (inl (refl, tt), (value_as, r)) h
+      one_same (nothing p) ks ds st r h = absurd st
+      one_same (group o) ks ds st r h = absurd h
+      one_same closure ks ds st r h = absurd h
+      one_same (names m) ks ds st r h = absurd h
+      one_same (opened None) ks ds st r h = counted_added None ks ds tt refl r
+      one_same (opened (Some p)) ks ds st r h = counted_added (Some p) ks ds st (marked_group p st) r
+      one_same one ks ds st r h = two_added (one ∷ one ∷ ks) (one ∷ one ∷ ds) (inl (refl, tt), (inl (refl, tt), r)) h
+
+      one_by : (j d : Kind) (ks ds : List Kind) → ReadAs j d → AllAs ks ds → Has sh (add at t (one ∷ d ∷ ds)) →
+          Three (add site_open s (one ∷ j ∷ ks)) (add at t (one ∷ d ∷ ds)) (add by_marks u (turns (one ∷ d ∷ ds)))
+      one_by j d ks ds (inl (same, st)) r h =
+          subst (λ j. Three (add site_open s (one ∷ j ∷ ks)) (add at t (one ∷ d ∷ ds)) (add by_marks u (turns (one ∷ d ∷ ds)))) (sym same)
+          (one_same d ks ds (subst Settled same st) r h)
+      one_by j d ks ds (inr (p, zero_is, inside, inl (is, v))) r h =
+          let h1 : Has sh (add at t (one ∷ value ∷ ds)) = subst (λ d. Has sh (add at t (one ∷ d ∷ ds))) is h in
+          subst (λ j. Three (add site_open s (one ∷ j ∷ ks)) (add at t (one ∷ d ∷ ds)) (add by_marks u (turns (one ∷ d ∷ ds)))) (sym zero_is)
+          (subst (λ d. Three (add site_open s (one ∷ nothing p ∷ ks)) (add at t (one ∷ d ∷ ds)) (add by_marks u (turns (one ∷ d ∷ ds)))) (sym is)
+          (two_added (one ∷ nothing p ∷ ks) (one ∷ value ∷ ds) (inl (refl, tt), (inr (p, refl, inside, inl (refl, v)), r)) h1))
+      one_by j d ks ds (inr (p, zero_is, inside, inr (is, g))) r h = absurd (subst (λ d. Has sh (add at t (one ∷ d ∷ ds))) is h)
+
+      one_three : (ks ds : List Kind) → AllAs ks ds → Has sh (add at t (one ∷ ds)) →
+          Three (add site_open s (one ∷ ks)) (add at t (one ∷ ds)) (add by_marks u (turns (one ∷ ds)))
+      one_three [] [] r h = absurd h
+      one_three [] (d ∷ ds) r h = absurd r
+      one_three (j ∷ ks) [] r h = absurd r
+      one_three (j ∷ ks) (d ∷ ds) r h = one_by j d ks ds r.0 r.1 h
+
+      add_same : (d : Kind) (ks ds : List Kind) → Settled d → AllAs ks ds → Has sh (add at t (d ∷ ds)) →
+          Three (add site_open s (d ∷ ks)) (add at t (d ∷ ds)) (add by_marks u (turns (d ∷ ds)))
+      add_same value ks ds st r h = two_added (value ∷ ks) (value ∷ ds) (value_as, r) h
+      add_same (nothing p) ks ds st r h = absurd st
+      add_same (group o) ks ds st r h = absurd h
+      add_same closure ks ds st r h = absurd h
+      add_same (names m) ks ds st r h = absurd h
+      add_same (opened o) ks ds st r h = absurd h
+      add_same one ks ds st r h = one_three ks ds r h
+
+      add_by : (j d : Kind) (ks ds : List Kind) → ReadAs j d → AllAs ks ds → Has sh (add at t (d ∷ ds)) →
+          Three (add site_open s (j ∷ ks)) (add at t (d ∷ ds)) (add by_marks u (turns (d ∷ ds)))
+      add_by j d ks ds (inl (same, st)) r h =
+          subst (λ j. Three (add site_open s (j ∷ ks)) (add at t (d ∷ ds)) (add by_marks u (turns (d ∷ ds)))) (sym same)
+          (add_same d ks ds (subst Settled same st) r h)
+      add_by j d ks ds (inr (p, zero_is, inside, inl (is, v))) r h =
+          let h1 : Has sh (add at t (value ∷ ds)) = subst (λ d. Has sh (add at t (d ∷ ds))) is h in
+          subst (λ j. Three (add site_open s (j ∷ ks)) (add at t (d ∷ ds)) (add by_marks u (turns (d ∷ ds)))) (sym zero_is)
+          (subst (λ d. Three (add site_open s (nothing p ∷ ks)) (add at t (d ∷ ds)) (add by_marks u (turns (d ∷ ds)))) (sym is)
+          (two_added (nothing p ∷ ks) (value ∷ ds) (inr (p, refl, inside, inl (refl, v)), r) h1))
+      add_by j d ks ds (inr (p, zero_is, inside, inr (is, g))) r h = absurd (subst (λ d. Has sh (add at t (d ∷ ds))) is h)
+
+      add_three : (ks ds : List Kind) → AllAs ks ds → Has sh (add at t ds) →
+          Three (add site_open s ks) (add at t ds) (add by_marks u (turns ds))
+      add_three [] [] r h = absurd h
+      add_three [] (d ∷ ds) r h = absurd r
+      add_three (j ∷ ks) [] r h = absurd r
+      add_three (j ∷ ks) (d ∷ ds) r h = add_by j d ks ds r.0 r.1 h
+
+      -- ---------------------------------------------------------------- macros and jumps
+      both_three : (a1 a2 b1 b2 c1 c2 : Flow) → Three a1 b1 c1 → Three a2 b2 c2 → Three (both a1 a2) (both b1 b2) (both c1 c2)
+      both_three a1 a2 b1 b2 c1 c2 x y = (b1, b2, c1, c2, refl, refl, x, y)
+
+      plain_as : (j d : Kind) → ReadAs j d → (d ≡ value → ⊥) → ((p : ℕ) → d ≡ group (Some p) → ⊥) → j ≡ d
+      plain_as j d (inl (same, st)) v g = same
+      plain_as j d (inr (p, zero_is, inside, inl (is, r))) v g = absurd (v is)
+      plain_as j d (inr (p, zero_is, inside, inr (is, r))) v g = absurd (g p is)
+
+      entry_three : (place m : ℕ) → Three (leads place (entry_shape m)) (leads place (entry_shape m)) (leads place (entry_shape m))
+      entry_three place m = leads_three place (pushed m []) [] (entry_shape m) (entry_shape m) (pushed_as m [] [] tt) tt (λ _. entry_turned m)
+
+      macro_at : (ds : List Kind) (place : ℕ) → Has sh (build_macro at place t ds) → (m : ℕ) × (more : List Kind) × (ds ≡ names m ∷ closure ∷ more)
+      macro_at (names m ∷ closure ∷ ds) place h = (m, ds, refl)
+      macro_at ds place h = absurd h
+
+      named_as : (ks : List Kind) (m : ℕ) (more : List Kind) → AllAs ks (names m ∷ closure ∷ more) →
+          (rest : List Kind) × (ks ≡ names m ∷ closure ∷ rest) × AllAs rest more
+      named_as [] m more r = absurd r
+      named_as (j ∷ []) m more r = absurd r.1
+      named_as (j ∷ k ∷ ks) m more r =
+          let a : j ≡ names m = plain_as j (names m) r.0 (λ e. cc e) (λ p e. cc e) in
+          let b : k ≡ closure = plain_as k closure r.1.0 (λ e. cc e) (λ p e. cc e) in
+          (ks, ap (λ j. j ∷ k ∷ ks) a ∙ ap (λ k. names m ∷ k ∷ ks) b, r.1.1)
+
+      macro_three : (place : ℕ) (ks ds : List Kind) → AllAs ks ds → Has sh (build_macro at place t ds) →
+          Three (build_macro site_open place s ks) (build_macro at place t ds) (build_macro by_marks place u (turns ds))
+      macro_three place ks ds r h =
+          let d = macro_at ds place h in
+          let k = named_as ks d.0 d.1 (subst (AllAs ks) d.2 r) in
+          subst (λ ks. Three (build_macro site_open place s ks) (build_macro at place t ds) (build_macro by_marks place u (turns ds))) (sym k.1)
+          (subst (λ ds. Three (build_macro site_open place s (names d.0 ∷ closure ∷ k.0)) (build_macro at place t ds)
+          (build_macro by_marks place u (turns ds))) (sym d.2)
+          (both_three (next site_open (value ∷ k.0) s) (leads place (entry_shape d.0)) (next at (value ∷ d.1) t) (leads place (entry_shape d.0))
+          (next by_marks (value ∷ turns d.1) u) (leads place (entry_shape d.0))
+          (next_three (value ∷ k.0) (value ∷ d.1) (value ∷ turns d.1) js bs t (value_as, k.2) lower (λ _. refl)) (entry_three place d.0)))
+
+      stay_three : (ks ds : List Kind) → AllAs ks ds → Three (next site_open ks s) (next at ds t) (next by_marks (turns ds) u)
+      stay_three ks ds r = next_three ks ds (turns ds) js bs t r lower (λ _. refl)
+
+      there_three : (m : ℕ) (ks ds : List Kind) → AllAs ks ds →
+          Three (leads m (with_operands ks s)) (leads m (with_operands ds t)) (leads m (with_operands (turns ds) u))
+      there_three m ks ds r = leads_three m ks bs (with_operands ds t) (with_operands (turns ds) u) r lower (λ _. refl)
+
+      jump_if_three : (m : ℕ) → Has sh (flow_of at (i.JumpIfFalse m) t) →
+          Three (flow_of site_open (i.JumpIfFalse m) s) (flow_of at (i.JumpIfFalse m) t) (flow_of by_marks (i.JumpIfFalse m) u)
+      jump_if_three m h =
+          pop_three (λ ks. both (next site_open ks s) (leads m (with_operands ks s))) (λ ks. both (next at ks t) (leads m (with_operands ks t)))
+          (λ ks. both (next by_marks ks u) (leads m (with_operands ks u)))
+          (λ ks ds r h. both_three (next site_open ks s) (leads m (with_operands ks s)) (next at ds t) (leads m (with_operands ds t))
+          (next by_marks (turns ds) u) (leads m (with_operands (turns ds) u)) (stay_three ks ds r) (there_three m ks ds r))
+          js t.part.operands ops h
+
+      jump_or_pop_three : (m : ℕ) → Has sh (flow_of at (i.JumpIfFalseOrPop m) t) →
+          Three (flow_of site_open (i.JumpIfFalseOrPop m) s) (flow_of at (i.JumpIfFalseOrPop m) t) (flow_of by_marks (i.JumpIfFalseOrPop m) u)
+      jump_or_pop_three m h =
+          pop_three (λ ks. both (next site_open ks s) (leads m (with_operands (value ∷ ks) s)))
+          (λ ks. both (next at ks t) (leads m (with_operands (value ∷ ks) t)))
+          (λ ks. both (next by_marks ks u) (leads m (with_operands (value ∷ ks) u)))
+          (λ ks ds r h. both_three (next site_open ks s) (leads m (with_operands (value ∷ ks) s)) (next at ds t)
+          (leads m (with_operands (value ∷ ds) t)) (next by_marks (turns ds) u) (leads m (with_operands (value ∷ turns ds) u)) (stay_three ks ds r)
+          (there_three m (value ∷ ks) (value ∷ ds) (value_as, r)))
+          js t.part.operands ops h
+
+      -- ---------------------------------------------------------------- scopes, loops, captures and escapes
+      -- with the same operands
+      on_three : (t2 : Shape) → t2.part.operands ≡ t.part.operands → t2.below ≡ t.below →
+          Three (on site_open (wide js bs t2)) (on at t2) (on by_marks (turn_shape t2))
+      on_three t2 e b =
+          leads_three (n + 1) js bs t2 (turn_shape t2) (subst (AllAs js) (sym e) ops) (subst (PartsAs bs) (sym b) lower) (λ _. refl)
+
+      frame_three : (fs : List Frame) → Has sh (pop_frame at t fs) →
+          Three (pop_frame site_open s fs) (pop_frame at t fs) (pop_frame by_marks u fs)
+      frame_three [] h = absurd h
+      frame_three (scope ∷ fs) h = on_three (with_frames fs t) refl refl
+      frame_three (loop m c e ∷ fs) h = absurd h
+
+      begun_three : (b : Bool) (ks ds : List Kind) → AllAs ks ds →
+          Three (on site_open (loop_begun b (with_operands ks s))) (on at (loop_begun b (with_operands ds t)))
+          (on by_marks (loop_begun b (with_operands (turns ds) u)))
+      begun_three true ks ds r =
+          leads_three (n + 1) [] (record t.part { operands = ks } ∷ bs) (loop_begun true (with_operands ds t))
+          (loop_begun true (with_operands (turns ds) u)) tt (record { operands = r; is = refl }, lower) (λ _. refl)
+      begun_three false ks ds r =
+          subst (λ m. Three (on site_open (with_frames (loop m (length t.part.captures) t.part.escapes ∷ t.part.frames) (with_operands ks s)))
+          (on at (loop_begun false (with_operands ds t))) (on by_marks (loop_begun false (with_operands (turns ds) u)))) (sym (as_long ks ds r))
+          (leads_three (n + 1) ks bs (loop_begun false (with_operands ds t)) (loop_begun false (with_operands (turns ds) u)) r lower
+          (λ _. ap (λ m. with_frames (loop m (length t.part.captures) t.part.escapes ∷ t.part.frames) (with_operands (turns ds) u)) (turned_long ds)))
+
+      push_loop_three : (b : Bool) → Has sh (pop t.part.operands (λ ks. on at (loop_begun b (with_operands ks t)))) →
+          Three (pop js (λ ks. on site_open (loop_begun b (with_operands ks s)))) (pop t.part.operands (λ ks. on at (loop_begun b (with_operands ks t))))
+          (pop (turns t.part.operands) (λ ks. on by_marks (loop_begun b (with_operands ks u))))
+      push_loop_three b h =
+          pop_three (λ ks. on site_open (loop_begun b (with_operands ks s))) (λ ks. on at (loop_begun b (with_operands ks t)))
+          (λ ks. on by_marks (loop_begun b (with_operands ks u))) (λ ks ds r h. begun_three b ks ds r) js t.part.operands ops h
+
+      in_part_three : (A B C : Flow) (ps qs : List Part) → PartsAs ps qs → Has sh (in_part qs B) → Three A B C →
+          Three (in_part ps A) (in_part qs B) (in_part (turn_parts qs) C)
+      in_part_three A B C [] [] r h k = absurd h
+      in_part_three A B C [] (q ∷ qs) r h k = absurd r
+      in_part_three A B C (p ∷ ps) [] r h k = absurd r
+      in_part_three A B C (p ∷ ps) (q ∷ qs) r h k = k
+
+      on_loop_three : (A B C : Flow) (fs : List Frame) → Has sh (on_loop fs t.below B) → Three A B C →
+          Three (on_loop fs bs A) (on_loop fs t.below B) (on_loop fs (turn_parts t.below) C)
+      on_loop_three A B C [] h k = in_part_three A B C bs t.below lower h k
+      on_loop_three A B C (scope ∷ fs) h k = absurd h
+      on_loop_three A B C (loop m c e ∷ fs) h k = k
+
+      iterate_three : (m : ℕ) → Has sh (flow_of at (i.Iterate m) t) →
+          Three (flow_of site_open (i.Iterate m) s) (flow_of at (i.Iterate m) t) (flow_of by_marks (i.Iterate m) u)
+      iterate_three m h =
+          on_loop_three (both (next site_open (value ∷ js) s) (leads m s)) (both (next at (value ∷ t.part.operands) t) (leads m t))
+          (both (next by_marks (value ∷ turns t.part.operands) u) (leads m u)) t.part.frames h
+          (both_three (next site_open (value ∷ js) s) (leads m s) (next at (value ∷ t.part.operands) t) (leads m t)
+          (next by_marks (value ∷ turns t.part.operands) u) (leads m u) (push_three value tt refl)
+          (leads_three m js bs t u ops lower (λ _. refl)))
+
+      did_not_three : Has sh (flow_of at i.PushDidNotIterate t) →
+          Three (flow_of site_open i.PushDidNotIterate s) (flow_of at i.PushDidNotIterate t) (flow_of by_marks i.PushDidNotIterate u)
+      did_not_three h =
+          on_loop_three (next site_open (value ∷ js) s) (next at (value ∷ t.part.operands) t) (next by_marks (value ∷ turns t.part.operands) u)
+          t.part.frames h (push_three value tt refl)
+
+      part_left : (p q : Part) (ps qs : List Part) → PartAs p q → PartsAs ps qs →
+          Three (on site_open (over_part js p ps)) (on at (over_part t.part.operands q qs))
+          (on by_marks (over_part (turns t.part.operands) (turn_part q) (turn_parts qs)))
+      part_left p q ps qs r rs =
+          subst (λ (x : Part). Three (on site_open (record { part = record x { operands = js ++ p.operands }; below = ps }))
+          (on at (over_part t.part.operands q qs)) (on by_marks (over_part (turns t.part.operands) (turn_part q) (turn_parts qs)))) (sym r.is)
+          (leads_three (n + 1) (js ++ p.operands) ps (over_part t.part.operands q qs)
+          (over_part (turns t.part.operands) (turn_part q) (turn_parts qs)) (over_as js t.part.operands p.operands q.operands ops r.operands) rs
+          (λ _. ap (λ ks. record { part = record q { operands = ks }; below = turn_parts qs }) (over_turned t.part.operands q.operands)))
+
+      part_three : (ps qs : List Part) → PartsAs ps qs → Has sh (pop_part at t qs) →
+          Three (pop_part site_open s ps) (pop_part at t qs) (pop_part by_marks u (turn_parts qs))
+      part_three [] [] r h = absurd h
+      part_three [] (q ∷ qs) r h = absurd r
+      part_three (p ∷ ps) [] r h = absurd r
+      part_three (p ∷ ps) (q ∷ qs) r h =
+          chosen (is_empty t.part.captures && nat_eq t.part.escapes 0) (on site_open (over_part js p ps)) refused
+          (on at (over_part t.part.operands q qs)) refused (on by_marks (over_part (turns t.part.operands) (turn_part q) (turn_parts qs))) refused h
+          (λ _ _. part_left p q ps qs r.0 r.1) (λ _ h. absurd h)
+
+      pop_loop_three : (fs : List Frame) → Has sh (pop_loop at t fs) →
+          Three (pop_loop site_open s fs) (pop_loop at t fs) (pop_loop by_marks u fs)
+      pop_loop_three [] h = part_three bs t.below lower h
+      pop_loop_three (scope ∷ fs) h = absurd h
+      pop_loop_three (loop m c e ∷ fs) h =
+          chosen (nat_eq (length t.part.captures) c && nat_eq t.part.escapes e) (on site_open (with_frames fs s)) refused
+          (on at (with_frames fs t)) refused (on by_marks (with_frames fs u)) refused h (λ _ _. on_three (with_frames fs t) refl refl)
+          (λ _ h. absurd h)
+
+      capture_three : (ms : List CaptureMode) → Has sh (end_capture at t ms) →
+          Three (end_capture site_open s ms) (end_capture at t ms) (end_capture by_marks u ms)
+      capture_three [] h = absurd h
+      capture_three (m ∷ ms) h =
+          next_three (value ∷ js) (value ∷ t.part.operands) (value ∷ turns t.part.operands) js bs (with_captures ms t) (value_as, ops) lower
+          (λ _. refl)
+
+      push_escape_three : Has sh (flow_of at i.PushAutoEscape t) →
+          Three (flow_of site_open i.PushAutoEscape s) (flow_of at i.PushAutoEscape t) (flow_of by_marks i.PushAutoEscape u)
+      push_escape_three h =
+          pop_three (λ ks. next site_open ks (with_escapes (suc t.part.escapes) s)) (λ ks. next at ks (with_escapes (suc t.part.escapes) t))
+          (λ ks. next by_marks ks (with_escapes (suc t.part.escapes) u))
+          (λ ks ds r h. next_three ks ds (turns ds) js bs (with_escapes (suc t.part.escapes) t) r lower (λ _. refl)) js t.part.operands ops h
+
+      pop_escape_three : (m : ℕ) → Has sh (pop_escape at t m) →
+          Three (pop_escape site_open s m) (pop_escape at t m) (pop_escape by_marks u m)
+      pop_escape_three zero h = absurd h
+      pop_escape_three (suc m) h = on_three (with_escapes m t) refl refl
+
+      -- ---------------------------------------------------------------- ends
+      closed_open : is_closed s ≡ is_closed t
+      closed_open =
+          ap (λ b. is_empty t.part.frames && is_empty t.part.captures && nat_eq t.part.escapes 0 && b) (sym (none_as bs t.below lower))
+
+      both_are : (a b : Bool) → (a && b) ≡ true → (a ≡ true) × (b ≡ true)
+      both_are true b e = (refl, e)
+      both_are false b e = absurd (cc e)
+
+      return_by : (b : Bool) → (is_closed t && are returned t.part.operands) ≡ b → Has sh (choose b (λ _. ends) (λ _. refused)) →
+          Three (choose (is_closed s && true) (λ _. ends) (λ _. refused)) (choose b (λ _. ends) (λ _. refused))
+          (choose (is_closed u && are returned (turns t.part.operands)) (λ _. ends) (λ _. refused))
+      return_by false e h = absurd h
+      return_by true e h =
+          let z = both_are (is_closed t) (are returned t.part.operands) e in
+          let a : is_closed s ≡ true = closed_open ∙ z.0 in
+          let b : is_closed u ≡ true = closed_turned t ∙ z.0 in
+          let c : are returned (turns t.part.operands) ≡ true = are_turned returned t.part.operands ∙ z.1 in
+          rw (a, b, c) (refl, refl)
+
+      return_three : Has sh (flow_of at i.Return t) →
+          Three (flow_of site_open i.Return s) (flow_of at i.Return t) (flow_of by_marks i.Return u)
+      return_three h = return_by (is_closed t && are returned t.part.operands) refl h
+
+      -- ---------------------------------------------------------------- the table
+      -- Where no value lies under a value that a row swaps.
+      pub flow_three : (x : Instruction) → slice_get code n ≡ Some x →
+          (x ≡ i.Swap → (d : Kind) (more : List Kind) → in_row at ≡ true → t.part.operands ≡ d ∷ value ∷ more → ⊥) →
+          shape_at sh n ≡ Some t → Has sh (flow_of at x t) → Three (flow_of site_open x s) (flow_of at x t) (flow_of by_marks x u)
+      flow_three (i.EmitRaw x) at_it never there h = replaces_three 0 0 h
+      flow_three i.Emit at_it never there h = replaces_three 1 0 h
+      flow_three (i.Lookup x) at_it never there h = replaces_three 0 1 h
+      flow_three (i.LoadConst v) at_it never there h = load_three (place_inside code n (i.LoadConst v) at_it) there v h
+      flow_three (i.GetAttr x) at_it never there h = replaces_three 1 1 h
+      flow_three i.GetItem at_it never there h = replaces_three 2 1 h
+      flow_three i.Slice at_it never there h = replaces_three 4 1 h
+      flow_three (i.BuildList c) at_it never there h = replaces_counted_three c h
+      flow_three (i.BuildTuple c) at_it never there h = replaces_three c 1 h
+      flow_three (i.BuildMap c) at_it never there h = replaces_three (c + c) 1 h
+      flow_three (i.BuildKwargs c) at_it never there h = replaces_three (c + c) 1 h
+      flow_three (i.MergeKwargs c) at_it never there h = replaces_three c 1 h
+      flow_three (i.UnpackLists c) at_it never there h = unpack_three c h
+      flow_three i.Eq at_it never there h = replaces_three 2 1 h
+      flow_three i.Ne at_it never there h = replaces_three 2 1 h
+      flow_three i.Lt at_it never there h = replaces_three 2 1 h
+      flow_three i.Lte at_it never there h = replaces_three 2 1 h
+      flow_three i.Gt at_it never there h = replaces_three 2 1 h
+      flow_three i.Gte at_it never there h = replaces_three 2 1 h
+      flow_three i.In at_it never there h = replaces_three 2 1 h
+      flow_three (i.CompareAndPreserve op) at_it never there h = replaces_three 2 2 h
+      flow_three i.Add at_it never there h = add_three js t.part.operands ops h
+      flow_three i.Sub at_it never there h = replaces_three 2 1 h
+      flow_three i.StringConcat at_it never there h = replaces_three 2 1 h
+      flow_three i.Mul at_it never there h = replaces_three 2 1 h
+      flow_three i.Div at_it never there h = replaces_three 2 1 h
+      flow_three i.IntDiv at_it never there h = replaces_three 2 1 h
+      flow_three i.Rem at_it never there h = replaces_three 2 1 h
+      flow_three i.Pow at_it never there h = replaces_three 2 1 h
+      flow_three i.Neg at_it never there h = replaces_three 1 1 h
+      flow_three i.Not at_it never there h = replaces_three 1 1 h
+      flow_three i.IsUndefined at_it never there h = replaces_three 1 1 h
+      flow_three i.Swap at_it never there h = swap_three js t.part.operands ops (never refl) h
+      flow_three i.DupTop at_it never there h = replaces_three 1 2 h
+      flow_three i.DiscardTop at_it never there h = replaces_three 1 0 h
+      flow_three (i.Jump m) at_it never there h = leads_three m js bs t u ops lower (λ _. refl)
+      flow_three (i.JumpIfFalse m) at_it never there h = jump_if_three m h
+      flow_three (i.JumpIfFalseOrPop m) at_it never there h = jump_or_pop_three m h
+      flow_three (i.JumpIfTrueOrPop m) at_it never there h = jump_or_pop_three m h
+      flow_three (i.CallFunction x c) at_it never there h = replaces_counted_three c h
+      flow_three (i.CallMethod x c) at_it never there h = replaces_counted_three c h
+      flow_three (i.CallObject c) at_it never there h = replaces_counted_three c h
+      flow_three (i.ApplyFilter x c cache) at_it never there h = replaces_counted_three c h
+      flow_three (i.PerformTest x c cache) at_it never there h = replaces_counted_three c h
+      flow_three i.FastRecurse at_it never there h = replaces_three 1 0 h
+      flow_three (i.CallBlock b) at_it never there h = replaces_three 0 0 h
+      flow_three i.FastSuper at_it never there h = replaces_three 0 0 h
+      flow_three i.LoadBlocks at_it never there h = replaces_three 1 0 h
+      flow_three (i.Include missing) at_it never there h = replaces_three 1 0 h
+      flow_three i.IncludeModule at_it never there h = replaces_three 1 0 h
+      flow_three i.ExportLocals at_it never there h = replaces_three 1 1 h
+      flow_three (i.StoreLocal x) at_it never there h = replaces_three 1 0 h
+      flow_three (i.Enclose x) at_it never there h = replaces_three 0 0 h
+      flow_three i.GetClosure at_it never there h = closure_three h
+      flow_three (i.BuildMacro x place caller) at_it never there h = macro_three place js t.part.operands ops h
+      flow_three i.Return at_it never there h = return_three h
+      flow_three (i.UnpackList c) at_it never there h = replaces_three 1 c h
+      flow_three (i.SetAttr x) at_it never there h = replaces_three 2 0 h
+      flow_three i.PushWith at_it never there h = on_three (with_frames (scope ∷ t.part.frames) t) refl refl
+      flow_three i.PopFrame at_it never there h = frame_three t.part.frames h
+      flow_three (i.PushLoop flags) at_it never there h = push_loop_three flags.recursive h
+      flow_three (i.Iterate m) at_it never there h = iterate_three m h
+      flow_three i.PushDidNotIterate at_it never there h = did_not_three h
+      flow_three i.PopLoopFrame at_it never there h = pop_loop_three t.part.frames h
+      flow_three (i.BeginCapture mode) at_it never there h = on_three (with_captures (mode ∷ t.part.captures) t) refl refl
+      flow_three i.EndCapture at_it never there h = capture_three t.part.captures h
+      flow_three i.PushAutoEscape at_it never there h = push_escape_three h
+      flow_three i.PopAutoEscape at_it never there h = pop_escape_three t.part.escapes h

@@ -9,3 +9,4 @@ pub mod Cells
 pub mod Numbers
 pub mod Shown
 pub mod Told
+pub mod Sites

@@ -2,13 +2,12 @@
 use Rattle.std.specs.Prelude.{◌≡◌, ℕ, ◌+◌, List, [], ◌∷◌, Option, None, Some, Bool}
 use Rattle.tm_shapes.specs.declared.cells.Cell.{Cell}
 use Rattle.tm_shapes.specs.declared.flow.Flow.{Flow as Made}
-use Rattle.tm_shapes.specs.declared.flow.Site.{Site as Stood}
 use Rattle.tm_shapes.specs.declared.flow.Way.{Way}
 use Rattle.tm_shapes.specs.declared.flow.Way.TheVariants as ways
 use Rattle.tm_shapes.specs.declared.kind.Kind.{Kind}
 use Rattle.tm_shapes.specs.declared.shape.Shape.{Shape as Stacked}
 use Rattle.tm_shapes.specs.Shown.{Shows}
-use Rattle.tm_shapes.specs.Flows.{Flow, Site, builds, builds_after, ends, in_row, leads, both, takes, refused, over_part, pops, with_operands}
+use Rattle.tm_shapes.specs.Flows.{Flow, ends, leads, both, takes, refused, over_part, pops, with_operands}
 use Rattle.tm_shapes.specs.Shapes.{Part, Shape}
 
 -- The topmost operand and what stays without it, or there is none.
@@ -43,14 +42,3 @@ TellsBy cells n (Some p) way f = (g : Flow) × (f ≡ takes p g) × TellsWay cel
 
 abbrev pub Tells : List Cell → ℕ → Made → Flow → Type 0
 Tells cells n made f = TellsBy cells n made.taken made.way f
-
--- Where an instruction stands, as far as a flow asks.
-pub record IsSite (stood : Stood) (at : Site) : Type 0 where
-  pub place : stood.place ≡ at.place
-  pub builds : stood.builds ≡ builds at.rest
-  pub builds_after : stood.builds_after ≡ builds_after at.rest
-  pub in_row : stood.in_row ≡ in_row at
-  pub between : stood.between ≡ at.between
-  pub reading : stood.reading ≡ at.reading
-  pub returned : stood.returned ≡ at.returned
-  pub enters : stood.enters ≡ at.enters

@@ -2,6 +2,7 @@
 use crate::cells::{Cell, Cells, Item, Level};
 use crate::kind::{Frame, Kind, Reading};
 use crate::shape::Shape;
+use crate::site::{Site, is_one, is_zero};
 use std::alloc::AllocError;
 use tm_syntax::{CaptureMode, Instruction, LoopFlags};
 use tm_values::{Node, Value};
@@ -24,27 +25,6 @@ pub(crate) enum Way {
 pub(crate) struct Flow {
     pub(crate) taken: Option<usize>,
     pub(crate) way: Way,
-}
-
-/// Where an instruction stands.
-#[derive(Clone, Copy)]
-pub(crate) struct Site {
-    /// Its place.
-    pub(crate) place: usize,
-    /// Whether a macro is built next.
-    pub(crate) builds: bool,
-    /// Whether one is built after the next instruction, a `LoadConst`.
-    pub(crate) builds_after: bool,
-    /// Whether it is the `Swap` before `LoadConst 1` and `Add`, between which nothing jumps.
-    pub(crate) in_row: bool,
-    /// Whether it is the `LoadConst` of such a row.
-    pub(crate) between: bool,
-    /// As what 0 is read.
-    pub(crate) reading: Reading,
-    /// How many operands a `Return` leaves, if that is asked.
-    pub(crate) returned: Option<usize>,
-    /// Whether the entry of a macro is followed where it is built.
-    pub(crate) enters: bool,
 }
 
 /// It takes no 0 as a group.
@@ -117,19 +97,6 @@ fn name_count(value: &Value) -> Option<usize> {
     }
 }
 
-/// Whether a value is this number.
-fn is_number(value: &Value, number: i128) -> bool {
-    match &value.node {
-        Node::Number(found) => *found == number,
-        _ => false,
-    }
-}
-
-/// Whether a value is 1.
-pub(crate) fn is_one(value: &Value) -> bool {
-    is_number(value, 1)
-}
-
 fn load_names(cells: &mut Cells, shape: Shape, value: &Value) -> Result<Flow, AllocError> {
     match name_count(value) {
         Some(count) => on_with(cells, shape, Kind::Names(count)),
@@ -137,7 +104,7 @@ fn load_names(cells: &mut Cells, shape: Shape, value: &Value) -> Result<Flow, Al
     }
 }
 
-fn load_zero(cells: &mut Cells, at: &Site, shape: Shape) -> Result<Flow, AllocError> {
+fn load_zero(cells: &mut Cells, at: &Site<'_>, shape: Shape) -> Result<Flow, AllocError> {
     match at.reading {
         Reading::Group => on_with(cells, shape, Kind::Group(Some(at.place))),
         Reading::Open if shape.operands() == 0 => on_with(cells, shape, Kind::Zero(at.place)),
@@ -145,20 +112,20 @@ fn load_zero(cells: &mut Cells, at: &Site, shape: Shape) -> Result<Flow, AllocEr
     }
 }
 
-fn load(cells: &mut Cells, at: &Site, shape: Shape, value: &Value) -> Result<Flow, AllocError> {
-    if at.builds {
+fn load(cells: &mut Cells, at: &Site<'_>, shape: Shape, value: &Value) -> Result<Flow, AllocError> {
+    if at.builds() {
         load_names(cells, shape, value)
-    } else if at.between && is_one(value) {
+    } else if at.is_between() && is_one(value) {
         on_with(cells, shape, Kind::One)
-    } else if is_number(value, 0) {
+    } else if is_zero(value) {
         load_zero(cells, at, shape)
     } else {
         valued(Some(shape))
     }
 }
 
-fn get_closure(cells: &mut Cells, at: &Site, shape: Shape) -> Result<Flow, AllocError> {
-    if at.builds_after {
+fn get_closure(cells: &mut Cells, at: &Site<'_>, shape: Shape) -> Result<Flow, AllocError> {
+    if at.builds_after() {
         on_with(cells, shape, Kind::Closure)
     } else {
         valued(Some(shape))
@@ -174,7 +141,7 @@ fn macro_parts(cells: &Cells, shape: Shape) -> Option<(usize, Shape)> {
     }
 }
 
-fn build_macro(cells: &Cells, at: &Site, shape: Shape, place: usize) -> Result<Flow, AllocError> {
+fn build_macro(cells: &Cells, at: &Site<'_>, shape: Shape, place: usize) -> Result<Flow, AllocError> {
     match macro_parts(cells, shape) {
         Some((count, left)) => {
             let next = left.pushed(1)?;
@@ -188,15 +155,15 @@ fn build_macro(cells: &Cells, at: &Site, shape: Shape, place: usize) -> Result<F
     }
 }
 
-fn swap(cells: &mut Cells, at: &Site, shape: Shape) -> Result<Flow, AllocError> {
+fn swap(cells: &mut Cells, at: &Site<'_>, shape: Shape) -> Result<Flow, AllocError> {
     let left = match shape.without(cells, 1) {
         Some(left) => left,
         None => return Ok(plain(Way::Refused)),
     };
     match left.pop(cells) {
-        Some((Kind::Group(origin), left)) if at.in_row => on_with(cells, left, Kind::Opened(origin)),
+        Some((Kind::Group(origin), left)) if at.is_row() => on_with(cells, left, Kind::Opened(origin)),
         Some((Kind::Group(_), _)) => Ok(plain(Way::Refused)),
-        Some((Kind::Zero(place), left)) if at.in_row => Ok(Flow {
+        Some((Kind::Zero(place), left)) if at.is_row() => Ok(Flow {
             taken: Some(place),
             way: Way::On(left.with(cells, Kind::Opened(Some(place)))?),
         }),
@@ -391,7 +358,7 @@ fn pop_escape(shape: Shape) -> Flow {
     }
 }
 
-fn returns(at: &Site, shape: Shape) -> Flow {
+fn returns(at: &Site<'_>, shape: Shape) -> Flow {
     let is_left = match at.returned {
         Some(count) => shape.operands() == count,
         None => true,
@@ -406,7 +373,7 @@ fn returns(at: &Site, shape: Shape) -> Flow {
 /// Where an instruction leads from a shape. AllocError when out of memory.
 pub(crate) fn flow_of(
     cells: &mut Cells,
-    at: &Site,
+    at: &Site<'_>,
     instruction: &Instruction,
     shape: Shape,
 ) -> Result<Flow, AllocError> {

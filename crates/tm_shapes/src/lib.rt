@@ -7,6 +7,7 @@ mod flow;
 mod kind;
 mod rows;
 mod shape;
+mod site;
 
 pub use kind::{Form, Frame, Kind, Reading};
 pub use rows::{end_rows, form_rows, group_rows, loop_rows, placed_rows, shape_rows, way_rows};
