@@ -11,7 +11,8 @@ use Rattle.tm_syntax.specs.declared.instruction.CaptureMode.{CaptureMode}
 use Rattle.tm_syntax.specs.declared.instruction.CaptureMode.TheVariants.{Capture, Discard}
 use Rattle.tm_syntax.specs.Named.{same_name}
 use Rattle.tm_shapes.specs.declared.kind.Kind.{Kind}
-use Rattle.tm_shapes.specs.declared.kind.Kind.TheVariants.{Value as value, Zero as nothing, Group as group, Closure as closure, Names as names, Opened as opened, One as one}
+use Rattle.tm_shapes.specs.declared.kind.Kind.TheVariants.{Value as value, Zero as nothing, Group as group, Closure as closure, Names as names}
+use Rattle.tm_shapes.specs.declared.kind.Kind.TheVariants.{Opened as opened, One as one}
 use Rattle.tm_shapes.specs.declared.kind.Form.{Form}
 use Rattle.tm_shapes.specs.declared.kind.Form.TheVariants as forms
 use Rattle.tm_shapes.specs.declared.kind.Frame.{Frame}
@@ -22,9 +23,10 @@ use Rattle.tm_shapes.specs.Flows.{Flow, refused, ends, leads, both, takes, are, 
 use Rattle.tm_shapes.specs.Shaped.{Meets, HasCache, UsesCache, IsShaped}
 use Rattle.tm_shapes.specs.Search.{Found, Has, search}
 use Rattle.tm_shapes.specs.Placed.{Numbered, agrees, caches_fit, filter_of, filters_in, is_placed, parts_fit, targets_within, test_of, tests_in}
-use Rattle.tm_shapes.specs.Accepts.{Asked, Fits, MeetsRules, Readings, Seeds, accepts, all_seeds, all_values, ask_all, ask_some, entry_seeds, start_seed, begun, ends_with, fits, found, groups_in}
-use Rattle.tm_shapes.specs.Accepts.{no_shapes, nothing_found, read_groups, reaching, returns_fit, ReturnsFit, HasSome, same_frames, same_kind, same_kinds}
-use Rattle.tm_shapes.specs.Accepts.{same_mode, same_modes, same_part, same_parts, same_place, same_shape, site_of}
+use Rattle.tm_shapes.specs.Accepts.{Asked, Fits, HasSome, MeetsRules, Readings, ReturnsFit, Seeds, accepts, all_seeds, all_values, ask_all, ask_some}
+use Rattle.tm_shapes.specs.Accepts.{begun, ends_with, entry_seeds, fits, found, groups_in, no_shapes, nothing_found, read_groups, reaching}
+use Rattle.tm_shapes.specs.Accepts.{same_frames, same_kind, same_kinds, same_mode, same_modes, same_part, same_parts, same_place, same_shape, site_of}
+use Rattle.tm_shapes.specs.Accepts.{returns_fit, start_seed}
 use Rattle.tm_safety.proofs.Readings.{to_there}
 use Rattle.tm_safety.proofs.Entered.{entry_begins}
 use Rattle.tm_safety.proofs.Finds as finds
@@ -245,6 +247,11 @@ found_is : (o : Option Shapes) → is_some o ≡ true → (out : Shapes) × (o �
 found_is None e = absurd (cc e)
 found_is (Some out) e = (out, refl)
 
+then_some : (o : Option Found) (f : Found) (on : Found → Option Shapes) (out : Shapes) → o ≡ Some f → on f ≡ Some out →
+    is_some (option_and_then on o) ≡ true
+then_some None f on out e h = absurd (cc e)
+then_some (Some g) f on out e h = let one : g ≡ f = cc e in some_is (on g) out (ap on one ∙ h)
+
 first_is : (o : Option Found) (on : Found → Option Shapes) (out : Shapes) → option_and_then on o ≡ Some out →
     (f : Found) × (o ≡ Some f) × (on f ≡ Some out)
 first_is None on out e = absurd (cc e)
@@ -428,10 +435,8 @@ module _ (a : Asked) (code : List Instruction) where
         let going = all.2 in
         let out = finds.search_goes same_shape shape_is is_shape code (site_of a code) (ends_with a.left) d all_fit (length (no_shapes code))
         all.0.work all.0.shapes (omega (arith, going.enough)) going.long going.met going.agrees in
-        let one_found : found a code seeds ≡ Some out.0 =
-        ap (option_and_then (λ (f : Found). search same_shape code (site_of a code) (ends_with a.left) (length (no_shapes code)) f.work f.shapes))
-        all.1 ∙ out.1 in
-        some_is (found a code seeds) out.0 one_found
+        then_some (begun a code seeds (nothing_found code)) all.0
+        (λ (f : Found). search same_shape code (site_of a code) (ends_with a.left) (length (no_shapes code)) f.work f.shapes) out.0 all.1 out.1
 
 -- ---------------------------------------------------------------- what is accepted
 uses : (code : List Instruction) → is_placed code ≡ true → (n : ℕ) (x : Instruction) → slice_get code n ≡ Some x →

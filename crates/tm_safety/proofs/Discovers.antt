@@ -1,7 +1,7 @@
 -- Where shapes fit with each 0 read as a value or a group, shapes are found with each 0 read as it is taken.
 use Rattle.std.proofs.Common.{◌≡◌, ◌⊎◌, inl, inr, ℕ, zero, suc, ◌+◌, ◌≤◌, List, [], ◌∷◌, length, Option, Some, None, Bool, true, false}
 use Rattle.std.proofs.Common.{refl, sym, ap, ◌∙◌, subst, arith}
-use Rattle.std.specs.Prelude.{slice_get, slice_set, option_and_then, is_some, drop, ◌&&◌, ◌||◌}
+use Rattle.std.specs.Prelude.{slice_get, slice_set, option_and_then, is_some, drop, ◌||◌}
 use Rattle.tm_syntax.specs.declared.instruction.Instruction.{Instruction}
 use Rattle.tm_syntax.specs.declared.instruction.Instruction.TheVariants as i
 use Rattle.tm_shapes.specs.declared.kind.Kind.{Kind}
@@ -9,12 +9,12 @@ use Rattle.tm_shapes.specs.declared.kind.Kind.TheVariants.{Value as value}
 use Rattle.tm_shapes.specs.declared.kind.Form.{Form}
 use Rattle.tm_shapes.specs.declared.kind.Form.TheVariants as forms
 use Rattle.tm_shapes.specs.declared.kind.Reading.TheVariants as readings
-use Rattle.tm_shapes.specs.Shapes.{Part, Shape, Shapes, shape_at, entry_shape, itself, pushed}
-use Rattle.tm_shapes.specs.Flows.{Flow, refused, ends, leads, both, takes, Site, are, flow_of, in_row, is_closed}
+use Rattle.tm_shapes.specs.Shapes.{Part, Shape, Shapes, shape_at, entry_shape, itself}
+use Rattle.tm_shapes.specs.Flows.{Flow, refused, ends, leads, both, takes, are, flow_of, in_row, is_closed}
 use Rattle.tm_shapes.specs.Placed.{is_entered}
 use Rattle.tm_shapes.specs.Search.{Has, Seen, put_shape}
 use Rattle.tm_shapes.specs.Search as finder
-use Rattle.tm_shapes.specs.Accepts.{Asked, Fits, Readings, Seeds, all_seeds, ask, ask_all, ask_openly, ends_with, entry_seed, entry_seeds_from, entry_seeds}
+use Rattle.tm_shapes.specs.Accepts.{Asked, Fits, Readings, Seeds, all_seeds, ask, ask_all, ask_openly, ends_with, entry_seed, entry_seeds_from}
 use Rattle.tm_shapes.specs.Accepts.{found, groups_in, is_between, left_by, no_groups, no_shapes, noted, read_groups, site_of}
 use Rattle.tm_safety.proofs.Accepted.{both_true, is_found, no_shape_at}
 use Rattle.tm_safety.proofs.Finds.{Among, Grows, HasShape, put_there, put_is, put_grows, unmet, put_open, put_long, past, within}
@@ -550,7 +550,8 @@ module _ (code : List Instruction) where
   abbrev nothing_seen : Seen
   nothing_seen = record { shapes = no_shapes code; work = []; groups = no_groups code }
 
-  discovered : (read : Readings) (form : Form) (returned : Option ℕ) (sh : Shapes) → ((n : ℕ) → (read n ≡ readings.Value) ⊎ (read n ≡ readings.Group)) →
+  discovered : (read : Readings) (form : Form) (returned : Option ℕ) (sh : Shapes) →
+      ((n : ℕ) → (read n ≡ readings.Value) ⊎ (read n ≡ readings.Group)) →
       ((n : ℕ) (t : Shape) → read n ≡ readings.Group → shape_at sh n ≡ Some t → t.part.operands ≡ []) →
       ((n : ℕ) (t : Shape) (k : Kind) (ks : List Kind) → slice_get code n ≡ Some i.Swap →
       in_row (site_of (ask read returned true form) code n) ≡ true → shape_at sh n ≡ Some t → t.part.operands ≡ k ∷ value ∷ ks → ⊥) →

@@ -31,14 +31,14 @@ one_on n m s t A (inr h) = inr h
 -- a new shape stands at its place alone
 pub put_is : (sh : Shapes) (n m : ℕ) (s t : Shape) → slice_get sh n ≡ Some None → shape_at (put_shape n s sh) m ≡ Some t →
     ((m ≡ n) × (t ≡ s)) ⊎ (shape_at sh m ≡ Some t)
-put_is [] n m s t e h = absurd (cc e)
+put_is [] n m s t e h = absurd (cc h)
 put_is (o ∷ sh) zero zero s t e h = inl (refl, sym (cc h))
 put_is (o ∷ sh) zero (suc m) s t e h = inr h
 put_is (o ∷ sh) (suc n) zero s t e h = inr h
 put_is (o ∷ sh) (suc n) (suc m) s t e h = one_on n m s t (shape_at sh m ≡ Some t) (put_is sh n m s t e h)
 
 pub put_grows : (sh : Shapes) (n : ℕ) (s : Shape) → slice_get sh n ≡ Some None → Grows sh (put_shape n s sh)
-put_grows [] n s e m t h = absurd (cc e)
+put_grows [] n s e m t h = absurd (cc h)
 put_grows (o ∷ sh) zero s e zero t h = absurd (let x : o ≡ None = cc e in cc (sym h ∙ ap itself x))
 put_grows (o ∷ sh) zero s e (suc m) t h = h
 put_grows (o ∷ sh) (suc n) s e zero t h = h
@@ -329,8 +329,8 @@ module _ (same : Shape → Shape → Bool) (same_is : (s t : Shape) → same s t
     agrees_by n s f here a m t (inl h) = ap (shape_at d) h.0 ∙ here ∙ ap (λ x. Some x) (sym h.1)
     agrees_by n s f here a m t (inr h) = a m t h
 
-    both_goes : (x y : Flow) (f : Found) (o : Option Found) → follow x f ≡ o → Went o → ((g : Found) → follow x f ≡ Some g → Agrees g → Went (follow y g)) →
-        Went (option_and_then (follow y) o)
+    both_goes : (x y : Flow) (f : Found) (o : Option Found) → follow x f ≡ o → Went o →
+        ((g : Found) → follow x f ≡ Some g → Agrees g → Went (follow y g)) → Went (option_and_then (follow y) o)
     both_goes x y f None e h k = absurd h
     both_goes x y f (Some g) e h k = k g e h
 

@@ -36,15 +36,16 @@ use Rattle.tm_meaning.specs.Instructions.{apply_of, take_counted, on_truth, iter
 use Rattle.tm_meaning.specs.Instructions.{with_filters, with_tests, is_heard, awaiting, on_loop as on_top_loop, replacing}
 use Rattle.tm_meaning.specs.Steps.{effect, pay, act, step, closed, finish, parent_next, Final, final, Leads, over, more, restart, nest, begun as run_begun, begins}
 use Rattle.tm_shapes.specs.declared.kind.Kind.{Kind}
-use Rattle.tm_shapes.specs.declared.kind.Kind.TheVariants.{Value as value, Zero as nothing, Group as group, Closure as closure, Names as names, Opened as opened, One as one}
+use Rattle.tm_shapes.specs.declared.kind.Kind.TheVariants.{Value as value, Zero as nothing, Group as group, Closure as closure, Names as names}
+use Rattle.tm_shapes.specs.declared.kind.Kind.TheVariants.{Opened as opened, One as one}
 use Rattle.tm_shapes.specs.declared.kind.Frame.{Frame}
 use Rattle.tm_shapes.specs.declared.kind.Frame.TheVariants.{Scope as scope, Loop as loop}
 use Rattle.tm_shapes.specs.declared.kind.Reading.{Reading}
 use Rattle.tm_shapes.specs.declared.kind.Reading.TheVariants as readings
 use Rattle.tm_shapes.specs.Shapes.{Part, Shape, Shapes, entry_shape}
 use Rattle.tm_shapes.specs.Flows.{Flow, refused, ends, leads, both, takes, Site, flow_of, pop, pops, replaces, replaces_counted, with_operands, next}
-use Rattle.tm_shapes.specs.Flows.{add, build_macro, builds, builds_after, in_row, is_one, is_zero as is_nought, load_names, load_on, load_zero, on_loop, pop_loop}
-use Rattle.tm_shapes.specs.Flows.{swap_over, zero_of}
+use Rattle.tm_shapes.specs.Flows.{add, build_macro, builds, builds_after, in_row, is_one, is_zero as is_nought, load_names, load_on, load_zero}
+use Rattle.tm_shapes.specs.Flows.{on_loop, pop_loop, swap_over, zero_of}
 use Rattle.tm_shapes.specs.Shaped.{ReadsTo, Meets, IsShaped, HasCache, UsesCache}
 use Rattle.tm_safety.specs.Fits.{Match, ids_of, Ground, AllEnter, Stand}
 use Rattle.tm_safety.proofs.Comes.{Calm, calm_same, callee_stream, Comes, named_comes, callee_comes, applied_comes, innermost_comes, block_comes, super_comes}

@@ -18,7 +18,7 @@ use Rattle.tm_shapes.specs.declared.kind.Reading.{Reading}
 use Rattle.tm_shapes.specs.declared.kind.Reading.TheVariants as readings
 use Rattle.tm_shapes.specs.Shapes.{Part, Shape, Shapes, shape_at, pushed, entry_shape}
 use Rattle.tm_shapes.specs.Flows.{Flow, refused, ends, leads, both, takes, Site, is_value, pop, pops, pop_group, pop_counted, with_operands, next, on}
-use Rattle.tm_shapes.specs.Flows.{is_zero, is_one, builds, builds_after, zero_of, load_names, in_row, swap_over, swap_group, swap_zero, add, build_macro}
+use Rattle.tm_shapes.specs.Flows.{is_zero, is_one, builds, builds_after, zero_of, load_names, in_row, swap_over, swap_group, add, build_macro}
 use Rattle.tm_shapes.specs.Flows.{with_frames, with_captures, with_escapes, pop_frame, loop_begun, in_part, on_loop, over_part, pop_part, pop_loop}
 use Rattle.tm_shapes.specs.Flows.{end_capture, pop_escape, is_closed, are, flow_of, load_on, load_value, load_zero, replaces, replaces_counted, load}
 use Rattle.tm_shapes.specs.Search.{Has}
@@ -657,7 +657,8 @@ module _ (code : List Instruction) (read : Readings) (sh : Shapes) (marks : List
           (λ _. ap (λ m. with_frames (loop m (length t.part.captures) t.part.escapes ∷ t.part.frames) (with_operands (turns ds) u)) (turned_long ds)))
 
       push_loop_three : (b : Bool) → Has sh (pop t.part.operands (λ ks. on at (loop_begun b (with_operands ks t)))) →
-          Three (pop js (λ ks. on site_open (loop_begun b (with_operands ks s)))) (pop t.part.operands (λ ks. on at (loop_begun b (with_operands ks t))))
+          Three (pop js (λ ks. on site_open (loop_begun b (with_operands ks s))))
+          (pop t.part.operands (λ ks. on at (loop_begun b (with_operands ks t))))
           (pop (turns t.part.operands) (λ ks. on by_marks (loop_begun b (with_operands ks u))))
       push_loop_three b h =
           pop_three (λ ks. on site_open (loop_begun b (with_operands ks s))) (λ ks. on at (loop_begun b (with_operands ks t)))

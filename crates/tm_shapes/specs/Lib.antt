@@ -10,3 +10,5 @@ pub mod Numbers
 pub mod Shown
 pub mod Told
 pub mod Sites
+pub mod Marks
+pub mod Searched

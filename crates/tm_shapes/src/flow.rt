@@ -8,6 +8,7 @@ use tm_syntax::{CaptureMode, Instruction, LoopFlags};
 use tm_values::{Node, Value};
 
 /// Where an instruction leads.
+#[derive(Clone, Copy)]
 pub(crate) enum Way {
     /// It lacks what it takes or closes.
     Refused,
@@ -22,6 +23,7 @@ pub(crate) enum Way {
 }
 
 /// Where an instruction leads, and of which place the 0 is taken as a group for that.
+#[derive(Clone, Copy)]
 pub(crate) struct Flow {
     pub(crate) taken: Option<usize>,
     pub(crate) way: Way,
@@ -82,7 +84,7 @@ fn on_with(cells: &mut Cells, shape: Shape, kind: Kind) -> Result<Flow, AllocErr
 }
 
 /// How many names a literal list of texts has.
-fn name_count(value: &Value) -> Option<usize> {
+pub(crate) fn name_count(value: &Value) -> Option<usize> {
     match &value.node {
         Node::List(items, _) => {
             for item in items.as_slice() {

@@ -5,7 +5,11 @@
 mod cells;
 mod flow;
 mod kind;
+mod pile;
+mod placed;
+mod refusal;
 mod rows;
+mod search;
 mod shape;
 mod site;
 

@@ -1,0 +1,87 @@
+-- The search as it stands in memory.
+use Rattle.std.specs.Prelude.{◌≡◌, ℕ, List, [], ◌∷◌, length, Option, None, Some, Bool, Result, Ok, Err}
+use Rattle.tm_syntax.specs.declared.instruction.Instruction.{Instruction}
+use Rattle.tm_shapes.specs.Accepts.{Asked, Seeds, ends_with, read_by, read_groups, site_of, same_shape}
+use Rattle.tm_shapes.specs.Cells.{AllOnce}
+use Rattle.tm_shapes.specs.Flows.{Flow}
+use Rattle.tm_shapes.specs.Search.{Found, Seen, follow, glance, look, note, reach, trace}
+use Rattle.tm_shapes.specs.Shapes.{Shape, Shapes, entry_shape}
+use Rattle.tm_shapes.specs.Shown.{Shows}
+use Rattle.tm_shapes.specs.declared.cells.Cell.{Cell}
+use Rattle.tm_shapes.specs.declared.kind.Reading.{Reading}
+use Rattle.tm_shapes.specs.declared.kind.Reading.TheVariants as readings
+use Rattle.tm_shapes.specs.declared.refusal.Refusal.{Refusal}
+use Rattle.tm_shapes.specs.declared.refusal.Refusal.TheVariants as refusals
+use Rattle.tm_shapes.specs.declared.search.Asked.{Asked as Question}
+use Rattle.tm_shapes.specs.declared.search.Found.{Found as Finding}
+use Rattle.tm_shapes.specs.declared.search.Readings.{Readings}
+use Rattle.tm_shapes.specs.declared.search.Readings.TheVariants as read
+use Rattle.tm_shapes.specs.declared.search.Seed.{Seed}
+use Rattle.tm_shapes.specs.declared.search.Seen.{Seen as Seeing}
+use Rattle.tm_shapes.specs.declared.shape.Shape.{Shape as Stacked}
+
+-- ---------------------------------------------------------------- what is asked
+abbrev pub reading_of : Readings → ℕ → Reading
+reading_of read.Values n = readings.Value
+reading_of (read.Groups marks) n = read_groups marks.now n
+reading_of read.Open n = readings.Open
+
+-- A search in memory asks the same.
+pub record IsAsked (question : Question) (a : Asked) : Type 0 where
+  pub read : (n : ℕ) → reading_of question.read n ≡ a.read n
+  pub returned : question.returned ≡ a.returned
+  pub left : question.left ≡ a.left
+  pub enters : question.enters ≡ a.enters
+
+abbrev pub seeds_of : List Seed → Seeds
+seeds_of [] = []
+seeds_of (e ∷ es) = (e.place, entry_shape e.values) ∷ seeds_of es
+
+-- ---------------------------------------------------------------- what is found
+-- Shapes by their stacks, where there are any.
+abbrev pub AllShown : List Cell → List (Option Stacked) → Shapes → Type 0
+AllShown cells [] [] = Unit {0}
+AllShown cells [] (o ∷ sh) = ⊥
+AllShown cells (o ∷ ms) [] = ⊥
+AllShown cells (None ∷ ms) (None ∷ sh) = AllShown cells ms sh
+AllShown cells (None ∷ ms) (Some s ∷ sh) = ⊥
+AllShown cells (Some m ∷ ms) (None ∷ sh) = ⊥
+AllShown cells (Some m ∷ ms) (Some s ∷ sh) = Shows cells m s × AllShown cells ms sh
+
+pub record IsFound (made : Finding) (f : Found) : Type 0 where
+  pub shapes : AllShown made.cells made.shapes.items f.shapes
+  pub work : made.work ≡ f.work
+
+pub record IsSeen (made : Seeing) (f : Seen) : Type 0 where
+  pub shapes : AllShown made.cells made.shapes.items f.shapes
+  pub work : made.work ≡ f.work
+  pub groups : made.groups.items ≡ f.groups
+
+abbrev pub unshaped : {A : Type 0} → List A → List (Option Stacked)
+unshaped [] = None ∷ []
+unshaped (x ∷ xs) = None ∷ unshaped xs
+
+-- It is what is found, or nothing is; of what memory lacks nothing is said.
+abbrev pub Comes : {A : Type 0} → Finding → Option Found → Result A Refusal → Type 0
+Comes new o (Ok x) = (g : Found) × (o ≡ Some g) × IsFound new g
+Comes new o (Err refusals.BadStream) = o ≡ None
+Comes new o (Err refusals.OutOfMemory) = Unit {0}
+
+-- ---------------------------------------------------------------- steps
+abbrev pub reach_of : Asked → List Instruction → ℕ → Shape → Found → Option Found
+reach_of a code n s f = reach same_shape code (site_of a code) (ends_with a.left) n s f
+
+abbrev pub follow_of : Asked → List Instruction → Flow → Found → Option Found
+follow_of a code x f = follow same_shape code (site_of a code) (ends_with a.left) x f
+
+abbrev pub look_of : Asked → List Instruction → ℕ → Found → Option Found
+look_of a code n f = look same_shape code (site_of a code) (ends_with a.left) n f
+
+abbrev pub note_of : Asked → List Instruction → ℕ → Shape → Seen → Seen
+note_of a code n s f = note code (site_of a code) n s f
+
+abbrev pub trace_of : Asked → List Instruction → Flow → Seen → Seen
+trace_of a code x f = trace code (site_of a code) x f
+
+abbrev pub glance_of : Asked → List Instruction → ℕ → Seen → Seen
+glance_of a code n f = glance code (site_of a code) n f

@@ -1,0 +1,304 @@
+//! The search for shapes.
+ghost use Rattle.std.specs.Prelude.{◌≡◌, ◌≤◌, ◌<◌, ◌^◌, ◌-◌, IfErr, IfOk, List, OnOk, false, is_some, length, true};
+ghost use Rattle.tm_shapes.specs.Accepts.{Asked as Question, all_seeds, found, groups_in, site_of};
+ghost use Rattle.tm_shapes.specs.Flows.{Flow as Led};
+ghost use Rattle.tm_shapes.specs.Marks.{AreMarks};
+ghost use Rattle.tm_shapes.specs.Searched.{Comes, IsAsked, IsFound, IsSeen, follow_of, glance_of, look_of, note_of};
+ghost use Rattle.tm_shapes.specs.Searched.{reach_of, reading_of, seeds_of, trace_of, unshaped};
+ghost use Rattle.tm_shapes.specs.Search.{Found as Finding, Seen as Seeing};
+ghost use Rattle.tm_shapes.specs.Shapes.{Shape as Spec};
+ghost use Rattle.tm_shapes.specs.Shown.{Shows};
+ghost use Rattle.tm_shapes.specs.Sites.{IsSite};
+ghost use Rattle.tm_shapes.specs.Told.{Tells, TellsWay};
+ghost use Rattle.tm_shapes.specs.declared.refusal.Refusal.TheVariants.{BadStream};
+ghost use Rattle.tm_syntax.specs.declared.instruction.Instruction.{Instruction};
+
+use crate::cells::Cells;
+use crate::flow::{Flow, Way, flow_of};
+use crate::kind::Reading;
+use crate::pile::Pile;
+use crate::placed::no_marks;
+use crate::refusal::Refusal;
+use crate::shape::Shape;
+use crate::site::{Site, is_marked};
+use std::alloc::{AllocError, Global};
+use tm_syntax::Instruction;
+
+/// A stream, and whether a jump or a macro's entry leads to a place, for each of its places and its end.
+#[derive(Clone, Copy)]
+pub(crate) struct Stream<'a> {
+    pub(crate) code: &'a [Instruction],
+    pub(crate) entered: &'a [bool],
+}
+
+/// As what the 0 of each place is read.
+#[derive(Clone, Copy)]
+pub(crate) enum Readings<'a> {
+    /// Each as a value.
+    Values,
+    /// Those of marked places as groups.
+    Groups(&'a [bool]),
+    /// Each as either.
+    Open,
+}
+
+/// How a search reads each 0, how many operands a `Return` leaves if that is asked, and how many the end; and whether it follows
+/// the entries of macros.
+#[derive(Clone, Copy)]
+pub(crate) struct Asked<'a> {
+    pub(crate) read: Readings<'a>,
+    pub(crate) returned: Option<usize>,
+    pub(crate) left: usize,
+    pub(crate) enters: bool,
+}
+
+/// Where a run begins: a place, and over how many values.
+#[derive(Clone, Copy)]
+pub(crate) struct Seed {
+    pub(crate) place: usize,
+    pub(crate) values: usize,
+}
+
+impl<'a> Readings<'a> {
+    /// As what the 0 of a place is read.
+    fn of(&self, place: usize) -> Reading
+        ensures { result ≡ reading_of self.now place }
+    {
+        match self {
+            Readings::Values => Reading::Value,
+            Readings::Groups(marks) if is_marked(marks, place) => Reading::Group,
+            Readings::Groups(_) => Reading::Value,
+            Readings::Open => Reading::Open,
+        }
+    }
+}
+
+impl<'a> Stream<'a> {
+    /// Where the instruction at a place stands.
+    fn site(&self, asked: &Asked<'_>, place: usize) -> Site<'a>
+        requires { place < length self.now.code.now }
+        ensures { (question : Question) → AreMarks self.now.code.now self.now.entered.now →
+            IsAsked asked.now question → IsSite result (site_of question self.now.code.now place) }
+    {
+        let (before, from) = self.code.split_at(place);
+        let is_after_swap = match before.last() {
+            Some(Instruction::Swap) => true,
+            _ => false,
+        };
+        Site {
+            place,
+            rest: &from[1..],
+            entered: &self.entered[place..],
+            is_after_swap,
+            reading: asked.read.of(place),
+            returned: asked.returned,
+            enters: asked.enters,
+        }
+    }
+}
+
+/// No shape for each place, and for the end. AllocError when out of memory.
+fn no_shapes(alloc: Global, code: &[Instruction]) -> Result<Vec<Option<Shape>>, AllocError>
+    ensures { IfOk result (λ shapes. shapes.items ≡ unshaped code.now) }
+{
+    let mut shapes = Vec::new(alloc);
+    shapes.push(None)?;
+    for _instruction in code {
+        shapes.push(None)?;
+    }
+    Ok(shapes)
+}
+
+/// The shapes so far, and the places that are still to be looked at.
+#[derive(Drop)]
+struct Found {
+    cells: Cells,
+    shapes: Vec<Option<Shape>>,
+    work: Pile,
+}
+
+impl Found {
+    /// A place is reached in a shape: refused past the end, and where it has another.
+    fn reach(&mut self, place: usize, shape: Shape) -> Result<(), Refusal>
+        ensures { (question : Question) (code : List Instruction) (f : Finding) (s : Spec) → IsFound self.old f →
+            Shows self.old.cells shape s → Comes self.new (reach_of question code place s f) result }
+    {
+        match self.shapes.get(place) {
+            None => Err(Refusal::BadStream),
+            Some(Some(known)) if known.is_same(&shape) => Ok(()),
+            Some(Some(_)) => Err(Refusal::BadStream),
+            Some(None) => {
+                self.work.push(place)?;
+                self.shapes[place] = Some(shape);
+                Ok(())
+            }
+        }
+    }
+
+    /// What an instruction at a place leads to is reached.
+    fn follow(&mut self, place: usize, way: Way) -> Result<(), Refusal>
+        requires { place < 2 ^ 64 - 1 }
+        ensures { (question : Question) (code : List Instruction) (f : Finding) (x : Led) → IsFound self.old f →
+            TellsWay self.old.cells place way x → Comes self.new (follow_of question code x f) result }
+    {
+        match way {
+            Way::Refused => Err(Refusal::BadStream),
+            Way::Ends => Ok(()),
+            Way::On(shape) => self.reach(place + 1, shape),
+            Way::To(target, shape) => self.reach(target, shape),
+            Way::Either(next, target, shape) => {
+                self.reach(place + 1, next)?;
+                self.reach(target, shape)
+            }
+        }
+    }
+
+    /// A place is looked at.
+    fn look(&mut self, stream: Stream<'_>, asked: &Asked<'_>, place: usize) -> Result<(), Refusal>
+        ensures { (question : Question) (f : Finding) → AreMarks stream.code.now stream.entered.now →
+            length stream.code.now ≤ length stream.entered.now → IsAsked asked.now question →
+            IsFound self.old f → Comes self.new (look_of question stream.code.now place f) result }
+    {
+        let shape = match self.shapes.get(place) {
+            Some(Some(shape)) => *shape,
+            _ => return Err(Refusal::BadStream),
+        };
+        match stream.code.get(place) {
+            Some(instruction) => {
+                let site = stream.site(asked, place);
+                let flow = flow_of(&mut self.cells, &site, instruction, shape)?;
+                self.follow(place, flow.way)
+            }
+            None if place == stream.code.len()
+                && shape.is_closed()
+                && shape.operands() == asked.left =>
+            {
+                Ok(())
+            }
+            None => Err(Refusal::BadStream),
+        }
+    }
+}
+
+/// Whether shapes are found for all that these seeds lead to. BadStream where there are none, OutOfMemory when out of memory.
+pub(crate) fn search(
+    alloc: Global,
+    stream: Stream<'_>,
+    asked: &Asked<'_>,
+    seeds: &[Seed],
+) -> Result<(), Refusal>
+    requires marks { AreMarks stream.code.now stream.entered.now }
+    requires long { length stream.code.now ≤ length stream.entered.now }
+    ensures found { OnOk result ((question : Question) → IsAsked asked.now question →
+        is_some (found question stream.code.now (seeds_of seeds.now)) ≡ true) }
+    ensures none { IfErr result (λ e. e ≡ BadStream → (question : Question) → IsAsked asked.now question →
+        is_some (found question stream.code.now (seeds_of seeds.now)) ≡ false) }
+{
+    let mut found = Found {
+        cells: Cells::new(alloc),
+        shapes: no_shapes(alloc, stream.code)?,
+        work: Pile::new(alloc),
+    };
+    for seed in seeds {
+        found.reach(seed.place, Shape::over(seed.values))?;
+    }
+    while let Some(place) = found.work.pop() {
+        found.look(stream, asked, place)?;
+    }
+    Ok(())
+}
+
+/// The places that were met so far, those of them that are still to be looked at, and of which the 0 is taken as a group.
+#[derive(Drop)]
+struct Seen {
+    cells: Cells,
+    shapes: Vec<Option<Shape>>,
+    work: Pile,
+    groups: Vec<bool>,
+}
+
+impl Seen {
+    /// A place keeps the first shape in which it is met, and none lies past the end.
+    fn note(&mut self, place: usize, shape: Shape) -> Result<(), AllocError>
+        ensures { OnOk result ((question : Question) (code : List Instruction) (f : Seeing) (s : Spec) → IsSeen self.old f →
+            Shows self.old.cells shape s → IsSeen self.new (note_of question code place s f)) }
+    {
+        if let Some(None) = self.shapes.get(place) {
+            self.work.push(place)?;
+            self.shapes[place] = Some(shape);
+        }
+        Ok(())
+    }
+
+    /// What an instruction at a place leads to is noted.
+    fn trace(&mut self, place: usize, flow: Flow) -> Result<(), AllocError>
+        requires { place < 2 ^ 64 - 1 }
+        ensures { OnOk result ((question : Question) (code : List Instruction) (f : Seeing) (x : Led) → IsSeen self.old f →
+            Tells self.old.cells place flow x → IsSeen self.new (trace_of question code x f)) }
+    {
+        if let Some(taken) = flow.taken {
+            if let Some(mark) = self.groups.get_mut(taken) {
+                *mark = true;
+            }
+        }
+        match flow.way {
+            Way::Refused => Ok(()),
+            Way::Ends => Ok(()),
+            Way::On(shape) => self.note(place + 1, shape),
+            Way::To(target, shape) => self.note(target, shape),
+            Way::Either(next, target, shape) => {
+                self.note(place + 1, next)?;
+                self.note(target, shape)
+            }
+        }
+    }
+
+    /// A place is looked at.
+    fn glance(&mut self, stream: Stream<'_>, asked: &Asked<'_>, place: usize) -> Result<(), AllocError>
+        ensures { OnOk result ((question : Question) (f : Seeing) → AreMarks stream.code.now stream.entered.now →
+            length stream.code.now ≤ length stream.entered.now → IsAsked asked.now question →
+            IsSeen self.old f → IsSeen self.new (glance_of question stream.code.now place f)) }
+    {
+        if let (Some(instruction), Some(Some(shape))) =
+            (stream.code.get(place), self.shapes.get(place))
+        {
+            let shape = *shape;
+            let site = stream.site(asked, place);
+            let flow = flow_of(&mut self.cells, &site, instruction, shape)?;
+            self.trace(place, flow)?;
+        }
+        Ok(())
+    }
+}
+
+/// The places whose 0 is taken as a group, where each place has the first shape in which it is met. AllocError when out of memory.
+pub(crate) fn groups_in(
+    alloc: Global,
+    stream: Stream<'_>,
+    seeds: &[Seed],
+) -> Result<Vec<bool>, AllocError>
+    requires marks { AreMarks stream.code.now stream.entered.now }
+    requires long { length stream.code.now ≤ length stream.entered.now }
+    ensures { IfOk result (λ groups. seeds_of seeds.now ≡ all_seeds stream.code.now →
+        groups.items ≡ groups_in stream.code.now) }
+{
+    let asked = Asked {
+        read: Readings::Open,
+        returned: None,
+        left: 1,
+        enters: true,
+    };
+    let mut seen = Seen {
+        cells: Cells::new(alloc),
+        shapes: no_shapes(alloc, stream.code)?,
+        work: Pile::new(alloc),
+        groups: no_marks(alloc, stream.code.len())?,
+    };
+    for seed in seeds {
+        seen.note(seed.place, Shape::over(seed.values))?;
+    }
+    while let Some(place) = seen.work.pop() {
+        seen.glance(stream, &asked, place)?;
+    }
+    Ok(seen.groups)
+}
