@@ -44,6 +44,7 @@ abbrev pub is_plain : Instruction → Bool
 is_plain i.Swap = false
 is_plain i.GetClosure = false
 is_plain (i.BuildMacro x n caller) = false
+is_plain i.Return = false
 is_plain (i.Jump n) = false
 is_plain (i.JumpIfFalse n) = false
 is_plain (i.JumpIfFalseOrPop n) = false
@@ -54,6 +55,16 @@ is_plain x = true
 abbrev pub all_plain : List Instruction → Bool
 all_plain [] = true
 all_plain (x ∷ is) = is_plain x && all_plain is
+
+-- one that neither builds a macro nor ends one
+abbrev pub is_bare : Instruction → Bool
+is_bare (i.BuildMacro x n caller) = false
+is_bare i.Return = false
+is_bare x = true
+
+abbrev pub AllBare : List Instruction → Type 0
+AllBare [] = Unit {0}
+AllBare (x ∷ is) = (is_bare x ≡ true) × AllBare is
 
 abbrev pub GoodChunk : Chunk → Type 0
 GoodChunk (alone x) = is_alone x ≡ true
@@ -114,17 +125,20 @@ abbrev pub AllLeadOn : List Instruction → Type 0
 AllLeadOn [] = Unit {0}
 AllLeadOn (x ∷ is) = (target x ≡ None) × AllLeadOn is
 
--- Straight instructions are of chunks, and lead nowhere else.
+-- Straight instructions are of chunks, lead nowhere else, and are of no macro; and macros are declared only where they may be.
+abbrev pub TidyBy : Bool → Fragment → Type 0
+TidyBy macros (straight is) = Chunked is (pieces_of is) × AllLeadOn is × AllBare is
+TidyBy macros (c ⨾ d) = TidyBy macros c × TidyBy macros d
+TidyBy macros (jump_out j) = Unit {0}
+TidyBy macros (bounded c) = TidyBy macros c
+TidyBy macros (fork c d) = TidyBy macros c × TidyBy macros d
+TidyBy macros (looped g c d) = TidyBy macros c × TidyBy macros d
+TidyBy macros break_loop = Unit {0}
+TidyBy macros next_round = Unit {0}
+TidyBy macros (declares m c) = (macros ≡ true) × TidyBy macros c
+
 abbrev pub Tidy : Fragment → Type 0
-Tidy (straight is) = Chunked is (pieces_of is) × AllLeadOn is
-Tidy (c ⨾ d) = Tidy c × Tidy d
-Tidy (jump_out j) = Unit {0}
-Tidy (bounded c) = Tidy c
-Tidy (fork c d) = Tidy c × Tidy d
-Tidy (looped g c d) = Tidy c × Tidy d
-Tidy break_loop = Unit {0}
-Tidy next_round = Unit {0}
-Tidy (declares m c) = Tidy c
+Tidy c = TidyBy true c
 
 chunked_jump : (j : JumpKind) (n : ℕ) → Chunked (jump j n ∷ []) (ordinary ∷ [])
 chunked_jump kinds.IfFalse n = chunked_one (i.JumpIfFalse n) [] [] refl chunked_none
@@ -163,7 +177,7 @@ chunked (declares m c) h l pc =
     let body = assemble (ending_at end) (pc + 1) c in
     let built = building m.free m (pc + 1) in
     chunked_one (i.Jump (end + 1)) (body ++ i.Return ∷ built) (pieces c ++ ordinary ∷ building_pieces m.free) refl
-    (chunked_both body (i.Return ∷ built) (pieces c) (ordinary ∷ building_pieces m.free) (chunked c h (ending_at end) (pc + 1))
+    (chunked_both body (i.Return ∷ built) (pieces c) (ordinary ∷ building_pieces m.free) (chunked c h.1 (ending_at end) (pc + 1))
     (chunked_one i.Return built (building_pieces m.free) refl (chunked_building m.free m (pc + 1))))
 
 -- ---------------------------------------------------------------- plain instructions
@@ -182,6 +196,11 @@ plain_on (i.JumpIfTrueOrPop n) h = absurd (cc h)
 plain_on (i.Iterate n) h = absurd (cc h)
 plain_on x h = refl
 
+plain_bare : (x : Instruction) → is_plain x ≡ true → is_bare x ≡ true
+plain_bare (i.BuildMacro x n caller) h = absurd (cc h)
+plain_bare i.Return h = absurd (cc h)
+plain_bare x h = refl
+
 plain_piece : (x : Instruction) (is : List Instruction) → is_plain x ≡ true → pieces_of (x ∷ is) ≡ ordinary ∷ pieces_of is
 plain_piece i.Swap is h = absurd (cc h)
 plain_piece x is h = refl
@@ -191,18 +210,23 @@ both_true true b h = (refl, h)
 both_true false b h = absurd (cc h)
 
 pub plain_chunks : (is : List Instruction) → all_plain is ≡ true → Tidy (straight is)
-plain_chunks [] h = (chunked_none, tt)
+plain_chunks [] h = (chunked_none, tt, tt)
 plain_chunks (x ∷ is) h =
     let both = both_true (is_plain x) (all_plain is) h in
     let more = plain_chunks is both.1 in (
       subst (λ ps. Chunked (x ∷ is) ps) (sym (plain_piece x is both.0))
           (chunked_one x is (pieces_of is) (plain_alone x both.0) more.0),
       (plain_on x both.0, more.1),
+      (plain_bare x both.0, more.2),
     )
 
 -- the two forms that aren't plain
 pub drops_tidy : Tidy (straight (i.Swap ∷ i.DiscardTop ∷ []))
-drops_tidy = (record { chunks = drops ∷ []; good = (tt, tt); code = refl; parts = refl }, (refl, (refl, tt)))
+drops_tidy = (record { chunks = drops ∷ []; good = (tt, tt); code = refl; parts = refl }, (refl, (refl, tt)), (refl, (refl, tt)))
 
 pub joins_tidy : Tidy (straight (i.Swap ∷ i.LoadConst (number (pos 1)) ∷ i.Add ∷ []))
-joins_tidy = (record { chunks = joins ∷ []; good = (tt, tt); code = refl; parts = refl }, (refl, (refl, (refl, tt))))
+joins_tidy = (
+  record { chunks = joins ∷ []; good = (tt, tt); code = refl; parts = refl },
+  (refl, (refl, (refl, tt))),
+  (refl, (refl, (refl, tt))),
+)

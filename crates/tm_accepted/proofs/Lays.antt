@@ -12,13 +12,13 @@ use Rattle.tm_syntax.specs.Fragments.{beyond_all, beyond, Labels, outward, inwar
 use Rattle.tm_meaning.specs.Instructions.{names_in, texts_in, and_text}
 use Rattle.tm_meaning.specs.World.{choose}
 use Rattle.tm_shapes.specs.declared.kind.Kind.{Kind}
-use Rattle.tm_shapes.specs.declared.kind.Kind.TheVariants.{Value as value, Closure as closure, Names as names}
+use Rattle.tm_shapes.specs.declared.kind.Kind.TheVariants.{Value as value, Group as group, Closure as closure, Names as names}
 use Rattle.tm_shapes.specs.declared.kind.Reading.{Reading}
 use Rattle.tm_shapes.specs.declared.kind.Reading.TheVariants as readings
 use Rattle.tm_shapes.specs.Shapes.{Shape, Shapes, shape_at, first_shape, entry_shape}
 use Rattle.tm_shapes.specs.Flows.{Flow, refused, ends, leads, both, Site, are, flow_of, is_value, with_operands, loop_begun, on_loop, load_names}
 use Rattle.tm_shapes.specs.Search.{Has}
-use Rattle.tm_accepted.specs.Sites.{Piece, ordinary, closure_of_macro, names_of_macro, pieces_of, building_pieces, pieces, site_by}
+use Rattle.tm_accepted.specs.Sites.{Piece, ordinary, closure_of_macro, names_of_macro, row_start, pieces_of, building_pieces, pieces, site_by}
 
 to_then : (sh : Shapes) (n : ℕ) (s t : Shape) → s ≡ t → shape_at sh n ≡ Some t → shape_at sh n ≡ Some s
 to_then sh n s t h r = r ∙ ap (λ (u : Shape). Some u) (sym h)
@@ -36,9 +36,14 @@ Allowed readings.Value s = Unit {0}
 Allowed readings.Group s = s.part.operands ≡ []
 Allowed readings.Open s = ⊥
 
+-- A row that puts a value into a group begins over one.
+abbrev pub Rowed : Piece → Shape → Type 0
+Rowed row_start s = (k : Kind) × (o : Option ℕ) × (ks : List Kind) × (s.part.operands ≡ k ∷ group o ∷ ks)
+Rowed p s = Unit {0}
+
 -- An instruction that is of this leads from its place to the next one alone, with this shape.
 abbrev pub Steps : Piece → Instruction → ℕ → Shape → Shape → Type 0
-Steps p x pc s u = (q : Reading) × Allowed q s × ((r : Option ℕ) → flow_of (site_by p q r pc) x s ≡ leads (pc + 1) u)
+Steps p x pc s u = (q : Reading) × Allowed q s × Rowed p s × ((r : Option ℕ) → flow_of (site_by p q r pc) x s ≡ leads (pc + 1) u)
 
 abbrev pub StraightBy : List Piece → ℕ → List Instruction → Shape → Shape → Type 0
 StraightBy [] pc [] s t = s ≡ t
@@ -86,15 +91,16 @@ pub record Spot : Type 0 where
   pub reading : Reading
   pub allowed : Allowed reading shape
   pub piece : Piece
+  pub rowed : Rowed piece shape
 
 abbrev pub piece_of : Spot → Piece
 piece_of s = s.piece
 
-abbrev pub spot : Shape → Piece → Spot
-spot s p = record { shape = s; reading = readings.Value; allowed = tt; piece = p }
+abbrev pub spot : (s : Shape) (p : Piece) → Rowed p s → Spot
+spot s p h = record { shape = s; reading = readings.Value; allowed = tt; piece = p; rowed = h }
 
 abbrev pub plain : Shape → Spot
-plain s = spot s ordinary
+plain s = spot s ordinary tt
 
 abbrev pub Placed : Shapes → ℕ → List Spot → Type 0
 Placed sh pc [] = Unit {0}
@@ -156,11 +162,11 @@ lay_all r (q ∷ ps) [] s t pc h = absurd h
 lay_all r (q ∷ ps) (x ∷ is) s t pc (u, step, h) =
     let more = lay_all r ps is u t (pc + 1) h in
     record {
-      spots = record { shape = s; reading = step.0; allowed = step.1; piece = q } ∷ more.spots;
+      spots = record { shape = s; reading = step.0; allowed = step.1; piece = q; rowed = step.2 } ∷ more.spots;
       sized = omega (arith, more.sized);
       made = ap (λ x. q ∷ x) more.made;
       start = λ sh p w. p.0;
-      meets = λ sh p w. (subst (Has sh) (sym (step.2 r)) (more.start sh p.1 w), more.meets sh p.1 w);
+      meets = λ sh p w. (subst (Has sh) (sym (step.3 r)) (more.start sh p.1 w), more.meets sh p.1 w);
     }
 
 jump_flow : (j : JumpKind) (at : Site) (n : ℕ) (s : Shape) (k : Kind) (ks : List Kind) (sh : Shapes) → s.part.operands ≡ k ∷ ks →
@@ -212,7 +218,7 @@ lay_building r [] m place s t to pc =
     let two = with_operands (names n ∷ closure ∷ ks) s in
     let loads = site_by names_of_macro readings.Value r (pc + 1) in
     record {
-      spots = spot s closure_of_macro ∷ spot one names_of_macro ∷ plain two ∷ [];
+      spots = spot s closure_of_macro tt ∷ spot one names_of_macro tt ∷ plain two ∷ [];
       sized = omega arith;
       made = refl;
       start = λ sh p. p.0;

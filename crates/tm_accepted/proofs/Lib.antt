@@ -11,3 +11,12 @@ pub mod Numbers
 pub mod Caches
 pub mod Sited
 pub mod Placing
+pub mod Readings
+pub mod Begins
+pub mod Finds
+pub mod Accepted
+pub mod Taken
+pub mod Discovers
+pub mod Bare
+pub mod Alike
+pub mod TreesAccepted

@@ -15,10 +15,10 @@ use Rattle.tm_shapes.specs.Shapes.{Shape, Shapes, shape_at, itself, first_shape}
 use Rattle.tm_shapes.specs.Flows.{are, flow_of, with_operands}
 use Rattle.tm_shapes.specs.Search.{Has}
 use Rattle.tm_shapes.specs.Accepts.{Readings, all_seeds, ask_all, ends_with, left_by, no_shapes}
-use Rattle.tm_accepted.specs.Sites.{Piece, pieces, site_by}
+use Rattle.tm_accepted.specs.Sites.{Piece, row_start, pieces, site_by}
 use Rattle.tm_accepted.specs.Laid.{Laid, form_of}
 use Rattle.tm_accepted.proofs.Pieces.{as_many}
-use Rattle.tm_accepted.proofs.Lays.{Around, Types, Allowed, Spot, piece_of, Placed, Meeting, lay}
+use Rattle.tm_accepted.proofs.Lays.{Around, Types, Allowed, Rowed, Spot, piece_of, Placed, Meeting, lay}
 use Rattle.tm_accepted.proofs.Trees.{expr_types}
 use Rattle.tm_accepted.proofs.Tags.{statements_types}
 use Rattle.tm_accepted.proofs.Entered.{held_at, seeds_held}
@@ -76,6 +76,17 @@ at_bottom sh pc zero k (t ∷ ss) s p e q j =
     subst (λ (u : Shape). u.part.operands ≡ []) two (subst (λ u. Allowed u t.shape) q t.allowed)
 at_bottom sh pc (suc n) k (t ∷ ss) s p e q j = at_bottom sh (pc + 1) n k ss s p.1 (omega (arith, e)) q j
 
+-- a row begins over a group
+rowed_at : (sh : Shapes) (pc n k : ℕ) (ss : List Spot) (s : Shape) → Placed sh pc ss → k ≡ pc + n →
+    slice_get (each piece_of ss) n ≡ Some row_start → shape_at sh k ≡ Some s → Rowed row_start s
+rowed_at sh pc n k [] s p e f j = absurd (cc f)
+rowed_at sh pc zero k (t ∷ ss) s p e f j =
+    let here : k ≡ pc = omega (arith, e) in
+    let piece : t.piece ≡ row_start = cc f in
+    let two : t.shape ≡ s = let w : shape_at sh k ≡ Some t.shape = ap (shape_at sh) here ∙ p.0 in cc (sym w ∙ j) in
+    subst (λ u. Rowed row_start u) two (subst (λ v. Rowed v t.shape) piece t.rowed)
+rowed_at sh pc (suc n) k (t ∷ ss) s p e f j = rowed_at sh (pc + 1) n k ss s p.1 (omega (arith, e)) f j
+
 meeting_at : (r : Option ℕ) (sh : Shapes) (pc n k : ℕ) (is : List Instruction) (ss : List Spot) (x : Instruction) (v : Piece) (s : Shape) →
     Meeting r sh pc is ss → Placed sh pc ss → k ≡ pc + n → slice_get is n ≡ Some x → slice_get (each piece_of ss) n ≡ Some v →
     shape_at sh k ≡ Some s → Has sh (flow_of (site_by v (read_at ss n) r k) x s)
@@ -93,7 +104,7 @@ meeting_at r sh pc zero k (y ∷ is) (t ∷ ss) x v s h p e i f j =
     subst (λ z. Has sh (flow_of (site_by v t.reading r k) x z)) two c
 meeting_at r sh pc (suc n) k (y ∷ is) (t ∷ ss) x v s h p e i f j = meeting_at r sh (pc + 1) n k is ss x v s h.1 p.1 (omega (arith, e)) i f j
 
-no_more : {A : Type 0} (xs : List A) (n : ℕ) → slice_get xs n ≡ None → length xs ≤ n
+pub no_more : {A : Type 0} (xs : List A) (n : ℕ) → slice_get xs n ≡ None → length xs ≤ n
 no_more [] n e = omega arith
 no_more (x ∷ xs) zero e = absurd (cc e)
 no_more (x ∷ xs) (suc n) e = omega (arith, no_more xs n e)
@@ -107,7 +118,7 @@ each_long : (ss : List Spot) → length (each some ss) ≡ length ss
 each_long [] = refl
 each_long (s ∷ ss) = ap suc (each_long ss)
 
-unknown_long : (is : List Instruction) → length (no_shapes is) ≡ suc (length is)
+pub unknown_long : (is : List Instruction) → length (no_shapes is) ≡ suc (length is)
 unknown_long [] = refl
 unknown_long (x ∷ is) = ap suc (unknown_long is)
 
@@ -118,12 +129,12 @@ placed_at sh pc zero k (s ∷ ss) p e h = let here : k ≡ pc = omega (arith, e)
 placed_at sh pc (suc n) k (s ∷ ss) p e h = placed_at sh (pc + 1) n k ss p.1 (omega (arith, e)) (omega (arith, h))
 
 -- and its instruction is of something
-piece_at : (ps : List Piece) (n : ℕ) → suc n ≤ length ps → (v : Piece) × (slice_get ps n ≡ Some v)
-piece_at [] n h = absurd (omega (arith, h))
-piece_at (p ∷ ps) zero h = (p, refl)
-piece_at (p ∷ ps) (suc n) h = piece_at ps n (omega (arith, h))
+pub item_at : {A : Type 0} (xs : List A) (n : ℕ) → suc n ≤ length xs → (x : A) × (slice_get xs n ≡ Some x)
+item_at [] n h = absurd (omega (arith, h))
+item_at (x ∷ xs) zero h = (x, refl)
+item_at (x ∷ xs) (suc n) h = item_at xs n (omega (arith, h))
 
-within : {A : Type 0} (xs : List A) (n : ℕ) (x : A) → slice_get xs n ≡ Some x → suc n ≤ length xs
+pub within : {A : Type 0} (xs : List A) (n : ℕ) (x : A) → slice_get xs n ≡ Some x → suc n ≤ length xs
 within [] n x e = absurd (cc e)
 within (y ∷ xs) zero x e = omega arith
 within (y ∷ xs) (suc n) x e = omega (arith, within xs n x e)
@@ -164,7 +175,7 @@ flows form c t h closed none same_asked =
     meeting_at r sh 0 n n code ss x v s m p (omega arith) i (ap (λ ps. slice_get ps n) l.made ∙ f) j in
     let steps : (n : ℕ) (x : Instruction) (s : Shape) → slice_get code n ≡ Some x → shape_at sh n ≡ Some s →
     (v : Piece) × (q : Reading) × Has sh (flow_of (site_by v q r n) x s) = λ n x s i j.
-    let v = piece_at (pieces c) n (omega (arith, within code n x i, as_many (whole_labels c) 0 c)) in
+    let v = item_at (pieces c) n (omega (arith, within code n x i, as_many (whole_labels c) 0 c)) in
     (v.0, read n, by_piece n x v.0 s i v.1 j) in (
       read,
       sh,
@@ -182,6 +193,7 @@ flows form c t h closed none same_asked =
             let here : n ≡ beyond 0 c = omega (arith, is, long, l.sized) in
             let same : t ≡ s = let q : shape_at sh n ≡ Some t = ap (shape_at sh) here ∙ end in cc (sym q ∙ j) in
             (is, subst (λ s. ends_with (left_by form) s ≡ true) same closed);
+        rows = λ n s f j. rowed_at sh 0 n n ss s p (omega arith) (ap (λ ps. slice_get ps n) l.made ∙ f) j;
       },
     )
 

@@ -28,8 +28,8 @@ use Rattle.tm_syntax.specs.declared.opened.Opened.TheVariants.{Scope as a_scope,
 use Rattle.tm_syntax.specs.Forms.{chained}
 use Rattle.tm_syntax.specs.Code.{map_of_row, RowEnd, caller_end, passed_count, expr_code, step_code}
 use Rattle.tm_syntax.specs.Code.{passing_code, called_alone, step_call_code, steps_call_code, call_code, count_targets, target_code}
-use Rattle.tm_syntax.specs.Code.{targets_code, set_code, assignments_code, filters_code, use_code, included_code, lookups_code, stores_code, close_all}
-use Rattle.tm_syntax.specs.Code.{iterable_code, default_code, parameter_code, parameters_code, macro_head, statement_code}
+use Rattle.tm_syntax.specs.Code.{targets_code, set_code, assignments_code, filters_code, use_code, included_code, lookups_code, stores_code}
+use Rattle.tm_syntax.specs.Code.{close_all, iterable_code, default_code, parameter_code, parameters_code, macro_head, statement_code}
 use Rattle.tm_syntax.specs.Code.{statements_code, branches_code, after_loop_code}
 use Rattle.tm_syntax.specs.Names.{parameter_names}
 use Rattle.tm_syntax.specs.Fragments.{Fragment, straight, ◌⨾◌, beyond, declares}
@@ -114,19 +114,19 @@ close_types : (os : List Opened) (s b : Shape) (pc : ℕ) → Within os s b → 
 close_types [] s b pc h = h
 close_types (a_scope ∷ os) s b pc (fs, is, h) = (
   with_frames fs s,
-  (as_value, tt, λ r. ap (λ x. pop_frame (site r pc) s x) is),
+  (as_value, tt, tt, λ r. ap (λ x. pop_frame (site r pc) s x) is),
   close_types os (with_frames fs s) b (pc + 1) h,
 )
 close_types (an_escape ∷ os) s b pc (n, is, h) = (
   with_escapes n s,
-  (as_value, tt, λ r. ap (λ x. pop_escape (site r pc) s x) is),
+  (as_value, tt, tt, λ r. ap (λ x. pop_escape (site r pc) s x) is),
   close_types os (with_escapes n s) b (pc + 1) h,
 )
 close_types (a_capture ∷ os) s b pc (m, ms, is, h) =
     let t = with_captures ms s in (
       with_operands (value ∷ s.part.operands) t,
-      (as_value, tt, λ r. ap (λ x. end_capture (site r pc) s x) is),
-      (t, (as_value, tt, λ r. refl), close_types os t b (pc + 1 + 1) h),
+      (as_value, tt, tt, λ r. ap (λ x. end_capture (site r pc) s x) is),
+      (t, (as_value, tt, tt, λ r. refl), close_types os t b (pc + 1 + 1) h),
     )
 
 -- ---------------------------------------------------------------- loops
@@ -144,19 +144,19 @@ none_begun false s h = h
 
 -- the scope of a loop is left, with a value or none over what stood before
 pop_none : (r : Bool) (s : Shape) (pc : ℕ) → Steps ordinary i.PopLoopFrame pc (loop_begun r s) s
-pop_none true s pc = (as_value, tt, λ r. refl)
-pop_none false s pc = (as_value, tt, λ r. rw (nat_same (length s.part.captures), nat_same s.part.escapes) refl)
+pop_none true s pc = (as_value, tt, tt, λ r. refl)
+pop_none false s pc = (as_value, tt, tt, λ r. rw (nat_same (length s.part.captures), nat_same s.part.escapes) refl)
 
 pop_one : (r : Bool) (s : Shape) (pc : ℕ) →
     Steps ordinary i.PopLoopFrame pc (with_operands (value ∷ (loop_begun r s).part.operands) (loop_begun r s))
     (with_operands (value ∷ s.part.operands) s)
-pop_one true s pc = (as_value, tt, λ r. refl)
-pop_one false s pc = (as_value, tt, λ r. rw (nat_same (length s.part.captures), nat_same s.part.escapes) refl)
+pop_one true s pc = (as_value, tt, tt, λ r. refl)
+pop_one false s pc = (as_value, tt, tt, λ r. rw (nat_same (length s.part.captures), nat_same s.part.escapes) refl)
 
 asks_none : (r : Bool) (s : Shape) (pc : ℕ) →
     Steps ordinary i.PushDidNotIterate pc (loop_begun r s) (with_operands (value ∷ (loop_begun r s).part.operands) (loop_begun r s))
-asks_none true s pc = (as_value, tt, λ r. refl)
-asks_none false s pc = (as_value, tt, λ r. refl)
+asks_none true s pc = (as_value, tt, tt, λ r. refl)
+asks_none false s pc = (as_value, tt, tt, λ r. refl)
 
 -- ---------------------------------------------------------------- loops with a condition
 -- a value goes into the group below it
@@ -164,11 +164,11 @@ counting_types : (o : Option ℕ) (ks : List Kind) (b : Shape) (pc : ℕ) → St
     (with_operands (value ∷ group o ∷ ks) b) (with_operands (group o ∷ ks) b)
 counting_types o ks b pc = (
   with_operands (opened o ∷ ks) b,
-  (as_value, tt, λ r. refl),
+  (as_value, tt, (value, o, ks, refl), λ r. refl),
   (
     with_operands (one ∷ opened o ∷ ks) b,
-    (as_value, tt, λ r. refl),
-    (with_operands (group o ∷ ks) b, (as_value, tt, λ r. refl), refl),
+    (as_value, tt, tt, λ r. refl),
+    (with_operands (group o ∷ ks) b, (as_value, tt, tt, λ r. refl), refl),
   ),
 )
 
@@ -187,7 +187,7 @@ pass_types t x c e s pc none =
     let asked = beyond (round + 1) (target_code t) in
     let then = beyond asked (expr_code c) in (
       zero_on,
-      (zero_on, (as_group, none, λ r. refl), refl),
+      (zero_on, (as_group, none, tt, λ r. refl), refl),
       (
         with_operands (value ∷ group o ∷ ks) s,
         expr_types x e zero_on (group o ∷ ks) (pc + 1),
@@ -224,8 +224,8 @@ pass_types t x c e s pc none =
           refl,
           (
             with_operands (group o ∷ ks) s,
-            (as_value, tt, λ r. rw (nat_same (length s.part.captures), nat_same s.part.escapes) refl),
-            (with_operands (value ∷ ks) s, (as_value, tt, λ r. refl), refl),
+            (as_value, tt, tt, λ r. rw (nat_same (length s.part.captures), nat_same s.part.escapes) refl),
+            (with_operands (value ∷ ks) s, (as_value, tt, tt, λ r. refl), refl),
           ),
         ),
       ),
@@ -236,7 +236,7 @@ default_types : (o : Option Expr) → Replaces 1 1 (default_code o)
 default_types None = λ e s ks pc. refl
 default_types (Some x) = λ e s ks pc. (
   Over 2 ks s,
-  (Over 2 ks s, (as_value, tt, λ r. refl), one_step i.IsUndefined 1 1 (λ at s. refl) e s (value ∷ ks) _),
+  (Over 2 ks s, (as_value, tt, tt, λ r. refl), one_step i.IsUndefined 1 1 (λ at s. refl) e s (value ∷ ks) _),
   (
     Over 1 ks s,
     (value, (value ∷ ks), refl, refl, refl, refl),
@@ -276,7 +276,7 @@ caller_ends : (c : Fragment) → Pushes 1 c → Ends (caller_end c)
 caller_ends c h n =
     let row = straight (map_of_row (suc n)) in
     then_replace (n + n) 1 (n + n + 1) 1 (straight (i.LoadConst (text (codes "caller") false) ∷ [])) (c ⨾ row) (omega arith)
-    (λ e s ks pc. (Over 1 ks s, (as_value, tt, λ r. refl), refl))
+    (λ e s ks pc. (Over 1 ks s, (as_value, tt, tt, λ r. refl), refl))
     (then_replace (n + n + 1) 1 (suc n + suc n) 1 c row (omega arith) h (map_types (suc n)))
 
 module _ (end : RowEnd) (h : Ends end) where
@@ -334,7 +334,7 @@ included_types : (x : Expr) (e : Around) (s : Shape) (pc : ℕ) → Types pc e (
 included_types x e s pc =
     let inside = with_frames (scope ∷ s.part.frames) s in (
       inside,
-      (inside, (as_value, tt, λ r. refl), refl),
+      (inside, (as_value, tt, tt, λ r. refl), refl),
       (
         with_operands (value ∷ s.part.operands) inside,
         expr_types x e inside s.part.operands (pc + 1),
@@ -350,7 +350,7 @@ import_types x t e s pc =
     let named = with_frames (scope ∷ s.part.frames) s in
     let then = beyond (pc + 1) (included_code x) in (
       caught,
-      (caught, (as_value, tt, λ r. refl), refl),
+      (caught, (as_value, tt, tt, λ r. refl), refl),
       (
         inside,
         included_types x e caught (pc + 1),
@@ -358,11 +358,11 @@ import_types x t e s pc =
           with_operands (value ∷ ks) s,
           (
             with_operands (value ∷ ks) named,
-            (as_value, tt, λ r. refl),
+            (as_value, tt, tt, λ r. refl),
             (
               with_operands (value ∷ ks) named,
-              (as_value, tt, λ r. refl),
-              (with_operands (value ∷ ks) s, (as_value, tt, λ r. refl), refl),
+              (as_value, tt, tt, λ r. refl),
+              (with_operands (value ∷ ks) s, (as_value, tt, tt, λ r. refl), refl),
             ),
           ),
           target_types t e s ks (then + 1 + 1 + 1),
@@ -379,7 +379,7 @@ from_types x xs e s pc =
     let then = beyond (pc + 1) (included_code x) in
     let looked = beyond then (lookups_code xs) in (
       caught,
-      (caught, (as_value, tt, λ r. refl), refl),
+      (caught, (as_value, tt, tt, λ r. refl), refl),
       (
         inside,
         included_types x e caught (pc + 1),
@@ -388,13 +388,13 @@ from_types x xs e s pc =
           lookups_types xs e inside ks then,
           (
             with_operands (pushed n ks) caught,
-            (with_operands (pushed n ks) caught, (as_value, tt, λ r. refl), refl),
+            (with_operands (pushed n ks) caught, (as_value, tt, tt, λ r. refl), refl),
             (
               caught,
               stores_types xs e caught ks (looked + 1),
               (
                 with_operands (value ∷ ks) s,
-                (as_value, tt, λ r. refl),
+                (as_value, tt, tt, λ r. refl),
                 one_step i.DiscardTop 1 0 (λ at s. refl) e s ks _,
               ),
             ),
@@ -410,13 +410,13 @@ Closes os e s = Within os s e.after × Within os s e.again
 mutual
   pub statement_types : (os : List Opened) (x : Stmt) (e : Around) (s : Shape) (pc : ℕ) → Closes os e s → s.part.operands ≡ [] →
       Types pc e (statement_code os x) s s
-  statement_types os (EmitRaw t) e s pc h z = (s, (as_value, tt, λ r. refl), refl)
+  statement_types os (EmitRaw t) e s pc h z = (s, (as_value, tt, tt, λ r. refl), refl)
   statement_types os (EmitExpr x) e s pc h z =
       (Over 1 s.part.operands s, expr_types x e s s.part.operands pc, one_step i.Emit 1 0 (λ at s. refl) e s s.part.operands _)
   statement_types os (EmitLoop x) e s pc h z =
       (Over 1 s.part.operands s, expr_types x e s s.part.operands pc, one_step i.FastRecurse 1 0 (λ at s. refl) e s s.part.operands _)
-  statement_types os (EmitBlock x) e s pc h z = (s, (as_value, tt, λ r. refl), refl)
-  statement_types os EmitSuper e s pc h z = (s, (as_value, tt, λ r. refl), refl)
+  statement_types os (EmitBlock x) e s pc h z = (s, (as_value, tt, tt, λ r. refl), refl)
+  statement_types os EmitSuper e s pc h z = (s, (as_value, tt, tt, λ r. refl), refl)
   statement_types os (If' c _ body other) e s pc h z = (
     Over 1 s.part.operands s,
     expr_types c e s s.part.operands pc,
@@ -450,7 +450,7 @@ mutual
       )
   statement_types os Break e s pc h z = (e.after, close_types os s e.after pc h.0, refl)
   statement_types os Continue e s pc h z = (e.again, close_types os s e.again pc h.1, refl)
-  statement_types os (Block' x required _ body) e s pc h z = (s, (as_value, tt, λ r. refl), refl)
+  statement_types os (Block' x required _ body) e s pc h z = (s, (as_value, tt, tt, λ r. refl), refl)
   statement_types os (Extends x) e s pc h z =
       (Over 1 s.part.operands s, expr_types x e s s.part.operands pc, one_step i.LoadBlocks 1 0 (λ at s. refl) e s s.part.operands _)
   statement_types os (Set t x) e s pc h z = set_types t x e s pc
@@ -459,14 +459,14 @@ mutual
       let inside = with_captures (Capture ∷ s.part.captures) s in
       let then = beyond (pc + 1) (statements_code (a_capture ∷ os) body) + 1 in (
         inside,
-        (inside, (as_value, tt, λ r. refl), refl),
+        (inside, (as_value, tt, tt, λ r. refl), refl),
         (
           inside,
           statements_types (a_capture ∷ os) body e inside (pc + 1)
               ((Capture, s.part.captures, refl, h.0), (Capture, s.part.captures, refl, h.1)) z,
           (
             with_operands (value ∷ ks) s,
-            (with_operands (value ∷ ks) s, (as_value, tt, λ r. refl), refl),
+            (with_operands (value ∷ ks) s, (as_value, tt, tt, λ r. refl), refl),
             (
               with_operands (value ∷ ks) s,
               filters_types filters e s ks then,
@@ -478,7 +478,7 @@ mutual
   statement_types os (With' given _ body) e s pc h z =
       let inside = with_frames (scope ∷ s.part.frames) s in (
         inside,
-        (inside, (as_value, tt, λ r. refl), refl),
+        (inside, (as_value, tt, tt, λ r. refl), refl),
         (
           inside,
           assignments_types given e inside (pc + 1),
@@ -486,7 +486,7 @@ mutual
             inside,
             statements_types (a_scope ∷ os) body e inside (beyond (pc + 1) (assignments_code given))
                 ((s.part.frames, refl, h.0), (s.part.frames, refl, h.1)) z,
-            (s, (as_value, tt, λ r. refl), refl),
+            (s, (as_value, tt, tt, λ r. refl), refl),
           ),
         ),
       )
@@ -498,12 +498,12 @@ mutual
         expr_types x e s s.part.operands pc,
         (
           inside,
-          (inside, (as_value, tt, λ r. refl), refl),
+          (inside, (as_value, tt, tt, λ r. refl), refl),
           (
             inside,
             statements_types (an_escape ∷ os) body e inside (beyond pc (expr_code x) + 1)
                 ((s.part.escapes, refl, h.0), (s.part.escapes, refl, h.1)) z,
-            (s, (as_value, tt, λ r. refl), refl),
+            (s, (as_value, tt, tt, λ r. refl), refl),
           ),
         ),
       )

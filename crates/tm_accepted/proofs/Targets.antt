@@ -223,7 +223,7 @@ module _ (P : ℕ → Type 0) where
       )
   code_targets break_loop h l pc o a r inside = (r, tt)
   code_targets next_round h l pc o a r inside = (a, tt)
-  code_targets (declares m c) h l pc o a r inside =
+  code_targets (declares m c) (allowed, h) l pc o a r inside =
       let entry = pc + 1 in
       let end = beyond entry c in
       let built = building m.free m entry in

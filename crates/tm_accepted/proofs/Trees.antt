@@ -69,7 +69,7 @@ single x = refl
 pub one_step : (x : Instruction) (n m : ℕ) → ((at : Site) (s : Shape) → flow_of at x s ≡ replaces at n m s) → Replaces n m (straight (x ∷ []))
 one_step x n m h e s ks pc =
     subst (λ ps. StraightBy ps pc (x ∷ []) (Over n ks s) (Over m ks s)) (sym (single x))
-    (Over m ks s, (as_value, tt, λ r. h (site_by ordinary as_value r pc) (Over n ks s) ∙ pops_pushed n ks _), refl)
+    (Over m ks s, (as_value, tt, tt, λ r. h (site_by ordinary as_value r pc) (Over n ks s) ∙ pops_pushed n ks _), refl)
 
 -- the kinds over which a call's values lie
 abbrev pub left : Option ℕ → List Kind → List Kind
@@ -84,7 +84,7 @@ pub call_step : (x : Instruction) (n : Option ℕ) → ((at : Site) (s : Shape) 
     (ks : List Kind) (pc : ℕ) → Types pc e (straight (x ∷ [])) (with_operands (left n ks) s) (Over 1 ks s)
 call_step x n h e s ks pc =
     subst (λ ps. StraightBy ps pc (x ∷ []) (with_operands (left n ks) s) (Over 1 ks s)) (sym (single x))
-    (Over 1 ks s, (as_value, tt, λ r. h (site_by ordinary as_value r pc) (with_operands (left n ks) s) ∙ counted_left n ks _), refl)
+    (Over 1 ks s, (as_value, tt, tt, λ r. h (site_by ordinary as_value r pc) (with_operands (left n ks) s) ∙ counted_left n ks _), refl)
 
 pub application_types : (k : Application) (x : List ℕ) (n : Option ℕ) (e : Around) (s : Shape) (ks : List Kind) (pc : ℕ) →
     Types pc e (straight (application_code k x n)) (with_operands (left n ks) s) (Over 1 ks s)
@@ -94,14 +94,14 @@ application_types applications.Filter x n e s ks pc =
 application_types applications.Test x n e s ks pc =
     call_step (i.PerformTest x n Rattle.tm_syntax.specs.CacheNumbers.no_cache) n (λ at s. refl) e s ks pc
 application_types applications.NegatedTest x n e s ks pc =
-    (Over 1 ks s, (as_value, tt, λ r. counted_left n ks _), one_step i.Not 1 1 (λ at s. refl) e s ks (pc + 1))
+    (Over 1 ks s, (as_value, tt, tt, λ r. counted_left n ks _), one_step i.Not 1 1 (λ at s. refl) e s ks (pc + 1))
 
 unary_types : (op : UnaryOperator) → Replaces 1 1 (straight (unary_code op ∷ []))
 unary_types unaries.Not = one_step i.Not 1 1 (λ at s. refl)
 unary_types unaries.Negate = one_step i.Neg 1 1 (λ at s. refl)
 
 add_step : Replaces 2 1 (straight (i.Add ∷ []))
-add_step e s ks pc = (Over 1 ks s, (as_value, tt, λ r. refl), refl)
+add_step e s ks pc = (Over 1 ks s, (as_value, tt, tt, λ r. refl), refl)
 
 binary_types : (op : BinaryOperator) → Replaces 2 1 (straight (binary_code op))
 binary_types binaries.Equal = one_step i.Eq 2 1 (λ at s. refl)
@@ -112,7 +112,7 @@ binary_types binaries.Greater = one_step i.Gt 2 1 (λ at s. refl)
 binary_types binaries.GreaterOrEqual = one_step i.Gte 2 1 (λ at s. refl)
 binary_types binaries.In = one_step i.In 2 1 (λ at s. refl)
 binary_types binaries.NotIn = λ e s ks pc.
-    (Over 1 ks s, (as_value, tt, λ r. refl), one_step i.Not 1 1 (λ at s. refl) e s ks (pc + 1))
+    (Over 1 ks s, (as_value, tt, tt, λ r. refl), one_step i.Not 1 1 (λ at s. refl) e s ks (pc + 1))
 binary_types binaries.Add = add_step
 binary_types binaries.Subtract = one_step i.Sub 2 1 (λ at s. refl)
 binary_types binaries.Concatenate = one_step i.StringConcat 2 1 (λ at s. refl)
@@ -158,7 +158,7 @@ pub self_block : (x : List ℕ) (e : Around) (s : Shape) (pc : ℕ) → Types pc
 self_block x e s pc =
     let inside = Rattle.tm_shapes.specs.Flows.with_captures (Capture ∷ s.part.captures) s in
     let pushed_one = with_operands (value ∷ s.part.operands) s in
-    (inside, (as_value, tt, λ r. refl), (inside, (as_value, tt, λ r. refl), (pushed_one, (as_value, tt, λ r. refl), refl)))
+    (inside, (as_value, tt, tt, λ r. refl), (inside, (as_value, tt, tt, λ r. refl), (pushed_one, (as_value, tt, tt, λ r. refl), refl)))
 
 -- What a call is passed, given its parts.
 passed_by : {n m : _} (end : RowEnd) (b : Bool) (before : ℕ) (given : Row_of-Argument n) (named : Row_of-Keyword m) (by_place by_name : Fragment)
@@ -178,7 +178,7 @@ passed_by end false before given named by_place by_name lists h k l e s ks pc =
     )
 passed_by end true before given named by_place by_name lists h k l e s ks pc =
     let n = count_lists before given (together end named) in
-    (Over n ks s, l e s ks pc, (with_operands (group None ∷ ks) s, (as_value, tt, λ r. pops_pushed n ks _), refl))
+    (Over n ks s, l e s ks pc, (with_operands (group None ∷ ks) s, (as_value, tt, tt, λ r. pops_pushed n ks _), refl))
 
 merging_types : {m : _} (end : RowEnd) (named : Row_of-Keyword m) (maps : Fragment) → Pushes (count_maps end 0 named) maps →
     Pushes (together end named) (merging end named maps)
@@ -205,7 +205,7 @@ chosen false F = refl
 mutual
   pub expr_types : (x : Expr) → Pushes 1 (expr_code x)
   expr_types (Var x) = one_step (i.Lookup x) 0 1 (λ at s. refl)
-  expr_types (Const v) = λ e s ks pc. (Over 1 ks s, (as_value, tt, λ r. chosen (is_zero v) (leads (pc + 1) (Over 1 ks s))), refl)
+  expr_types (Const v) = λ e s ks pc. (Over 1 ks s, (as_value, tt, tt, λ r. chosen (is_zero v) (leads (pc + 1) (Over 1 ks s))), refl)
   expr_types (List' _ es) =
       then_replace 0 (count_exprs es) (count_exprs es) 1 (exprs_code es) (straight (i.BuildList (Some (count_exprs es)) ∷ [])) (omega arith)
       (exprs_types es)
@@ -303,7 +303,7 @@ mutual
   keyword_types before (keyword x a) e s ks pc =
       let n = before + before in (
         Over 1 (pushed n ks) s,
-        (Over 1 (pushed n ks) s, (as_value, tt, λ r. refl), refl),
+        (Over 1 (pushed n ks) s, (as_value, tt, tt, λ r. refl), refl),
         subst (λ t. Types (pc + 1) e (expr_code a) (Over 1 (pushed n ks) s) t)
             (ap (λ x. with_operands x s) (pushed_both 2 n ks ∙ ap (λ k. pushed k ks) (omega arith)))
             (expr_types a e s (value ∷ pushed n ks) (pc + 1)),
@@ -336,7 +336,7 @@ mutual
   links_types op (with_comparison op1 a more) e s ks pc =
       let out = record e { out = Over 2 ks s } in (
         Over 2 ks s,
-        (Over 2 ks s, (as_value, tt, λ r. refl), refl),
+        (Over 2 ks s, (as_value, tt, tt, λ r. refl), refl),
         (
           Over 1 ks s,
           (value, value ∷ ks, refl, refl, refl, refl),
@@ -378,7 +378,7 @@ mutual
           Over 1 ks s,
           links_types op cs e s ks then,
           refl,
-          (Over 2 ks s, (as_value, tt, λ r. refl), one_step i.DiscardTop 1 0 (λ at s. refl) e s (value ∷ ks) (other + 1)),
+          (Over 2 ks s, (as_value, tt, tt, λ r. refl), one_step i.DiscardTop 1 0 (λ at s. refl) e s (value ∷ ks) (other + 1)),
         ),
       )
   step_types (and_then a) = λ e s ks pc. (

@@ -1,21 +1,29 @@
-//! Proofs: the code of every tree is accepted. The functions here are laws: they run nothing.
+//! Proofs: which streams are accepted. A search finds shapes where there are any, and the code of every tree is accepted. The functions here
+//! are laws: they run nothing.
 #![tactic(auto)]
 
-ghost use Rattle.std.specs.Prelude.{◌≡◌, ◌⊎◌, ℕ, List, [], Some, length, slice_get, true};
+ghost use Rattle.std.specs.Prelude.{◌≡◌, ◌⊎◌, ℕ, List, [], ◌∷◌, Some, is_some, length, slice_get, true};
 ghost use Rattle.tm_accepted.specs.Laid.{Laid, form_of};
 ghost use Rattle.tm_accepted.specs.Sites.{Piece, pieces, site_by};
-ghost use Rattle.tm_shapes.specs.Accepts.{Asked, Readings, entry_seeds, site_of};
-ghost use Rattle.tm_shapes.specs.Flows.{Site, flow_of};
+ghost use Rattle.tm_shapes.specs.Accepts.{Asked, Fits, MeetsRules, Readings, accepts, all_seeds, all_values, ask_all};
+ghost use Rattle.tm_shapes.specs.Accepts.{entry_seeds, found, groups_in, read_groups, site_of};
+ghost use Rattle.tm_shapes.specs.Flows.{Site, flow_of, in_row};
 ghost use Rattle.tm_shapes.specs.Placed.{is_placed};
+ghost use Rattle.tm_shapes.specs.Shaped.{IsShaped};
 ghost use Rattle.tm_shapes.specs.Shapes.{Shape, Shapes, shape_at};
+ghost use Rattle.tm_shapes.specs.declared.kind.Form.{Form};
+ghost use Rattle.tm_shapes.specs.declared.kind.Kind.{Kind};
+ghost use Rattle.tm_shapes.specs.declared.kind.Kind.TheVariants.{Value as value};
 ghost use Rattle.tm_shapes.specs.declared.kind.Reading.TheVariants as readings;
 ghost use Rattle.tm_syntax.specs.Blocks.{StreamTree, fragment_of};
 ghost use Rattle.tm_syntax.specs.CacheNumbers.{numbered};
 ghost use Rattle.tm_syntax.specs.Fragments.{assembled};
 ghost use Rattle.tm_syntax.specs.declared.instruction.Instruction.{Instruction};
+ghost use Rattle.tm_syntax.specs.declared.instruction.Instruction.TheVariants.{Swap};
 
 /// The code of every tree has shapes, where each `LoadConst 0` is read as a value or as a group, and as
-/// a group only where no operand lies below it.
+/// a group only where no operand lies below it; and a value goes by `Swap`, `LoadConst 1` and `Add` into
+/// a group alone.
 pub fn the_code_of_trees_has_shapes()
     ensures { (tree : StreamTree) → let code = assembled (fragment_of tree) in
         (read : Readings) × (shapes : Shapes)
@@ -46,4 +54,33 @@ pub fn numbers_change_no_flow()
         flow_of at x s ≡ flow_of at y s }
     ensures places { (code : List Instruction) → length (numbered code) ≡ length code }
     ensures seeds { (code : List Instruction) → entry_seeds (numbered code) ≡ entry_seeds code }
+{}
+
+/// A stream that is accepted has shapes; and one is accepted whose parts stand together, and where shapes
+/// meet the rules with each `LoadConst 0` taken as a value.
+pub fn a_stream_is_accepted_where_shapes_fit()
+    ensures shaped { (form : Form) (code : List Instruction) → accepts form code ≡ true →
+        (shapes : Shapes) × IsShaped code shapes }
+    ensures accepted { (form : Form) (code : List Instruction) → is_placed code ≡ true →
+        MeetsRules all_values form code → accepts form code ≡ true }
+{}
+
+/// Where shapes fit a stream with each 0 read as a value or as a group, shapes are found that fit it with each 0 read as it is
+/// taken: if those that are groups are loaded over no operand of their part, and where a value is added to a group, by `Swap`,
+/// `LoadConst 1` and `Add` in a row, what is below isn't a value.
+pub fn what_takes_a_group_is_found()
+    ensures { (code : List Instruction) (read : Readings) (form : Form) (shapes : Shapes) →
+        ((n : ℕ) → (read n ≡ readings.Value) ⊎ (read n ≡ readings.Group)) →
+        ((n : ℕ) (s : Shape) → read n ≡ readings.Group → shape_at shapes n ≡ Some s → s.part.operands ≡ []) →
+        ((n : ℕ) (s : Shape) (k : Kind) (ks : List Kind) → slice_get code n ≡ Some Swap →
+        in_row (site_of (ask_all read form) code n) ≡ true → shape_at shapes n ≡ Some s →
+        s.part.operands ≡ k ∷ value ∷ ks → ⊥) →
+        Fits (ask_all read form) code (all_seeds code) shapes →
+        is_some (found (ask_all (read_groups (groups_in code)) form) code (all_seeds code)) ≡ true }
+{}
+
+/// The code of every tree is accepted.
+pub fn the_code_of_trees_is_accepted()
+    ensures { (tree : StreamTree) →
+        accepts (form_of tree) (numbered (assembled (fragment_of tree))) ≡ true }
 {}

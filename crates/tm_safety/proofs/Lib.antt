@@ -1,11 +1,5 @@
-pub mod Readings
 pub mod Stacked
 pub mod Comes
 pub mod Fine
 pub mod Effects
 pub mod Never
-pub mod Finds
-pub mod Taken
-pub mod Entered
-pub mod Accepted
-pub mod Discovers

@@ -1,1 +1,3 @@
 pub mod Zeros
+pub mod Marking
+pub mod Rests

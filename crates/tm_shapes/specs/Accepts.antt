@@ -18,7 +18,7 @@ use Rattle.tm_shapes.specs.declared.kind.Reading.TheVariants as readings
 use Rattle.tm_shapes.specs.declared.kind.Form.{Form}
 use Rattle.tm_shapes.specs.declared.kind.Form.TheVariants as forms
 use Rattle.tm_shapes.specs.Shapes.{Part, Shape, Shapes, entry_shape, first_shape, itself, shape_at}
-use Rattle.tm_shapes.specs.Flows.{Site, are, flow_of, is_closed, is_one}
+use Rattle.tm_shapes.specs.Flows.{Site, are, flow_of, is_closed, is_zero}
 use Rattle.tm_shapes.specs.Placed.{is_entered, is_placed}
 use Rattle.tm_shapes.specs.Search.{Found, Has, Seen, note, reach, search, wander}
 
@@ -224,9 +224,21 @@ returns_fit read forms.Expression code =
 abbrev pub fits : Readings → Form → List Instruction → Bool
 fits read form code = is_some (found (ask_all read form) code (all_seeds code)) && returns_fit read form code
 
+abbrev pub loads_zero : Instruction → Bool
+loads_zero (i.LoadConst v) = is_zero v
+loads_zero x = false
+
+abbrev pub has_zero : List Instruction → Bool
+has_zero [] = false
+has_zero (x ∷ more) = loads_zero x || has_zero more
+
+-- Whether there are shapes, each 0 read as it is taken.
+abbrev pub fits_as_taken : Form → List Instruction → Bool
+fits_as_taken form code = has_zero code && fits (read_groups (groups_in code)) form code
+
 -- Whether a stream is accepted: with each 0 read as it is taken, or each as a value.
 abbrev pub accepts : Form → List Instruction → Bool
-accepts form code = is_placed code && (fits (read_groups (groups_in code)) form code || fits all_values form code)
+accepts form code = is_placed code && (fits_as_taken form code || fits all_values form code)
 
 -- ---------------------------------------------------------------- the rules
 -- These shapes meet the rules where runs begin so.

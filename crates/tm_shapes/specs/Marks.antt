@@ -1,5 +1,5 @@
 -- Which places are entered, as marks.
-use Rattle.std.specs.Prelude.{◌≡◌, ◌≤◌, ℕ, zero, suc, List, [], ◌∷◌, length, Option, None, Some, Bool, true, false}
+use Rattle.std.specs.Prelude.{◌≡◌, ◌≤◌, ℕ, List, length, Option, None, Some, Bool, true, nat_lt, slice_set}
 use Rattle.tm_syntax.specs.declared.instruction.Instruction.{Instruction}
 use Rattle.tm_shapes.specs.Placed.{is_entered, targets_within}
 use Rattle.tm_shapes.specs.Sites.{is_marked}
@@ -8,12 +8,16 @@ use Rattle.tm_shapes.specs.Sites.{is_marked}
 abbrev pub AreMarks : List Instruction → List Bool → Type 0
 AreMarks code marks = (n : ℕ) → is_marked marks n ≡ is_entered code n
 
--- The places that are entered are marked; or one leads past the end.
-abbrev pub IsEntered : List Instruction → Option (Vec Bool Global) → Type 0
-IsEntered code None = targets_within (length code) code ≡ false
-IsEntered code (Some marks) = (targets_within (length code) code ≡ true) × (length code ≤ length marks.items) × AreMarks code marks.items
+-- The places that are entered are marked, and all lie within the code.
+abbrev pub MarkEntered : List Instruction → List Bool → Type 0
+MarkEntered code marks = (targets_within (length code) code ≡ true) × (length code ≤ length marks) × AreMarks code marks
 
--- so many marks, none of which is set
-abbrev pub unmarked : ℕ → List Bool
-unmarked zero = []
-unmarked (suc n) = false ∷ unmarked n
+-- whether a place is among so many, if there is one
+abbrev pub is_among : ℕ → Option ℕ → Bool
+is_among size None = true
+is_among size (Some n) = nat_lt n size
+
+-- a mark more, if there is a place
+abbrev pub with_mark : Option ℕ → List Bool → List Bool
+with_mark None marks = marks
+with_mark (Some n) marks = slice_set marks n true

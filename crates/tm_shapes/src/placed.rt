@@ -1,7 +1,7 @@
 //! What is tested at every instruction of a stream, reached or not.
-ghost use Rattle.std.specs.Prelude.{◌≡◌, ◌&&◌, IfOk, []};
-ghost use Rattle.tm_shapes.specs.Marks.{AreMarks, IsEntered, unmarked};
-ghost use Rattle.tm_shapes.specs.Placed.{caches_fit, filters_in, parts_fit, target, tests_in};
+ghost use Rattle.std.specs.Prelude.{◌≡◌, ◌&&◌, IfOk, MatchOption, [], false, length, true};
+ghost use Rattle.tm_shapes.specs.Marks.{AreMarks, MarkEntered, is_among, with_mark};
+ghost use Rattle.tm_shapes.specs.Placed.{caches_fit, filters_in, parts_fit, target, targets_within, tests_in};
 
 use crate::flow::name_count;
 use crate::site::is_marked;
@@ -23,15 +23,22 @@ fn target(instruction: &Instruction) -> Option<usize>
     }
 }
 
-/// So many marks, none of which is set. AllocError when out of memory.
-pub(crate) fn no_marks(alloc: Global, count: usize) -> Result<Vec<bool>, AllocError>
-    ensures { IfOk result (λ marks. marks.items ≡ unmarked count) }
+/// Marks a place, if there is one; false where it isn't among these.
+fn mark(marks: &mut Vec<bool>, place: Option<usize>) -> bool
+    ensures within { result ≡ is_among (length marks.old.items) place }
+    ensures marked { result ≡ true → marks.new.items ≡ with_mark place marks.old.items }
+    ensures long { length marks.new.items ≡ length marks.old.items }
 {
-    let mut marks = Vec::with_capacity(alloc, count)?;
-    for _ in 0..count {
-        marks.push(false)?;
+    match place {
+        Some(place) => match marks.get_mut(place) {
+            Some(mark) => {
+                *mark = true;
+                true
+            }
+            None => false,
+        },
+        None => true,
     }
-    Ok(marks)
 }
 
 /// Whether a jump or a macro's entry leads to a place, for each place and the end; None where one leads past it. AllocError
@@ -40,21 +47,20 @@ pub(crate) fn entered_places(
     alloc: Global,
     code: &[Instruction],
 ) -> Result<Option<Vec<bool>>, AllocError>
-    ensures { IfOk result (IsEntered code.now) }
+    ensures { IfOk result (λ found. MatchOption found
+        (targets_within (length code.now) code.now ≡ false)
+        (λ marks. MarkEntered code.now marks.items)) }
 {
-    let mut marks = no_marks(alloc, code.len() + 1)?;
+    let mut marks = vec![in alloc; false; code.len() + 1]?;
     for instruction in code {
-        if let Some(place) = target(instruction) {
-            match marks.get_mut(place) {
-                Some(mark) => *mark = true,
-                None => return Ok(None),
-            }
+        if !mark(&mut marks, target(instruction)) {
+            return Ok(None);
         }
     }
     Ok(Some(marks))
 }
 
-/// The names of cache numbers so far.
+/// The names of cache numbers so far. A contract sees them.
 #[derive(Drop)]
 struct CacheNames<'a> {
     names: Vec<Option<&'a Name>>,
@@ -62,16 +68,18 @@ struct CacheNames<'a> {
 
 impl<'a> CacheNames<'a> {
     /// No names. AllocError when out of memory.
-    fn new(alloc: Global) -> Result<CacheNames<'a>, AllocError> {
-        let mut names = Vec::new(alloc);
-        for _ in 0..CACHES {
-            names.push(None)?;
-        }
-        Ok(CacheNames { names })
+    fn new(alloc: Global) -> Result<CacheNames<'a>, AllocError>
+        ensures { IfOk result (λ made. made.names.items ≡ no_names) }
+    {
+        Ok(CacheNames {
+            names: vec![in alloc; None; CACHES as usize]?,
+        })
     }
 
     /// Whether a number is none, or that of a cache and of no other name; it is of this name then.
-    fn take(&mut self, name: &'a Name, number: u8) -> bool {
+    fn take(&mut self, name: &'a Name, number: u8) -> bool
+        ensures { taken name.now number (names_of self.old.names.items) ≡ told result (names_of self.new.names.items) }
+    {
         if number == NO_CACHE {
             return true;
         }

@@ -17,7 +17,6 @@ use crate::cells::Cells;
 use crate::flow::{Flow, Way, flow_of};
 use crate::kind::Reading;
 use crate::pile::Pile;
-use crate::placed::no_marks;
 use crate::refusal::Refusal;
 use crate::shape::Shape;
 use crate::site::{Site, is_marked};
@@ -154,10 +153,10 @@ impl Found {
     }
 
     /// A place is looked at.
-    fn look(&mut self, stream: Stream<'_>, asked: &Asked<'_>, place: usize) -> Result<(), Refusal>
-        ensures { (question : Question) (f : Finding) → AreMarks stream.code.now stream.entered.now →
-            length stream.code.now ≤ length stream.entered.now → IsAsked asked.now question →
-            IsFound self.old f → Comes self.new (look_of question stream.code.now place f) result }
+    fn look(&mut self, stream: &Stream<'_>, asked: &Asked<'_>, place: usize) -> Result<(), Refusal>
+        ensures { (question : Question) (f : Finding) → AreMarks stream.now.code.now stream.now.entered.now →
+            length stream.now.code.now ≤ length stream.now.entered.now → IsAsked asked.now question →
+            IsFound self.old f → Comes self.new (look_of question stream.now.code.now place f) result }
     {
         let shape = match self.shapes.get(place) {
             Some(Some(shape)) => *shape,
@@ -183,16 +182,16 @@ impl Found {
 /// Whether shapes are found for all that these seeds lead to. BadStream where there are none, OutOfMemory when out of memory.
 pub(crate) fn search(
     alloc: Global,
-    stream: Stream<'_>,
+    stream: &Stream<'_>,
     asked: &Asked<'_>,
     seeds: &[Seed],
 ) -> Result<(), Refusal>
-    requires marks { AreMarks stream.code.now stream.entered.now }
-    requires long { length stream.code.now ≤ length stream.entered.now }
+    requires marks { AreMarks stream.now.code.now stream.now.entered.now }
+    requires long { length stream.now.code.now ≤ length stream.now.entered.now }
     ensures found { OnOk result ((question : Question) → IsAsked asked.now question →
-        is_some (found question stream.code.now (seeds_of seeds.now)) ≡ true) }
+        is_some (found question stream.now.code.now (seeds_of seeds.now)) ≡ true) }
     ensures none { IfErr result (λ e. e ≡ BadStream → (question : Question) → IsAsked asked.now question →
-        is_some (found question stream.code.now (seeds_of seeds.now)) ≡ false) }
+        is_some (found question stream.now.code.now (seeds_of seeds.now)) ≡ false) }
 {
     let mut found = Found {
         cells: Cells::new(alloc),
@@ -254,10 +253,10 @@ impl Seen {
     }
 
     /// A place is looked at.
-    fn glance(&mut self, stream: Stream<'_>, asked: &Asked<'_>, place: usize) -> Result<(), AllocError>
-        ensures { OnOk result ((question : Question) (f : Seeing) → AreMarks stream.code.now stream.entered.now →
-            length stream.code.now ≤ length stream.entered.now → IsAsked asked.now question →
-            IsSeen self.old f → IsSeen self.new (glance_of question stream.code.now place f)) }
+    fn glance(&mut self, stream: &Stream<'_>, asked: &Asked<'_>, place: usize) -> Result<(), AllocError>
+        ensures { OnOk result ((question : Question) (f : Seeing) → AreMarks stream.now.code.now stream.now.entered.now →
+            length stream.now.code.now ≤ length stream.now.entered.now → IsAsked asked.now question →
+            IsSeen self.old f → IsSeen self.new (glance_of question stream.now.code.now place f)) }
     {
         if let (Some(instruction), Some(Some(shape))) =
             (stream.code.get(place), self.shapes.get(place))
@@ -274,13 +273,13 @@ impl Seen {
 /// The places whose 0 is taken as a group, where each place has the first shape in which it is met. AllocError when out of memory.
 pub(crate) fn groups_in(
     alloc: Global,
-    stream: Stream<'_>,
+    stream: &Stream<'_>,
     seeds: &[Seed],
 ) -> Result<Vec<bool>, AllocError>
-    requires marks { AreMarks stream.code.now stream.entered.now }
-    requires long { length stream.code.now ≤ length stream.entered.now }
-    ensures { IfOk result (λ groups. seeds_of seeds.now ≡ all_seeds stream.code.now →
-        groups.items ≡ groups_in stream.code.now) }
+    requires marks { AreMarks stream.now.code.now stream.now.entered.now }
+    requires long { length stream.now.code.now ≤ length stream.now.entered.now }
+    ensures { IfOk result (λ groups. seeds_of seeds.now ≡ all_seeds stream.now.code.now →
+        groups.items ≡ groups_in stream.now.code.now) }
 {
     let asked = Asked {
         read: Readings::Open,
@@ -292,7 +291,7 @@ pub(crate) fn groups_in(
         cells: Cells::new(alloc),
         shapes: no_shapes(alloc, stream.code)?,
         work: Pile::new(alloc),
-        groups: no_marks(alloc, stream.code.len())?,
+        groups: vec![in alloc; false; stream.code.len()]?,
     };
     for seed in seeds {
         seen.note(seed.place, Shape::over(seed.values))?;

@@ -2,7 +2,7 @@ use Rattle.std.proofs.Common.{sym, subst}
 use Rattle.tm_meaning.specs.declared.stream.StreamId.{StreamId}
 use Rattle.tm_safety.specs.Fits.{AllEnter, ids_of}
 use Rattle.tm_shapes.specs.Shapes.{Shapes}
-use Rattle.tm_safety.proofs.Accepted.{shaped}
+use Rattle.tm_accepted.proofs.Accepted.{shaped}
 use Rattle.tm_safety.proofs.Never.{never_stuck}
 use Rattle.tm_safety.proofs.accepted_streams_are_never_stuck.Goals as goal
 

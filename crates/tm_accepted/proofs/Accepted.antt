@@ -24,12 +24,12 @@ use Rattle.tm_shapes.specs.Shaped.{Meets, HasCache, UsesCache, IsShaped}
 use Rattle.tm_shapes.specs.Search.{Found, Has, search}
 use Rattle.tm_shapes.specs.Placed.{Numbered, agrees, caches_fit, filter_of, filters_in, is_placed, parts_fit, targets_within, test_of, tests_in}
 use Rattle.tm_shapes.specs.Accepts.{Asked, Fits, HasSome, MeetsRules, Readings, ReturnsFit, Seeds, accepts, all_seeds, all_values, ask_all, ask_some}
-use Rattle.tm_shapes.specs.Accepts.{begun, ends_with, entry_seeds, fits, found, groups_in, no_shapes, nothing_found, read_groups, reaching}
+use Rattle.tm_shapes.specs.Accepts.{begun, ends_with, entry_seeds, fits, fits_as_taken, found, groups_in, has_zero, no_shapes, nothing_found}
 use Rattle.tm_shapes.specs.Accepts.{same_frames, same_kind, same_kinds, same_mode, same_modes, same_part, same_parts, same_place, same_shape, site_of}
-use Rattle.tm_shapes.specs.Accepts.{returns_fit, start_seed}
-use Rattle.tm_safety.proofs.Readings.{to_there}
-use Rattle.tm_safety.proofs.Entered.{entry_begins}
-use Rattle.tm_safety.proofs.Finds as finds
+use Rattle.tm_shapes.specs.Accepts.{read_groups, reaching, returns_fit, start_seed}
+use Rattle.tm_accepted.proofs.Readings.{to_there}
+use Rattle.tm_accepted.proofs.Begins.{entry_begins}
+use Rattle.tm_accepted.proofs.Finds as finds
 
 -- ---------------------------------------------------------------- both of two tests
 pub both_true : (a b : Bool) → (a && b) ≡ true → (a ≡ true) × (b ≡ true)
@@ -479,25 +479,27 @@ fits_shaped read form code placed e =
     all_shaped (ask_all read form) code placed
     (both_true (is_some (found (ask_all read form) code (all_seeds code))) (returns_fit read form code) e).0
 
-either_shaped : (form : Form) (code : List Instruction) → is_placed code ≡ true → (b : Bool) → fits (read_groups (groups_in code)) form code ≡ b →
+either_shaped : (form : Form) (code : List Instruction) → is_placed code ≡ true → (b : Bool) → fits_as_taken form code ≡ b →
     (b || fits all_values form code) ≡ true → (shapes : Shapes) × IsShaped code shapes
-either_shaped form code placed true e h = fits_shaped (read_groups (groups_in code)) form code placed e
+either_shaped form code placed true e h =
+    fits_shaped (read_groups (groups_in code)) form code placed
+    (both_true (has_zero code) (fits (read_groups (groups_in code)) form code) e).1
 either_shaped form code placed false e h = fits_shaped all_values form code placed h
 
 pub shaped : (form : Form) (code : List Instruction) → accepts form code ≡ true → (shapes : Shapes) × IsShaped code shapes
 shaped form code e =
-    let h = both_true (is_placed code) (fits (read_groups (groups_in code)) form code || fits all_values form code) e in
-    either_shaped form code h.0 (fits (read_groups (groups_in code)) form code) refl h.1
+    let h = both_true (is_placed code) (fits_as_taken form code || fits all_values form code) e in
+    either_shaped form code h.0 (fits_as_taken form code) refl h.1
 
-some_found : (a : Asked) (code : List Instruction) (seeds : Seeds) → HasSome a code seeds → is_some (found a code seeds) ≡ true
+pub some_found : (a : Asked) (code : List Instruction) (seeds : Seeds) → HasSome a code seeds → is_some (found a code seeds) ≡ true
 some_found a code seeds (shapes, fit) = is_found a code seeds shapes fit
 
-returns_found : (read : Readings) (form : Form) (code : List Instruction) → ReturnsFit read form code → returns_fit read form code ≡ true
+pub returns_found : (read : Readings) (form : Form) (code : List Instruction) → ReturnsFit read form code → returns_fit read form code ≡ true
 returns_found read forms.Template code h = refl
 returns_found read forms.Expression code h =
     rw (some_found (ask_some read 1) code start_seed h.0, some_found (ask_some read 0) code (entry_seeds code) h.1) refl
 
-rules_fit : (read : Readings) (form : Form) (code : List Instruction) → MeetsRules read form code → fits read form code ≡ true
+pub rules_fit : (read : Readings) (form : Form) (code : List Instruction) → MeetsRules read form code → fits read form code ≡ true
 rules_fit read form code h =
     rw (some_found (ask_all read form) code (all_seeds code) h.0, returns_found read form code h.1) refl
 
@@ -507,4 +509,4 @@ either_true false b e = e
 
 pub accepted : (form : Form) (code : List Instruction) → is_placed code ≡ true → MeetsRules all_values form code → accepts form code ≡ true
 accepted form code placed h =
-    rw placed (either_true (fits (read_groups (groups_in code)) form code) (fits all_values form code) (rules_fit all_values form code h))
+    rw placed (either_true (fits_as_taken form code) (fits all_values form code) (rules_fit all_values form code h))

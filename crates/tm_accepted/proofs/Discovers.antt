@@ -14,12 +14,13 @@ use Rattle.tm_shapes.specs.Flows.{Flow, refused, ends, leads, both, takes, are, 
 use Rattle.tm_shapes.specs.Placed.{is_entered}
 use Rattle.tm_shapes.specs.Search.{Has, Seen, put_shape}
 use Rattle.tm_shapes.specs.Search as finder
-use Rattle.tm_shapes.specs.Accepts.{Asked, Fits, Readings, Seeds, all_seeds, ask, ask_all, ask_openly, ends_with, entry_seed, entry_seeds_from}
-use Rattle.tm_shapes.specs.Accepts.{found, groups_in, is_between, left_by, no_groups, no_shapes, noted, read_groups, site_of}
-use Rattle.tm_safety.proofs.Accepted.{both_true, is_found, no_shape_at}
-use Rattle.tm_safety.proofs.Finds.{Among, Grows, HasShape, put_there, put_is, put_grows, unmet, put_open, put_long, past, within}
-use Rattle.tm_safety.proofs.Taken as taken
-use Rattle.tm_safety.proofs.Taken.{mark_of}
+use Rattle.tm_shapes.specs.Accepts.{Asked, Fits, HasSome, Readings, Seeds, all_seeds, ask, ask_all, ask_openly, ends_with}
+use Rattle.tm_shapes.specs.Accepts.{entry_seed, entry_seeds_from, found, groups_in, is_between, left_by, no_groups, no_shapes, noted}
+use Rattle.tm_shapes.specs.Accepts.{read_groups, site_of}
+use Rattle.tm_accepted.proofs.Accepted.{both_true, some_found, no_shape_at}
+use Rattle.tm_accepted.proofs.Finds.{Among, Grows, HasShape, put_there, put_is, put_grows, unmet, put_open, put_long, past, within}
+use Rattle.tm_accepted.proofs.Taken as taken
+use Rattle.tm_accepted.proofs.Taken.{mark_of}
 
 -- ---------------------------------------------------------------- marks
 set_there : (bs : List Bool) (p : ℕ) → suc p ≤ length bs → slice_get (slice_set bs p true) p ≡ Some true
@@ -556,7 +557,7 @@ module _ (code : List Instruction) where
       ((n : ℕ) (t : Shape) (k : Kind) (ks : List Kind) → slice_get code n ≡ Some i.Swap →
       in_row (site_of (ask read returned true form) code n) ≡ true → shape_at sh n ≡ Some t → t.part.operands ≡ k ∷ value ∷ ks → ⊥) →
       Fits (ask read returned true form) code (all_seeds code) sh →
-      is_some (found (ask (read_groups (groups_in code)) returned true form) code (all_seeds code)) ≡ true
+      HasSome (ask (read_groups (groups_in code)) returned true form) code (all_seeds code)
   discovered read form returned sh settled bottom never fits =
       let marks = groups_in code in
       let nothing_yet : Going read form returned sh settled bottom never fits marks nothing_seen = record {
@@ -580,10 +581,22 @@ module _ (code : List Instruction) where
       (λ p e. ap mark_of e) in
       let g = wander steps f.work f in
       let sound : taken.Sound code read sh marks = λ p e. end.0.kept.grouped p (is_marked (slice_get marks p) e) in
-      is_found (ask (read_groups marks) returned true form) code (all_seeds code)
-      (kept_shapes read form returned sh settled bottom never fits marks g.shapes sh)
-      (kept_fit read form returned sh settled bottom never fits marks g end.0
-      (λ k e q. let h = begin.there k e q in (h.0, end.1 e.0 h.0 h.1)) sound)
+      (
+        kept_shapes read form returned sh settled bottom never fits marks g.shapes sh,
+        kept_fit read form returned sh settled bottom never fits marks g end.0
+            (λ k e q. let h = begin.there k e q in (h.0, end.1 e.0 h.0 h.1)) sound,
+      )
+
+pub takes_fit : (code : List Instruction) (read : Readings) (form : Form) (sh : Shapes) →
+    ((n : ℕ) → (read n ≡ readings.Value) ⊎ (read n ≡ readings.Group)) →
+    ((n : ℕ) (t : Shape) → read n ≡ readings.Group → shape_at sh n ≡ Some t → t.part.operands ≡ []) →
+    ((n : ℕ) (t : Shape) (k : Kind) (ks : List Kind) → slice_get code n ≡ Some i.Swap → in_row (site_of (ask_all read form) code n) ≡ true →
+    shape_at sh n ≡ Some t → t.part.operands ≡ k ∷ value ∷ ks → ⊥) → Fits (ask_all read form) code (all_seeds code) sh →
+    HasSome (ask_all (read_groups (groups_in code)) form) code (all_seeds code)
+takes_fit code read forms.Template sh settled bottom never fits =
+    discovered code read forms.Template (Some 0) sh settled bottom never fits
+takes_fit code read forms.Expression sh settled bottom never fits =
+    discovered code read forms.Expression None sh settled bottom never fits
 
 pub takes_found : (code : List Instruction) (read : Readings) (form : Form) (sh : Shapes) →
     ((n : ℕ) → (read n ≡ readings.Value) ⊎ (read n ≡ readings.Group)) →
@@ -591,7 +604,5 @@ pub takes_found : (code : List Instruction) (read : Readings) (form : Form) (sh 
     ((n : ℕ) (t : Shape) (k : Kind) (ks : List Kind) → slice_get code n ≡ Some i.Swap → in_row (site_of (ask_all read form) code n) ≡ true →
     shape_at sh n ≡ Some t → t.part.operands ≡ k ∷ value ∷ ks → ⊥) → Fits (ask_all read form) code (all_seeds code) sh →
     is_some (found (ask_all (read_groups (groups_in code)) form) code (all_seeds code)) ≡ true
-takes_found code read forms.Template sh settled bottom never fits =
-    discovered code read forms.Template (Some 0) sh settled bottom never fits
-takes_found code read forms.Expression sh settled bottom never fits =
-    discovered code read forms.Expression None sh settled bottom never fits
+takes_found code read form sh settled bottom never fits =
+    some_found (ask_all (read_groups (groups_in code)) form) code (all_seeds code) (takes_fit code read form sh settled bottom never fits)
