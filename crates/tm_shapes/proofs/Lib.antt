@@ -1,3 +1,4 @@
 pub mod Zeros
 pub mod Marking
 pub mod Rests
+pub mod CacheNames

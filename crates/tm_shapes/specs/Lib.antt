@@ -11,4 +11,5 @@ pub mod Shown
 pub mod Told
 pub mod Sites
 pub mod Marks
+pub mod CacheNames
 pub mod Searched

@@ -1,5 +1,6 @@
 //! What is tested at every instruction of a stream, reached or not.
 ghost use Rattle.std.specs.Prelude.{◌≡◌, ◌&&◌, IfOk, MatchOption, [], false, length, true};
+ghost use Rattle.tm_shapes.specs.CacheNames.{CachesRefused, CachesTaken, names_of, no_names, taken, told};
 ghost use Rattle.tm_shapes.specs.Marks.{AreMarks, MarkEntered, is_among, with_mark};
 ghost use Rattle.tm_shapes.specs.Placed.{caches_fit, filters_in, parts_fit, target, targets_within, tests_in};
 
@@ -69,7 +70,7 @@ struct CacheNames<'a> {
 impl<'a> CacheNames<'a> {
     /// No names. AllocError when out of memory.
     fn new(alloc: Global) -> Result<CacheNames<'a>, AllocError>
-        ensures { IfOk result (λ made. made.names.items ≡ no_names) }
+        ensures { IfOk result (λ made. names_of made.names.items ≡ no_names) }
     {
         Ok(CacheNames {
             names: vec![in alloc; None; CACHES as usize]?,
@@ -78,18 +79,47 @@ impl<'a> CacheNames<'a> {
 
     /// Whether a number is none, or that of a cache and of no other name; it is of this name then.
     fn take(&mut self, name: &'a Name, number: u8) -> bool
-        ensures { taken name.now number (names_of self.old.names.items) ≡ told result (names_of self.new.names.items) }
+        ensures { taken name.now number (names_of self.old.names.items) ≡
+            told result (names_of self.new.names.items) }
     {
         if number == NO_CACHE {
             return true;
         }
-        match self.names.get_mut(number as usize) {
-            None => false,
-            Some(Some(known)) => *known == name,
-            Some(free) => {
-                *free = Some(name);
+        let place = number as usize;
+        let known = match self.names.get(place) {
+            Some(known) => *known,
+            None => return false,
+        };
+        match known {
+            Some(known) => name == known,
+            None => {
+                self.names[place] = Some(name);
                 true
             }
+        }
+    }
+}
+
+/// The names of cache numbers of filters, and those of tests.
+#[derive(Drop)]
+struct Caches<'a> {
+    filters: CacheNames<'a>,
+    tests: CacheNames<'a>,
+}
+
+impl<'a> Caches<'a> {
+    /// Whether the number of an instruction, if it has one, is none, or that of a cache and of no other name.
+    fn take(&mut self, instruction: &'a Instruction) -> bool
+        ensures taken { result ≡ true → CachesTaken instruction.now
+            (names_of self.old.filters.names.items) (names_of self.old.tests.names.items)
+            (names_of self.new.filters.names.items) (names_of self.new.tests.names.items) }
+        ensures refused { result ≡ false → CachesRefused instruction.now
+            (names_of self.old.filters.names.items) (names_of self.old.tests.names.items) }
+    {
+        match instruction {
+            Instruction::ApplyFilter(name, _, number) => self.filters.take(name, *number),
+            Instruction::PerformTest(name, _, number) => self.tests.take(name, *number),
+            _ => true,
         }
     }
 }
@@ -99,15 +129,12 @@ pub(crate) fn caches_fit(alloc: Global, code: &[Instruction]) -> Result<bool, Al
     ensures { IfOk result (λ fit.
         fit ≡ (caches_fit (filters_in code.now) && caches_fit (tests_in code.now))) }
 {
-    let mut filters = CacheNames::new(alloc)?;
-    let mut tests = CacheNames::new(alloc)?;
+    let mut caches = Caches {
+        filters: CacheNames::new(alloc)?,
+        tests: CacheNames::new(alloc)?,
+    };
     for instruction in code {
-        let fits = match instruction {
-            Instruction::ApplyFilter(name, _, number) => filters.take(name, *number),
-            Instruction::PerformTest(name, _, number) => tests.take(name, *number),
-            _ => true,
-        };
-        if !fits {
+        if !caches.take(instruction) {
             return Ok(false);
         }
     }
