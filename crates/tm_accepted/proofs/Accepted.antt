@@ -22,6 +22,7 @@ use Rattle.tm_shapes.specs.Shapes.{entry_shape, shape_at}
 use Rattle.tm_shapes.specs.Flows.{Flow, refused, ends, leads, both, takes, are, flow_of, is_closed}
 use Rattle.tm_shapes.specs.Shaped.{Meets, HasCache, UsesCache, IsShaped}
 use Rattle.tm_shapes.specs.Search.{Found, Has, search}
+use Rattle.tm_shapes.specs.declared.before.Before.TheVariants as befores
 use Rattle.tm_shapes.specs.Placed.{Numbered, agrees, caches_fit, filter_of, filters_in, is_placed, parts_fit, targets_within, test_of, tests_in}
 use Rattle.tm_shapes.specs.Accepts.{Asked, Fits, HasSome, MeetsRules, Readings, ReturnsFit, Seeds, accepts, all_seeds, all_values, ask_all, ask_some}
 use Rattle.tm_shapes.specs.Accepts.{begun, ends_with, entry_seeds, fits, fits_as_taken, found, groups_in, has_zero, no_shapes, nothing_found}
@@ -442,13 +443,13 @@ module _ (a : Asked) (code : List Instruction) where
 uses : (code : List Instruction) → is_placed code ≡ true → (n : ℕ) (x : Instruction) → slice_get code n ≡ Some x →
     UsesCache (name_at (filters_in code)) (name_at (tests_in code)) x
 uses code placed n (i.ApplyFilter x m k) e =
-    let h = both_true (targets_within (length code) code && caches_fit (filters_in code) && caches_fit (tests_in code)) (parts_fit code 0 [] code)
+    let h = both_true (targets_within (length code) code && caches_fit (filters_in code) && caches_fit (tests_in code)) (parts_fit code 0 befores.Nothing code)
     placed in
     let fit = both_true (targets_within (length code) code && caches_fit (filters_in code)) (caches_fit (tests_in code)) h.0 in
     has_cache (filters_in code) (x, k) (both_true (targets_within (length code) code) (caches_fit (filters_in code)) fit.0).1
     (in_filters code n x m k e)
 uses code placed n (i.PerformTest x m k) e =
-    let h = both_true (targets_within (length code) code && caches_fit (filters_in code) && caches_fit (tests_in code)) (parts_fit code 0 [] code)
+    let h = both_true (targets_within (length code) code && caches_fit (filters_in code) && caches_fit (tests_in code)) (parts_fit code 0 befores.Nothing code)
     placed in
     let fit = both_true (targets_within (length code) code && caches_fit (filters_in code)) (caches_fit (tests_in code)) h.0 in
     has_cache (tests_in code) (x, k) fit.1 (in_tests code n x m k e)

@@ -12,7 +12,9 @@ use Rattle.tm_syntax.specs.Blocks.{StreamTree, fragment_of}
 use Rattle.tm_syntax.specs.CacheNumbers.{numbered}
 use Rattle.tm_syntax.specs.Fragments.{name_list, assembled}
 use Rattle.tm_shapes.specs.Flows.{builds}
-use Rattle.tm_shapes.specs.Placed.{target, is_entered, is_within, targets_within, parts_fit, is_placed}
+use Rattle.tm_shapes.specs.Placed.{target, is_entered, is_within, targets_within, parts_fit, is_placed, build_fits, before_next, is_names, names_by}
+use Rattle.tm_shapes.specs.declared.before.Before.{Before}
+use Rattle.tm_shapes.specs.declared.before.Before.TheVariants as befores
 use Rattle.tm_accepted.specs.Sites.{Piece, ordinary, pieces}
 use Rattle.tm_accepted.proofs.Chunks.{Chunk, alone, drops, joins, builds_one, flat, flat_pieces, AllGood}
 use Rattle.tm_accepted.proofs.Targets.{OnTarget, AllTargets, targets_weaker, Misses, Free}
@@ -37,45 +39,37 @@ texts_are (x ∷ xs) = ap (and_text (Some x)) (texts_are xs)
 names_are : (xs : List (List ℕ)) → names_in (name_list xs) ≡ Some xs
 names_are xs = ap texts_in (list_of-vals_of (each (λ x. text x false) xs)) ∙ texts_are xs
 
--- given this term instead of `refl`, the many cases of what follows are checked fast
-same : (b : Bool) → b ≡ b
-same b = refl
+-- what builds no macro fits anywhere
+fits_there : (code : List Instruction) (n : ℕ) (before : Before) (x : Instruction) → builds (x ∷ []) ≡ false → build_fits code n before x ≡ true
+fits_there code n before (i.BuildMacro x place caller) h = absurd (cc h)
+fits_there code n before x h = refl
 
-goes_on : (code : List Instruction) (n : ℕ) (before : List Instruction) (x : Instruction) (more : List Instruction) → builds (x ∷ []) ≡ false →
-    parts_fit code n before (x ∷ more) ≡ parts_fit code (n + 1) (x ∷ before) more
-goes_on code n before (i.BuildMacro x place caller) more h = absurd (cc h)
-goes_on code n (i.LoadConst v ∷ i.GetClosure ∷ before) x more h = same (parts_fit code (n + 1) (x ∷ i.LoadConst v ∷ i.GetClosure ∷ before) more)
-goes_on code n before x more h = same (parts_fit code (n + 1) (x ∷ before) more)
+both_fit : (a b : Bool) → a ≡ true → b ≡ true → (a && b) ≡ true
+both_fit a b e f = rw (e, f) refl
 
-built_fits : (a b c d : Bool) → a ≡ true → b ≡ false → c ≡ false → d ≡ true → (a && not b && not c && d) ≡ true
-built_fits a b c d e f g h = rw (e, f, g, h) refl
+built_fits : (a b c : Bool) → a ≡ true → b ≡ false → c ≡ false → (is_names (names_by a) && not (b || c)) ≡ true
+built_fits a b c e f g = rw (e, f, g) refl
 
-all_fit : (code : List Instruction) (cs : List Chunk) (n : ℕ) (before : List Instruction) → AllGood cs →
+all_fit : (code : List Instruction) (cs : List Chunk) (n : ℕ) (before : Before) → AllGood cs →
     AllTargets (λ t. Misses t n (flat_pieces cs)) code → parts_fit code n before (flat cs) ≡ true
 all_fit code [] n before h t = refl
 all_fit code (alone x ∷ cs) n before h t =
-    goes_on code n before x (flat cs) (alone_builds x [] h.0)
-    ∙ all_fit code cs (n + 1) (x ∷ before) h.1
-    (targets_weaker (λ t. Misses t n (ordinary ∷ flat_pieces cs)) (λ t. Misses t (n + 1) (flat_pieces cs)) code (λ t m. m.1) t)
+    both_fit (build_fits code n before x) (parts_fit code (n + 1) (before_next before x) (flat cs))
+    (fits_there code n before x (alone_builds x [] h.0))
+    (all_fit code cs (n + 1) (before_next before x) h.1
+    (targets_weaker (λ t. Misses t n (ordinary ∷ flat_pieces cs)) (λ t. Misses t (n + 1) (flat_pieces cs)) code (λ t m. m.1) t))
 all_fit code (drops ∷ cs) n before h t =
-    goes_on code n before i.Swap (i.DiscardTop ∷ flat cs) refl ∙ goes_on code (n + 1) (i.Swap ∷ before) i.DiscardTop (flat cs) refl
-    ∙ all_fit code cs (n + 1 + 1) (i.DiscardTop ∷ i.Swap ∷ before) h.1
+    all_fit code cs (n + 1 + 1) befores.Nothing h.1
     (targets_weaker (λ t. Misses t n (flat_pieces (drops ∷ cs))) (λ t. Misses t (n + 1 + 1) (flat_pieces cs)) code (λ t m. m.1.1) t)
 all_fit code (joins ∷ cs) n before h t =
-    let load = i.LoadConst (number (pos 1)) in
-    goes_on code n before i.Swap (load ∷ i.Add ∷ flat cs) refl ∙ goes_on code (n + 1) (i.Swap ∷ before) load (i.Add ∷ flat cs) refl
-    ∙ goes_on code (n + 1 + 1) (load ∷ i.Swap ∷ before) i.Add (flat cs) refl
-    ∙ all_fit code cs (n + 1 + 1 + 1) (i.Add ∷ load ∷ i.Swap ∷ before) h.1
+    all_fit code cs (n + 1 + 1 + 1) befores.Nothing h.1
     (targets_weaker (λ t. Misses t n (flat_pieces (joins ∷ cs))) (λ t. Misses t (n + 1 + 1 + 1) (flat_pieces cs)) code (λ t m. m.1.1.1) t)
 all_fit code (builds_one xs x place caller ∷ cs) n before h t =
-    let load = i.LoadConst (name_list xs) in
-    let build = i.BuildMacro x place caller in
     let here : n + 1 + 1 - 1 ≡ n + 1 = omega arith in
-    goes_on code n before i.GetClosure (load ∷ build ∷ flat cs) refl ∙ goes_on code (n + 1) (i.GetClosure ∷ before) load (build ∷ flat cs) refl
-    ∙ built_fits (is_some (names_in (name_list xs))) (is_entered code (n + 1 + 1)) (is_entered code (n + 1 + 1 - 1))
-    (parts_fit code (n + 1 + 1 + 1) [] (flat cs)) (ap is_some (names_are xs)) (third_free code n cs t)
-    (ap (is_entered code) here ∙ second_free code n cs t)
-    (all_fit code cs (n + 1 + 1 + 1) [] h.1
+    both_fit _ (parts_fit code (n + 1 + 1 + 1) befores.Nothing (flat cs))
+    (built_fits (is_some (names_in (name_list xs))) (is_entered code (n + 1 + 1)) (is_entered code (n + 1 + 1 - 1))
+    (ap is_some (names_are xs)) (third_free code n cs t) (ap (is_entered code) here ∙ second_free code n cs t))
+    (all_fit code cs (n + 1 + 1 + 1) befores.Nothing h.1
     (targets_weaker (λ t. Misses t n (flat_pieces (builds_one xs x place caller ∷ cs))) (λ t. Misses t (n + 1 + 1 + 1) (flat_pieces cs)) code
     (λ t m. m.1.1.1) t))
 
@@ -84,11 +78,11 @@ made_within : (code : List Instruction) (ps : List Piece) → InChunks code ps �
 made_within code ps h =
     all_within (length code) code (targets_weaker (Free (length code) ps) (λ t. t ≤ length code) code (λ t m. m.0) h.targets)
 
-made_fits : (code : List Instruction) (ps : List Piece) → InChunks code ps → parts_fit code 0 [] code ≡ true
+made_fits : (code : List Instruction) (ps : List Piece) → InChunks code ps → parts_fit code 0 befores.Nothing code ≡ true
 made_fits code ps h =
     let cs = h.chunked.chunks in
-    ap (parts_fit code 0 []) h.chunked.code
-    ∙ all_fit code cs 0 [] h.chunked.good
+    ap (parts_fit code 0 befores.Nothing) h.chunked.code
+    ∙ all_fit code cs 0 befores.Nothing h.chunked.good
     (targets_weaker (Free (length code) ps) (λ t. Misses t 0 (flat_pieces cs)) code (λ t m. subst (Misses t 0) h.chunked.parts m.1) h.targets)
 
 pub tree_placed : (tree : StreamTree) → is_placed (numbered (assembled (fragment_of tree))) ≡ true

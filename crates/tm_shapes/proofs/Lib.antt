@@ -2,3 +2,11 @@ pub mod Zeros
 pub mod Marking
 pub mod Rests
 pub mod CacheNames
+pub mod Levels
+pub mod MacroParts
+pub mod Orders
+pub mod Numbered
+pub mod Showing
+pub mod Alike
+pub mod Taken
+pub mod Same

@@ -236,9 +236,13 @@ has_zero (x ∷ more) = loads_zero x || has_zero more
 abbrev pub fits_as_taken : Form → List Instruction → Bool
 fits_as_taken form code = has_zero code && fits (read_groups (groups_in code)) form code
 
--- Whether a stream is accepted: with each 0 read as it is taken, or each as a value.
+-- or each as a value
+abbrev pub fits_either : Form → List Instruction → Bool
+fits_either form code = fits_as_taken form code || fits all_values form code
+
+-- Whether a stream is accepted.
 abbrev pub accepts : Form → List Instruction → Bool
-accepts form code = is_placed code && (fits_as_taken form code || fits all_values form code)
+accepts form code = is_placed code && fits_either form code
 
 -- ---------------------------------------------------------------- the rules
 -- These shapes meet the rules where runs begin so.

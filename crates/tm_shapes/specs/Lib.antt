@@ -10,6 +10,8 @@ pub mod Numbers
 pub mod Shown
 pub mod Told
 pub mod Sites
+pub mod Leading
+pub mod Verified
 pub mod Marks
 pub mod CacheNames
 pub mod Searched

@@ -1,8 +1,11 @@
 -- The numbers of cells.
-use Rattle.std.specs.Prelude.{◌≡◌, ℕ, List}
+use Rattle.std.specs.Prelude.{◌≡◌, ℕ, List, Some}
+use Rattle.std.specs.List.{Contains}
 use Rattle.tm_shapes.specs.declared.cells.Cell.{Cell}
-use Rattle.tm_shapes.specs.Cells.{AllOnce}
+use Rattle.tm_shapes.specs.Cells.{AllOnce, cell_at}
 
--- a stand-in
-abbrev pub Fit : List Cell → List (Cell × ℕ) → Type 0
-Fit cells es = AllOnce cells
+-- Each cell stands once, with its number beside it among the numbers, and there is no other number.
+pub record Fit (cells : List Cell) (es : List (Cell × ℕ)) : Type 0 where
+  pub once : AllOnce cells
+  pub sound : (q : Cell) (n : ℕ) → Contains es (q, n) → cell_at cells n ≡ Some q
+  pub complete : (n : ℕ) (q : Cell) → cell_at cells n ≡ Some q → Contains es (q, n)

@@ -2,6 +2,8 @@
 use Rattle.std.specs.Prelude.{ℕ, ◌+◌, ◌-◌, List, [], ◌∷◌, ◌++◌, length, Option, Some, None, Bool, true, false, nat_eq, nat_lt, not, is_some, ◌&&◌, ◌||◌}
 use Rattle.tm_syntax.specs.declared.instruction.Instruction.{Instruction}
 use Rattle.tm_syntax.specs.declared.instruction.Instruction.TheVariants as i
+use Rattle.tm_shapes.specs.declared.before.Before.{Before}
+use Rattle.tm_shapes.specs.declared.before.Before.TheVariants as befores
 use Rattle.tm_syntax.specs.CacheNumbers.{no_cache, cache_count}
 use Rattle.tm_syntax.specs.Named.{same_name}
 use Rattle.tm_meaning.specs.Instructions.{names_in}
@@ -67,14 +69,30 @@ caches_fit [] = true
 caches_fit (u ∷ more) = (nat_eq u.1 no_cache || (nat_lt u.1 cache_count && agrees u.0 u.1 more)) && caches_fit more
 
 -- ---------------------------------------------------------------- macros
--- Whether the parts of macros stand together, and nothing leads between them; by what stands before a place, the last first.
-abbrev pub parts_fit : List Instruction → ℕ → List Instruction → List Instruction → Bool
+-- what stands before a place after an instruction
+abbrev pub names_by : Bool → Before
+names_by true = befores.Names
+names_by false = befores.Nothing
+
+abbrev pub before_next : Before → Instruction → Before
+before_next before i.GetClosure = befores.Closure
+before_next befores.Closure (i.LoadConst v) = names_by (is_some (names_in v))
+before_next before x = befores.Nothing
+
+abbrev pub is_names : Before → Bool
+is_names befores.Names = true
+is_names before = false
+
+-- A macro is built after its other parts, and nothing leads between them.
+abbrev pub build_fits : List Instruction → ℕ → Before → Instruction → Bool
+build_fits code n before (i.BuildMacro x place caller) = is_names before && not (is_entered code n || is_entered code (n - 1))
+build_fits code n before x = true
+
+-- whether the parts of macros stand together in what is left of code from a place
+abbrev pub parts_fit : List Instruction → ℕ → Before → List Instruction → Bool
 parts_fit code n before [] = true
-parts_fit code n (i.LoadConst v ∷ i.GetClosure ∷ before) (i.BuildMacro x place caller ∷ more) =
-    is_some (names_in v) && not (is_entered code n) && not (is_entered code (n - 1)) && parts_fit code (n + 1) [] more
-parts_fit code n before (i.BuildMacro x place caller ∷ more) = false
-parts_fit code n before (x ∷ more) = parts_fit code (n + 1) (x ∷ before) more
+parts_fit code n before (x ∷ more) = build_fits code n before x && parts_fit code (n + 1) (before_next before x) more
 
 -- ---------------------------------------------------------------- all of it
 abbrev pub is_placed : List Instruction → Bool
-is_placed code = targets_within (length code) code && caches_fit (filters_in code) && caches_fit (tests_in code) && parts_fit code 0 [] code
+is_placed code = targets_within (length code) code && caches_fit (filters_in code) && caches_fit (tests_in code) && parts_fit code 0 befores.Nothing code

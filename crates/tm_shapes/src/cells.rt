@@ -1,4 +1,5 @@
-//! Stacks that share what lies below: each is the number of its topmost cell, and the same stack has one number, so that two are compared at once.
+//! Stacks that share what lies below: each is the number of its topmost cell, and the same stack has
+//! one number, so that two are compared at once.
 ghost use Rattle.std.specs.Prelude.{◌≡◌, [], IfOk, Some};
 ghost use Rattle.tm_shapes.specs.Cells.{AllOnce, Grown, cell_at};
 

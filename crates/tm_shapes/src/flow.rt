@@ -1,11 +1,26 @@
 //! Where an instruction leads from what stands at its place: the table of instructions.
+ghost use Rattle.std.specs.Prelude.{◌≡◌, ◌∷◌, ◌+◌, List, None, Some, IfOk, length};
+ghost use Rattle.std.specs.Option.{option_map};
+ghost use Rattle.tm_meaning.specs.Instructions.{names_in, texts_in};
+ghost use Rattle.tm_meaning.specs.World.{choose};
+ghost use Rattle.tm_shapes.specs.Cells.{Grown, IsLevel, Special, capture_item};
+ghost use Rattle.tm_shapes.specs.Flows.{Flow as Told, add, are, build_macro, did_not_iterate, end_capture, flow_of, get_closure};
+ghost use Rattle.tm_shapes.specs.Flows.{iterate, jump_if, jump_or_pop, load, load_names, load_zero, next, on, on_loop, pop};
+ghost use Rattle.tm_shapes.specs.Flows.{pop_escape, pop_frame, pop_loop, push_escape, push_loop, refused, replaces};
+ghost use Rattle.tm_shapes.specs.Flows.{replaces_counted, returns, swap_group, swap_over, swap_zero, unpack_lists, with_captures, with_frames};
+ghost use Rattle.tm_shapes.specs.Leading.{AreMacroParts, IsLoopEnded, IsOpened, IsTopFrame, TellsOf, TellsThere};
+ghost use Rattle.tm_shapes.specs.Shapes.{Part, Shape as Spec};
+ghost use Rattle.tm_shapes.specs.Shown.{Shows};
+ghost use Rattle.tm_shapes.specs.declared.cells.Cell.{Cell as Celled};
+ghost use Rattle.tm_shapes.specs.declared.kind.Kind.TheVariants.{Value as value};
+
 use crate::cells::{Cell, Cells, Item, Level};
 use crate::kind::{Frame, Kind, Reading};
 use crate::shape::Shape;
 use crate::site::{Site, is_one, is_zero};
 use std::alloc::AllocError;
 use tm_syntax::{CaptureMode, Instruction, LoopFlags};
-use tm_values::{Node, Value};
+use tm_values::Value;
 
 /// Where an instruction leads.
 #[derive(Clone, Copy)]
@@ -30,20 +45,25 @@ pub(crate) struct Flow {
 }
 
 /// It takes no 0 as a group.
-fn plain(way: Way) -> Flow {
+fn plain(way: Way) -> Flow
+    ensures { result ≡ record { taken = None; way = way } }
+{
     Flow { taken: None, way }
 }
 
-/// On to the next place with a value more than stays, where something stays.
-fn valued(left: Option<Shape>) -> Result<Flow, AllocError> {
-    match left {
-        Some(left) => Ok(plain(Way::On(left.pushed(1)?))),
-        None => Ok(plain(Way::Refused)),
-    }
+/// On to the next place with a value more than stays.
+fn valued(left: Shape) -> Result<Flow, AllocError>
+    ensures { IfOk result (λ made. (cells : List Celled) →
+        TellsOf cells cells left made (λ site s. next site (value ∷ s.part.operands) s)) }
+{
+    Ok(plain(Way::On(left.pushed(1)?)))
 }
 
 /// So many values are replaced by so many.
-fn replaces(cells: &Cells, shape: Shape, taken: usize, given: usize) -> Result<Flow, AllocError> {
+fn replaces(cells: &Cells, shape: Shape, taken: usize, given: usize) -> Result<Flow, AllocError>
+    ensures { IfOk result (λ made.
+        TellsOf cells.now cells.now shape made (λ site s. replaces site taken given s)) }
+{
     match shape.without(cells, taken) {
         Some(left) => Ok(plain(Way::On(left.pushed(given)?))),
         None => Ok(plain(Way::Refused)),
@@ -51,17 +71,23 @@ fn replaces(cells: &Cells, shape: Shape, taken: usize, given: usize) -> Result<F
 }
 
 /// So many pairs are replaced by a value.
-fn replaces_pairs(cells: &Cells, shape: Shape, count: usize) -> Result<Flow, AllocError> {
+fn replaces_pairs(cells: &Cells, shape: Shape, count: usize) -> Result<Flow, AllocError>
+    ensures { IfOk result (λ made.
+        TellsOf cells.now cells.now shape made (λ site s. replaces site (count + count) 1 s)) }
+{
     match shape.without(cells, count) {
-        Some(left) => valued(left.without(cells, count)),
+        Some(left) => replaces(cells, left, count, 1),
         None => Ok(plain(Way::Refused)),
     }
 }
 
 /// A group is replaced by a value.
-fn replaces_group(cells: &Cells, shape: Shape) -> Result<Flow, AllocError> {
+fn replaces_group(cells: &Cells, shape: Shape) -> Result<Flow, AllocError>
+    ensures { IfOk result (λ made.
+        TellsOf cells.now cells.now shape made (λ site s. replaces_counted site None s)) }
+{
     match shape.pop(cells) {
-        Some((Kind::Group(_), left)) => valued(Some(left)),
+        Some((Kind::Group(_), left)) => valued(left),
         Some((Kind::Zero(place), left)) => Ok(Flow {
             taken: Some(place),
             way: Way::On(left.pushed(1)?),
@@ -71,50 +97,74 @@ fn replaces_group(cells: &Cells, shape: Shape) -> Result<Flow, AllocError> {
 }
 
 /// So many values, or a group, are replaced by a value.
-fn replaces_counted(cells: &Cells, shape: Shape, count: &Option<usize>) -> Result<Flow, AllocError> {
+fn replaces_counted(cells: &Cells, shape: Shape, count: &Option<usize>) -> Result<Flow, AllocError>
+    ensures { IfOk result (λ made.
+        TellsOf cells.now cells.now shape made (λ site s. replaces_counted site count.now s)) }
+{
     match count {
         Some(count) => replaces(cells, shape, *count, 1),
         None => replaces_group(cells, shape),
     }
 }
 
-/// With an operand of this kind.
-fn on_with(cells: &mut Cells, shape: Shape, kind: Kind) -> Result<Flow, AllocError> {
+/// With an operand of this kind, which is no value.
+fn on_with(cells: &mut Cells, shape: Shape, kind: Kind) -> Result<Flow, AllocError>
+    requires { Special kind }
+    ensures told { IfOk result (λ made.
+        TellsOf cells.old cells.new shape made (λ site s. next site (kind ∷ s.part.operands) s)) }
+    ensures grown { Grown cells.old cells.new }
+{
     Ok(plain(Way::On(shape.with(cells, kind)?)))
 }
 
+/// How many texts values are, where each is one.
+fn text_count(values: &[Value]) -> Option<usize>
+    ensures { result ≡ option_map length (texts_in values.now) }
+{
+    for value in values {
+        value.as_str()?;
+    }
+    Some(values.len())
+}
+
 /// How many names a literal list of texts has.
-pub(crate) fn name_count(value: &Value) -> Option<usize> {
-    match &value.node {
-        Node::List(items, _) => {
-            for item in items.as_slice() {
-                match &item.node {
-                    Node::Text(_, _) => {}
-                    _ => return None,
-                }
-            }
-            Some(items.len())
-        }
-        _ => None,
+pub(crate) fn name_count(value: &Value) -> Option<usize>
+    ensures { result ≡ option_map length (names_in value.now) }
+{
+    match value.as_list() {
+        Some(items) => text_count(items),
+        None => None,
     }
 }
 
-fn load_names(cells: &mut Cells, shape: Shape, value: &Value) -> Result<Flow, AllocError> {
+fn load_names(cells: &mut Cells, shape: Shape, value: &Value) -> Result<Flow, AllocError>
+    ensures told { IfOk result (λ made.
+        TellsOf cells.old cells.new shape made (λ site s. load_names (names_in value.now) site s)) }
+    ensures grown { Grown cells.old cells.new }
+{
     match name_count(value) {
         Some(count) => on_with(cells, shape, Kind::Names(count)),
         None => Ok(plain(Way::Refused)),
     }
 }
 
-fn load_zero(cells: &mut Cells, at: &Site<'_>, shape: Shape) -> Result<Flow, AllocError> {
+fn load_zero(cells: &mut Cells, at: &Site<'_>, shape: Shape) -> Result<Flow, AllocError>
+    ensures told { IfOk result (λ made.
+        TellsThere at.now cells.old cells.new shape made (λ site s. load_zero site s)) }
+    ensures grown { Grown cells.old cells.new }
+{
     match at.reading {
         Reading::Group => on_with(cells, shape, Kind::Group(Some(at.place))),
         Reading::Open if shape.operands() == 0 => on_with(cells, shape, Kind::Zero(at.place)),
-        _ => valued(Some(shape)),
+        _ => valued(shape),
     }
 }
 
-fn load(cells: &mut Cells, at: &Site<'_>, shape: Shape, value: &Value) -> Result<Flow, AllocError> {
+fn load(cells: &mut Cells, at: &Site<'_>, shape: Shape, value: &Value) -> Result<Flow, AllocError>
+    ensures told { IfOk result (λ made.
+        TellsThere at.now cells.old cells.new shape made (λ site s. load site value.now s)) }
+    ensures grown { Grown cells.old cells.new }
+{
     if at.builds() {
         load_names(cells, shape, value)
     } else if at.is_between() && is_one(value) {
@@ -122,28 +172,41 @@ fn load(cells: &mut Cells, at: &Site<'_>, shape: Shape, value: &Value) -> Result
     } else if is_zero(value) {
         load_zero(cells, at, shape)
     } else {
-        valued(Some(shape))
+        valued(shape)
     }
 }
 
-fn get_closure(cells: &mut Cells, at: &Site<'_>, shape: Shape) -> Result<Flow, AllocError> {
+fn get_closure(cells: &mut Cells, at: &Site<'_>, shape: Shape) -> Result<Flow, AllocError>
+    ensures told { IfOk result (λ made.
+        TellsThere at.now cells.old cells.new shape made (λ site s. get_closure site s)) }
+    ensures grown { Grown cells.old cells.new }
+{
     if at.builds_after() {
         on_with(cells, shape, Kind::Closure)
     } else {
-        valued(Some(shape))
+        valued(shape)
     }
 }
 
 /// The number of names and what stays without them and a closure, where these are on top.
-fn macro_parts(cells: &Cells, shape: Shape) -> Option<(usize, Shape)> {
+fn macro_parts(cells: &Cells, shape: Shape) -> Option<(usize, Shape)>
+    ensures { (s : Spec) → Shows cells.now shape s → AreMacroParts cells.now s result }
+{
     let (kind, left) = shape.pop(cells)?;
-    match (kind, left.pop(cells)?) {
-        (Kind::Names(count), (Kind::Closure, left)) => Some((count, left)),
+    let Kind::Names(count) = kind else {
+        return None;
+    };
+    let (kind, left) = left.pop(cells)?;
+    match kind {
+        Kind::Closure => Some((count, left)),
         _ => None,
     }
 }
 
-fn build_macro(cells: &Cells, at: &Site<'_>, shape: Shape, place: usize) -> Result<Flow, AllocError> {
+fn build_macro(cells: &Cells, at: &Site<'_>, shape: Shape, place: usize) -> Result<Flow, AllocError>
+    ensures { IfOk result (λ made. TellsThere at.now cells.now cells.now shape made
+        (λ site s. build_macro site place s s.part.operands)) }
+{
     match macro_parts(cells, shape) {
         Some((count, left)) => {
             let next = left.pushed(1)?;
@@ -157,53 +220,124 @@ fn build_macro(cells: &Cells, at: &Site<'_>, shape: Shape, place: usize) -> Resu
     }
 }
 
-fn swap(cells: &mut Cells, at: &Site<'_>, shape: Shape) -> Result<Flow, AllocError> {
-    let left = match shape.without(cells, 1) {
-        Some(left) => left,
-        None => return Ok(plain(Way::Refused)),
-    };
-    match left.pop(cells) {
-        Some((Kind::Group(origin), left)) if at.is_row() => on_with(cells, left, Kind::Opened(origin)),
-        Some((Kind::Group(_), _)) => Ok(plain(Way::Refused)),
-        Some((Kind::Zero(place), left)) if at.is_row() => Ok(Flow {
-            taken: Some(place),
-            way: Way::On(left.with(cells, Kind::Opened(Some(place)))?),
-        }),
-        _ => replaces(cells, left, 1, 2),
+/// A value over a group of a place goes into it by `Swap`, `LoadConst 1` and `Add` alone.
+fn swap_group(
+    cells: &mut Cells,
+    at: &Site<'_>,
+    left: Shape,
+    origin: Option<usize>,
+) -> Result<Flow, AllocError>
+    ensures told { IfOk result (λ made. TellsThere at.now cells.old cells.new left made
+        (λ site s. swap_group site s origin s.part.operands)) }
+    ensures grown { Grown cells.old cells.new }
+{
+    if at.is_row() {
+        on_with(cells, left, Kind::Opened(origin))
+    } else {
+        Ok(plain(Way::Refused))
     }
 }
 
-/// Of which place the count of a group is that was opened, and what stays without it and the 1 over it.
-fn opened(cells: &Cells, shape: Shape) -> Option<(Option<usize>, Shape)> {
+/// A value over the 0 of a place goes into it by these, as into a group of none; else it is
+/// swapped with it as with a value.
+fn swap_zero(
+    cells: &mut Cells,
+    at: &Site<'_>,
+    left: Shape,
+    place: usize,
+) -> Result<Flow, AllocError>
+    ensures told { IfOk result (λ made. TellsThere at.now cells.old cells.new left made
+        (λ site s. swap_zero site s place s.part.operands)) }
+    ensures grown { Grown cells.old cells.new }
+{
+    if at.is_row() {
+        Ok(Flow {
+            taken: Some(place),
+            way: Way::On(left.with(cells, Kind::Opened(Some(place)))?),
+        })
+    } else {
+        Ok(plain(Way::On(left.pushed(2)?)))
+    }
+}
+
+/// A value is swapped with what lies below it, which is on top here.
+fn swap_over(cells: &mut Cells, at: &Site<'_>, shape: Shape) -> Result<Flow, AllocError>
+    ensures told { IfOk result (λ made. TellsThere at.now cells.old cells.new shape made
+        (λ site s. swap_over site s s.part.operands)) }
+    ensures grown { Grown cells.old cells.new }
+{
+    let Some((kind, left)) = shape.pop(cells) else {
+        return Ok(plain(Way::Refused));
+    };
+    match kind {
+        Kind::Group(origin) => swap_group(cells, at, left, origin),
+        Kind::Zero(place) => swap_zero(cells, at, left, place),
+        _ => replaces(cells, shape, 1, 2),
+    }
+}
+
+fn swap(cells: &mut Cells, at: &Site<'_>, shape: Shape) -> Result<Flow, AllocError>
+    ensures told { IfOk result (λ made. TellsThere at.now cells.old cells.new shape made
+        (λ site s. pop s.part.operands (swap_over site s))) }
+    ensures grown { Grown cells.old cells.new }
+{
+    match shape.without(cells, 1) {
+        Some(left) => swap_over(cells, at, left),
+        None => Ok(plain(Way::Refused)),
+    }
+}
+
+/// Of which place the count of a group is that was opened, and what stays without it and the 1
+/// over it.
+fn opened(cells: &Cells, shape: Shape) -> Option<(Option<usize>, Shape)>
+    ensures { (s : Spec) → Shows cells.now shape s → IsOpened cells.now s result }
+{
     let (kind, left) = shape.pop(cells)?;
-    match (kind, left.pop(cells)?) {
-        (Kind::One, (Kind::Opened(origin), left)) => Some((origin, left)),
+    let Kind::One = kind else {
+        return None;
+    };
+    let (kind, left) = left.pop(cells)?;
+    match kind {
+        Kind::Opened(origin) => Some((origin, left)),
         _ => None,
     }
 }
 
-fn add(cells: &mut Cells, shape: Shape) -> Result<Flow, AllocError> {
+fn add(cells: &mut Cells, shape: Shape) -> Result<Flow, AllocError>
+    ensures told { IfOk result (λ made.
+        TellsOf cells.old cells.new shape made (λ site s. add site s s.part.operands)) }
+    ensures grown { Grown cells.old cells.new }
+{
     match opened(cells, shape) {
         Some((origin, left)) => on_with(cells, left, Kind::Group(origin)),
         None => replaces(cells, shape, 2, 1),
     }
 }
 
-fn unpack_lists(cells: &mut Cells, shape: Shape, count: usize) -> Result<Flow, AllocError> {
+fn unpack_lists(cells: &mut Cells, shape: Shape, count: usize) -> Result<Flow, AllocError>
+    ensures told { IfOk result (λ made.
+        TellsOf cells.old cells.new shape made (λ site s. unpack_lists site count s)) }
+    ensures grown { Grown cells.old cells.new }
+{
     match shape.without(cells, count) {
         Some(left) => on_with(cells, left, Kind::Group(None)),
         None => Ok(plain(Way::Refused)),
     }
 }
 
-fn jump_if(cells: &Cells, shape: Shape, place: usize) -> Flow {
+fn jump_if(cells: &Cells, shape: Shape, place: usize) -> Flow
+    ensures { TellsOf cells.now cells.now shape result (λ site s. jump_if site place s) }
+{
     match shape.without(cells, 1) {
         Some(left) => plain(Way::Either(left, place, left)),
         None => plain(Way::Refused),
     }
 }
 
-fn jump_or_pop(cells: &Cells, shape: Shape, place: usize) -> Result<Flow, AllocError> {
+fn jump_or_pop(cells: &Cells, shape: Shape, place: usize) -> Result<Flow, AllocError>
+    ensures { IfOk result (λ made.
+        TellsOf cells.now cells.now shape made (λ site s. jump_or_pop site place s)) }
+{
     match shape.without(cells, 1) {
         Some(left) => Ok(plain(Way::Either(left, place, left.pushed(1)?))),
         None => Ok(plain(Way::Refused)),
@@ -211,7 +345,12 @@ fn jump_or_pop(cells: &Cells, shape: Shape, place: usize) -> Result<Flow, AllocE
 }
 
 // ---------------------------------------------------------------- scopes, loops, captures and escapes
-fn push_frame(cells: &mut Cells, shape: Shape, frame: Frame) -> Result<Flow, AllocError> {
+fn push_frame(cells: &mut Cells, shape: Shape, frame: Frame) -> Result<Flow, AllocError>
+    ensures told { IfOk result (λ made.
+        TellsOf cells.old cells.new shape made
+        (λ site s. on site (with_frames (frame ∷ s.part.frames) s))) }
+    ensures grown { Grown cells.old cells.new }
+{
     let frames = cells.put(Cell {
         item: Item::Frame(frame),
         below: shape.level.frames,
@@ -223,12 +362,13 @@ fn push_frame(cells: &mut Cells, shape: Shape, frame: Frame) -> Result<Flow, All
 }
 
 /// The innermost scope of the part, and those without it.
-fn top_frame(cells: &Cells, level: Level) -> Option<(Frame, Level)> {
-    match cells.get(level.frames)? {
-        Cell {
-            item: Item::Frame(frame),
-            below,
-        } => Some((
+fn top_frame(cells: &Cells, level: Level) -> Option<(Frame, Level)>
+    ensures { (part : Part) → IsLevel cells.now level part →
+        IsTopFrame cells.now level part result }
+{
+    let Cell { item, below } = cells.get(level.frames)?;
+    match item {
+        Item::Frame(frame) => Some((
             frame,
             Level {
                 frames: below,
@@ -239,7 +379,9 @@ fn top_frame(cells: &Cells, level: Level) -> Option<(Frame, Level)> {
     }
 }
 
-fn pop_frame(cells: &Cells, shape: Shape) -> Flow {
+fn pop_frame(cells: &Cells, shape: Shape) -> Flow
+    ensures { TellsOf cells.now cells.now shape result (λ site s. pop_frame site s s.part.frames) }
+{
     match top_frame(cells, shape.level) {
         Some((Frame::Scope, level)) => plain(Way::On(shape.at_level(level))),
         _ => plain(Way::Refused),
@@ -247,7 +389,11 @@ fn pop_frame(cells: &Cells, shape: Shape) -> Flow {
 }
 
 /// A loop that can be called begins a part.
-fn push_loop(cells: &mut Cells, shape: Shape, flags: &LoopFlags) -> Result<Flow, AllocError> {
+fn push_loop(cells: &mut Cells, shape: Shape, flags: &LoopFlags) -> Result<Flow, AllocError>
+    ensures told { IfOk result (λ made.
+        TellsOf cells.old cells.new shape made (λ site s. push_loop site flags.now s)) }
+    ensures grown { Grown cells.old cells.new }
+{
     match shape.without(cells, 1) {
         Some(left) if flags.recursive => Ok(plain(Way::On(left.in_part(cells)?))),
         Some(left) => {
@@ -260,7 +406,10 @@ fn push_loop(cells: &mut Cells, shape: Shape, flags: &LoopFlags) -> Result<Flow,
 }
 
 /// Whether the innermost scope is a loop's.
-fn is_in_loop(cells: &Cells, shape: Shape) -> bool {
+fn is_in_loop(cells: &Cells, shape: Shape) -> bool
+    ensures { (s : Spec) (f : Told) → Shows cells.now shape s →
+        on_loop s.part.frames s.below f ≡ choose result (λ _. f) (λ _. refused) }
+{
     match top_frame(cells, shape.level) {
         Some((Frame::Loop(_, _, _), _)) => true,
         Some((Frame::Scope, _)) => false,
@@ -268,7 +417,10 @@ fn is_in_loop(cells: &Cells, shape: Shape) -> bool {
     }
 }
 
-fn iterate(cells: &Cells, shape: Shape, place: usize) -> Result<Flow, AllocError> {
+fn iterate(cells: &Cells, shape: Shape, place: usize) -> Result<Flow, AllocError>
+    ensures { IfOk result (λ made.
+        TellsOf cells.now cells.now shape made (λ site s. iterate site place s)) }
+{
     if is_in_loop(cells, shape) {
         Ok(plain(Way::Either(shape.pushed(1)?, place, shape)))
     } else {
@@ -276,42 +428,60 @@ fn iterate(cells: &Cells, shape: Shape, place: usize) -> Result<Flow, AllocError
     }
 }
 
-fn did_not_iterate(cells: &Cells, shape: Shape) -> Result<Flow, AllocError> {
+fn did_not_iterate(cells: &Cells, shape: Shape) -> Result<Flow, AllocError>
+    ensures { IfOk result (λ made.
+        TellsOf cells.now cells.now shape made (λ site s. did_not_iterate site s)) }
+{
     if is_in_loop(cells, shape) {
-        valued(Some(shape))
+        valued(shape)
     } else {
         Ok(plain(Way::Refused))
     }
 }
 
-fn pop_loop(cells: &Cells, shape: Shape) -> Flow {
-    let left = match top_frame(cells, shape.level) {
+/// What stays without the innermost loop, where what was opened in it is closed.
+fn without_loop(cells: &Cells, shape: Shape) -> Option<Shape>
+    ensures { (s : Spec) → Shows cells.now shape s → IsLoopEnded cells.now s result }
+{
+    match top_frame(cells, shape.level) {
         Some((Frame::Loop(_, open, escapes), level))
-            if level.open == open && level.escapes == escapes =>
-        {
-            Some(shape.at_level(level))
-        }
+            if level.open == open && level.escapes == escapes => { Some(shape.at_level(level)) }
         Some(_) => None,
         None if shape.level.open == 0 && shape.level.escapes == 0 => shape.without_part(cells),
         None => None,
-    };
-    match left {
+    }
+}
+
+fn pop_loop(cells: &Cells, shape: Shape) -> Flow
+    ensures { TellsOf cells.now cells.now shape result (λ site s. pop_loop site s s.part.frames) }
+{
+    match without_loop(cells, shape) {
         Some(left) => plain(Way::On(left)),
         None => plain(Way::Refused),
     }
 }
 
-fn begin_capture(cells: &mut Cells, shape: Shape, mode: &CaptureMode) -> Result<Flow, AllocError> {
+/// A capture on the stack of captures.
+fn capture_item(mode: &CaptureMode) -> Item
+    ensures { result ≡ capture_item mode.now }
+{
+    match mode {
+        CaptureMode::Capture => Item::Capture,
+        CaptureMode::Discard => Item::Discard,
+    }
+}
+
+fn begin_capture(cells: &mut Cells, shape: Shape, mode: &CaptureMode) -> Result<Flow, AllocError>
+    ensures told { IfOk result (λ made. TellsOf cells.old cells.new shape made
+        (λ site s. on site (with_captures (mode.now ∷ s.part.captures) s))) }
+    ensures grown { Grown cells.old cells.new }
+{
     let open = match shape.level.open.checked_add(1) {
         Some(open) => open,
         None => return Err(AllocError),
     };
-    let item = match mode {
-        CaptureMode::Capture => Item::Capture,
-        CaptureMode::Discard => Item::Discard,
-    };
     let captures = cells.put(Cell {
-        item,
+        item: capture_item(mode),
         below: shape.level.captures,
     })?;
     Ok(plain(Way::On(shape.at_level(Level {
@@ -321,7 +491,10 @@ fn begin_capture(cells: &mut Cells, shape: Shape, mode: &CaptureMode) -> Result<
     }))))
 }
 
-fn end_capture(cells: &Cells, shape: Shape) -> Result<Flow, AllocError> {
+fn end_capture(cells: &Cells, shape: Shape) -> Result<Flow, AllocError>
+    ensures { IfOk result (λ made.
+        TellsOf cells.now cells.now shape made (λ site s. end_capture site s s.part.captures)) }
+{
     let level = shape.level;
     match (cells.get(level.captures), level.open.checked_sub(1)) {
         (Some(cell), Some(open)) => {
@@ -330,13 +503,16 @@ fn end_capture(cells: &Cells, shape: Shape) -> Result<Flow, AllocError> {
                 open,
                 ..level
             };
-            valued(Some(shape.at_level(level)))
+            valued(shape.at_level(level))
         }
         _ => Ok(plain(Way::Refused)),
     }
 }
 
-fn push_escape(cells: &Cells, shape: Shape) -> Result<Flow, AllocError> {
+fn push_escape(cells: &Cells, shape: Shape) -> Result<Flow, AllocError>
+    ensures { IfOk result (λ made.
+        TellsOf cells.now cells.now shape made (λ site s. push_escape site s)) }
+{
     let escapes = match shape.level.escapes.checked_add(1) {
         Some(escapes) => escapes,
         None => return Err(AllocError),
@@ -350,7 +526,10 @@ fn push_escape(cells: &Cells, shape: Shape) -> Result<Flow, AllocError> {
     }
 }
 
-fn pop_escape(shape: Shape) -> Flow {
+fn pop_escape(shape: Shape) -> Flow
+    ensures { (cells : List Celled) →
+        TellsOf cells cells shape result (λ site s. pop_escape site s s.part.escapes) }
+{
     match shape.level.escapes.checked_sub(1) {
         Some(escapes) => plain(Way::On(shape.at_level(Level {
             escapes,
@@ -360,12 +539,22 @@ fn pop_escape(shape: Shape) -> Flow {
     }
 }
 
-fn returns(at: &Site<'_>, shape: Shape) -> Flow {
-    let is_left = match at.returned {
+/// Whether as many operands are left as is asked.
+fn leaves(at: &Site<'_>, shape: Shape) -> bool
+    ensures { (cells : List Celled) (s : Spec) → Shows cells shape s →
+        result ≡ are at.now.returned s.part.operands }
+{
+    match at.returned {
         Some(count) => shape.operands() == count,
         None => true,
-    };
-    if shape.is_closed() && is_left {
+    }
+}
+
+fn returns(at: &Site<'_>, shape: Shape) -> Flow
+    ensures { (cells : List Celled) →
+        TellsThere at.now cells cells shape result (λ site s. returns site s) }
+{
+    if shape.is_closed() && leaves(at, shape) {
         plain(Way::Ends)
     } else {
         plain(Way::Refused)
@@ -378,7 +567,11 @@ pub(crate) fn flow_of(
     at: &Site<'_>,
     instruction: &Instruction,
     shape: Shape,
-) -> Result<Flow, AllocError> {
+) -> Result<Flow, AllocError>
+    ensures told { IfOk result (λ made. TellsThere at.now cells.old cells.new shape made
+        (λ site s. flow_of site instruction.now s)) }
+    ensures grown { Grown cells.old cells.new }
+{
     match instruction {
         Instruction::EmitRaw(_) => replaces(cells, shape, 0, 0),
         Instruction::Emit => replaces(cells, shape, 1, 0),

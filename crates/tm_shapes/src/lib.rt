@@ -2,6 +2,7 @@
 //! where a search finds shapes.
 #![tactic(auto)]
 
+mod before;
 mod cells;
 mod flow;
 mod kind;
@@ -12,6 +13,9 @@ mod rows;
 mod search;
 mod shape;
 mod site;
+mod verifier;
 
+pub use before::Before;
 pub use kind::{Form, Frame, Kind, Reading};
+pub use verifier::{Verified, verify};
 pub use rows::{end_rows, form_rows, group_rows, loop_rows, placed_rows, shape_rows, way_rows};

@@ -1,9 +1,12 @@
 //! What is tested at every instruction of a stream, reached or not.
-ghost use Rattle.std.specs.Prelude.{◌≡◌, ◌&&◌, IfOk, MatchOption, [], false, length, true};
+ghost use Rattle.std.specs.Prelude.{◌≡◌, ◌&&◌, IfOk, MatchOption, List, false, length, true};
+ghost use Rattle.tm_shapes.specs.declared.before.Before.TheVariants.{Nothing};
+ghost use Rattle.tm_syntax.specs.declared.instruction.Instruction.{Instruction as Made};
 ghost use Rattle.tm_shapes.specs.CacheNames.{CachesRefused, CachesTaken, names_of, no_names, taken, told};
 ghost use Rattle.tm_shapes.specs.Marks.{AreMarks, MarkEntered, is_among, with_mark};
-ghost use Rattle.tm_shapes.specs.Placed.{caches_fit, filters_in, parts_fit, target, targets_within, tests_in};
+ghost use Rattle.tm_shapes.specs.Placed.{before_next, build_fits, caches_fit, filters_in, parts_fit, target, targets_within, tests_in};
 
+use crate::before::Before;
 use crate::flow::name_count;
 use crate::site::is_marked;
 use std::alloc::{AllocError, Global};
@@ -141,40 +144,45 @@ pub(crate) fn caches_fit(alloc: Global, code: &[Instruction]) -> Result<bool, Al
     Ok(true)
 }
 
-/// What stands before a place of the parts of a macro.
-#[derive(Clone, Copy, PartialEq, Eq)]
-enum Before {
-    /// None of them.
-    Nothing,
-    /// `GetClosure`.
-    Closure,
-    /// That, and the names of parameters.
-    Names,
+/// What stands before a place after an instruction.
+fn before_next(before: Before, instruction: &Instruction) -> Before
+    ensures { result ≡ before_next before instruction.now }
+{
+    match (before, instruction) {
+        (_, Instruction::GetClosure) => Before::Closure,
+        (Before::Closure, Instruction::LoadConst(value)) => match name_count(value) {
+            Some(_) => Before::Names,
+            None => Before::Nothing,
+        },
+        _ => Before::Nothing,
+    }
+}
+
+/// Whether a macro that is built at a place is built after its other parts, and nothing leads between them.
+fn build_fits(before: Before, instruction: &Instruction, entered: &[bool], place: usize) -> bool
+    ensures { (code : List Made) → AreMarks code entered.now →
+        result ≡ build_fits code place before instruction.now }
+{
+    match instruction {
+        Instruction::BuildMacro(_, _, _) => {
+            before == Before::Names
+                && !(is_marked(entered, place) || is_marked(entered, place.saturating_sub(1)))
+        }
+        _ => true,
+    }
 }
 
 /// Whether the parts of macros stand together, and nothing leads between them.
 pub(crate) fn parts_fit(code: &[Instruction], entered: &[bool]) -> bool
     requires { AreMarks code.now entered.now }
-    ensures { result ≡ parts_fit code.now 0 [] code.now }
+    ensures { result ≡ parts_fit code.now 0 Nothing code.now }
 {
     let mut before = Before::Nothing;
     for (place, instruction) in code.iter().enumerate() {
-        before = match instruction {
-            Instruction::GetClosure => Before::Closure,
-            Instruction::LoadConst(value) if before == Before::Closure => {
-                match name_count(value) {
-                    Some(_) => Before::Names,
-                    None => Before::Nothing,
-                }
-            }
-            Instruction::BuildMacro(_, _, _) => {
-                if before != Before::Names || is_marked(entered, place) || is_marked(entered, place.wrapping_sub(1)) {
-                    return false;
-                }
-                Before::Nothing
-            }
-            _ => Before::Nothing,
-        };
+        if !build_fits(before, instruction, entered, place) {
+            return false;
+        }
+        before = before_next(before, instruction);
     }
     true
 }

@@ -1,5 +1,5 @@
 //! What stands at a place, by its stacks.
-ghost use Rattle.std.specs.Prelude.{◌≡◌, ◌∷◌, List, IfOk, length};
+ghost use Rattle.std.specs.Prelude.{◌≡◌, ◌≤◌, ◌+◌, ◌∷◌, List, IfOk, IfSome, length};
 ghost use Rattle.tm_shapes.specs.Accepts.{same_shape};
 ghost use Rattle.tm_shapes.specs.Cells.{AllOnce, Grown, IsLevel, Special};
 ghost use Rattle.tm_shapes.specs.Flows.{is_closed, with_operands};
@@ -28,7 +28,10 @@ pub(crate) struct Shape {
 }
 
 /// Nothing is open over so many operands.
-fn no_level(floor: usize) -> Level {
+fn no_level(floor: usize) -> Level
+    ensures none { (cells : List Celled) → IsLevel cells result no_part }
+    ensures floor { result.floor ≡ floor }
+{
     Level {
         frames: 0,
         captures: 0,
@@ -54,8 +57,9 @@ impl Shape {
 
     /// How many operands the innermost part has.
     pub(crate) fn operands(&self) -> usize
-        ensures { (cells : List Celled) (s : Spec) → Shows cells self.now s →
+        ensures counted { (cells : List Celled) (s : Spec) → Shows cells self.now s →
             result ≡ length s.part.operands }
+        ensures within { result ≤ self.now.height }
     {
         self.height.saturating_sub(self.level.floor)
     }
@@ -100,7 +104,8 @@ impl Shape {
 
     /// The topmost operand of the innermost part, and what stays without it.
     pub(crate) fn pop(self, cells: &Cells) -> Option<(Kind, Shape)>
-        ensures { (s : Spec) → Shows cells.now self s → IsPopped cells.now s result }
+        ensures popped { (s : Spec) → Shows cells.now self s → IsPopped cells.now s result }
+        ensures lower { IfSome result (λ p. p.1.height + 1 ≡ self.height) }
     {
         if self.height <= self.level.floor {
             return None;
@@ -184,7 +189,7 @@ impl Shape {
         })
     }
 
-    /// Without the innermost part, whose operands lie over those below; where another part is below.
+    /// Without the innermost part, whose operands lie over those below, where there is another one.
     pub(crate) fn without_part(self, cells: &Cells) -> Option<Shape>
         ensures { (s : Spec) → Shows cells.now self s → IsLower cells.now s result }
     {

@@ -1,9 +1,8 @@
-use Rattle.std.proofs.Common.{◌≡◌, drop, List}
-use Rattle.tm_syntax.specs.declared.instruction.Instruction.{Instruction}
-use Rattle.tm_shapes.specs.MacroParts.{Stands}
+use Rattle.std.proofs.Common.{◌≡◌, drop}
 use Rattle.tm_shapes.specs.Placed.{parts_fit}
+use Rattle.tm_shapes.specs.declared.before.Before.TheVariants.{Nothing}
 use Rattle.tm_shapes.proofs.placed.parts_fit.Given as goal
 
--- What is left fits, after what stands before it, where all does.
-abbrev pub invariant-loop-place-instruction : goal.invariant-loop-place-instruction
-invariant-loop-place-instruction l = ?
+-- What is left fits where all does.
+abbrev pub invariant-loop-place : goal.invariant-loop-place
+invariant-loop-place l = parts_fit l.code l.place (l.before) (drop l.place l.code) ≡ parts_fit l.code 0 Nothing l.code

@@ -1,0 +1,225 @@
+//! Streams that are accepted.
+ghost use Rattle.std.specs.Prelude.{◌≡◌, ◌≤◌, IfErr, IfOk, OnOk, ℕ, false, length, true};
+ghost use Rattle.tm_shapes.specs.Accepts.{Readings as Reads, accepts, all_seeds, fits, fits_either, has_zero};
+ghost use Rattle.tm_shapes.specs.Accepts.{ask_all, ask_some, loads_zero};
+ghost use Rattle.tm_syntax.specs.Entries.{name_count};
+ghost use Rattle.tm_shapes.specs.Marks.{AreMarks};
+ghost use Rattle.tm_shapes.specs.Searched.{IsAsked, reading_of, seeds_of};
+ghost use Rattle.tm_shapes.specs.Verified.{IsRefused};
+ghost use Rattle.tm_shapes.specs.declared.refusal.Refusal.TheVariants.{BadStream};
+
+use crate::kind::Form;
+use crate::placed::{caches_fit, entered_places, parts_fit};
+use crate::refusal::Refusal;
+use crate::search::{Asked, Readings, Seed, Stream, groups_in, search};
+use crate::site::is_zero;
+use std::alloc::{AllocError, Global};
+use std::marker::Model;
+use tm_syntax::Instruction;
+use tm_values::{Error, ErrorKind, Node, Value};
+
+/// How many names a literal list of them has.
+#[tactic(auto, using(tm_values::proofs::Lists::round_trips))]
+fn name_count(value: &Value) -> usize
+    ensures { result ≡ name_count value.now }
+{
+    match &value.node {
+        Node::List(items, _) => items.len(),
+        _ => 0,
+    }
+}
+
+/// Where runs begin: the start, and the entry of each macro that is built, after a literal with so many names. AllocError when out
+/// of memory.
+fn all_seeds(alloc: Global, code: &[Instruction]) -> Result<Vec<Seed>, AllocError>
+    ensures { IfOk result (λ seeds. seeds_of seeds.items ≡ all_seeds code.now) }
+{
+    let mut seeds = vec![in alloc; Seed { place: 0, values: 0 }]?;
+    let mut before = None;
+    for instruction in code {
+        before = match instruction {
+            Instruction::BuildMacro(_, place, _) => {
+                if let Some(values) = before {
+                    seeds.push(Seed {
+                        place: *place,
+                        values,
+                    })?;
+                }
+                None
+            }
+            Instruction::LoadConst(value) => Some(name_count(value)),
+            _ => None,
+        };
+    }
+    Ok(seeds)
+}
+
+/// Whether an instruction loads a 0.
+fn loads_zero(instruction: &Instruction) -> bool
+    ensures { result ≡ loads_zero instruction.now }
+{
+    match instruction {
+        Instruction::LoadConst(value) => is_zero(value),
+        _ => false,
+    }
+}
+
+/// Whether a 0 is loaded.
+fn has_zero(code: &[Instruction]) -> bool
+    ensures { result ≡ has_zero code.now }
+{
+    for instruction in code {
+        if loads_zero(instruction) {
+            return true;
+        }
+    }
+    false
+}
+
+/// With all that is reached.
+fn ask_all<'a>(read: Readings<'a>, form: Form) -> Asked<'a>
+    ensures { (reads : Reads) → ((n : ℕ) → reading_of read n ≡ reads n) → IsAsked result (ask_all reads form) }
+{
+    let (returned, left) = match form {
+        Form::Template => (Some(0), 0),
+        Form::Expression => (None, 1),
+    };
+    Asked {
+        read,
+        returned,
+        left,
+        enters: true,
+    }
+}
+
+/// With what is reached from some places alone, where so many operands are left at a `Return`.
+fn ask_some<'a>(read: Readings<'a>, left: usize) -> Asked<'a>
+    ensures { (reads : Reads) → ((n : ℕ) → reading_of read n ≡ reads n) → IsAsked result (ask_some reads left) }
+{
+    Asked {
+        read,
+        returned: Some(left),
+        left: 1,
+        enters: false,
+    }
+}
+
+/// Whether there are shapes, each 0 read so. BadStream where there are none, OutOfMemory when out of memory.
+fn fits(
+    alloc: Global,
+    stream: &Stream<'_>,
+    seeds: &[Seed],
+    read: Readings<'_>,
+    form: Form,
+) -> Result<(), Refusal>
+    requires marks { AreMarks stream.now.code.now stream.now.entered.now }
+    requires long { length stream.now.code.now ≤ length stream.now.entered.now }
+    ensures found { OnOk result ((reads : Reads) → ((n : ℕ) → reading_of read n ≡ reads n) →
+        seeds_of seeds.now ≡ all_seeds stream.now.code.now → fits reads form stream.now.code.now ≡ true) }
+    ensures none { IfErr result (λ e. e ≡ BadStream → (reads : Reads) → ((n : ℕ) → reading_of read n ≡ reads n) →
+        seeds_of seeds.now ≡ all_seeds stream.now.code.now → fits reads form stream.now.code.now ≡ false) }
+{
+    search(alloc, stream, &ask_all(read, form), seeds)?;
+    match form {
+        Form::Template => Ok(()),
+        Form::Expression => {
+            let (start, entries) = seeds.split_at(1);
+            search(alloc, stream, &ask_some(read, 1), start)?;
+            search(alloc, stream, &ask_some(read, 0), entries)
+        }
+    }
+}
+
+/// Whether there are shapes, each 0 read as it is taken, or each as a value.
+fn fits_either(
+    alloc: Global,
+    stream: &Stream<'_>,
+    form: Form,
+) -> Result<(), Refusal>
+    requires marks { AreMarks stream.now.code.now stream.now.entered.now }
+    requires long { length stream.now.code.now ≤ length stream.now.entered.now }
+    ensures found { OnOk result (fits_either form stream.now.code.now ≡ true) }
+    ensures none { IfErr result (λ e. e ≡ BadStream → fits_either form stream.now.code.now ≡ false) }
+{
+    let seeds = all_seeds(alloc, stream.code)?;
+    if has_zero(stream.code) {
+        let groups = groups_in(alloc, stream, &seeds)?;
+        match fits(alloc, stream, &seeds, Readings::Groups(&groups), form) {
+            Err(Refusal::BadStream) => {}
+            told => return told,
+        }
+    }
+    fits(alloc, stream, &seeds, Readings::Values, form)
+}
+
+/// Whether a stream is accepted. BadStream where it isn't, OutOfMemory when out of memory.
+fn check(alloc: Global, code: &[Instruction], form: Form) -> Result<(), Refusal>
+    ensures accepted { OnOk result (accepts form code.now ≡ true) }
+    ensures refused { IfErr result (λ e. e ≡ BadStream → accepts form code.now ≡ false) }
+{
+    let entered = match entered_places(alloc, code)? {
+        Some(entered) => entered,
+        None => return Err(Refusal::BadStream),
+    };
+    if !caches_fit(alloc, code)? || !parts_fit(code, &entered) {
+        return Err(Refusal::BadStream);
+    }
+    let stream = Stream {
+        code,
+        entered: &entered,
+    };
+    fits_either(alloc, &stream, form)
+}
+
+/// A stream that is accepted: the only kind that the machine runs. A contract sees the instructions and what they are for.
+#[derive(Drop)]
+pub struct Verified {
+    instructions: Vec<Instruction>,
+    form: Form,
+}
+
+impl Model for Verified {
+    ghost use Rattle.std.specs.Prelude.{◌≡◌, true};
+    ghost use Rattle.tm_shapes.specs.Accepts.{accepts};
+    ghost use Rattle.tm_shapes.specs.Verified.{VerifiedValue};
+
+    ghost Value = { VerifiedValue };
+
+    ghost view = { λ a. record { instructions = a.instructions.items; form = a.form } };
+
+    ghost invariant = { λ a. accepts a.form a.instructions.items ≡ true };
+}
+
+/// Accepts a stream that is never stuck: where shapes of its places meet the rules. BadStream where there are none,
+/// OutOfMemory when out of memory; the instructions are dropped then.
+pub fn verify(
+    alloc: Global,
+    instructions: Vec<Instruction>,
+    form: Form,
+) -> Result<Verified, Error>
+    ensures accepted { IfOk result (λ made.
+        (made ≡ record { instructions = instructions.items; form = form }) × (accepts form instructions.items ≡ true)) }
+    ensures refused { IfErr result (IsRefused form instructions.items) }
+{
+    match check(alloc, instructions.as_slice(), form) {
+        Ok(()) => Ok(Verified { instructions, form }),
+        Err(Refusal::BadStream) => Err(Error::from(ErrorKind::BadStream)),
+        Err(Refusal::OutOfMemory) => Err(Error::from(ErrorKind::OutOfMemory)),
+    }
+}
+
+impl Verified {
+    /// The instructions.
+    pub fn as_slice(&self) -> &[Instruction]
+        ensures { result.now ≡ self.now.instructions }
+    {
+        self.instructions.as_slice()
+    }
+
+    /// What they are for.
+    pub fn form(&self) -> Form
+        ensures { result ≡ self.now.form }
+    {
+        self.form
+    }
+}
