@@ -10,3 +10,4 @@ pub mod Showing
 pub mod Alike
 pub mod Taken
 pub mod Same
+pub mod Seeding

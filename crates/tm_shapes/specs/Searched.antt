@@ -1,7 +1,9 @@
 -- The search as it stands in memory.
 use Rattle.std.specs.Prelude.{◌≡◌, ℕ, List, [], ◌∷◌, length, Option, None, Some, Bool, Result, Ok, Err}
+use Rattle.tm_syntax.specs.Entries.{name_count}
 use Rattle.tm_syntax.specs.declared.instruction.Instruction.{Instruction}
-use Rattle.tm_shapes.specs.Accepts.{Asked, Seeds, ends_with, read_by, read_groups, site_of, same_shape}
+use Rattle.tm_syntax.specs.declared.instruction.Instruction.TheVariants as i
+use Rattle.tm_shapes.specs.Accepts.{Asked, Seeds, ends_with, entry_seed, read_by, read_groups, site_of, same_shape}
 use Rattle.tm_shapes.specs.Cells.{AllOnce}
 use Rattle.tm_shapes.specs.Flows.{Flow}
 use Rattle.tm_shapes.specs.Search.{Found, Seen, follow, glance, look, note, reach, trace}
@@ -26,9 +28,13 @@ reading_of read.Values n = readings.Value
 reading_of (read.Groups marks) n = read_groups marks.now n
 reading_of read.Open n = readings.Open
 
+-- They read each 0 the same.
+abbrev pub AreReadings : Readings → (ℕ → Reading) → Type 0
+AreReadings known reads = (n : ℕ) → reading_of known n ≡ reads n
+
 -- A search in memory asks the same.
 pub record IsAsked (question : Question) (a : Asked) : Type 0 where
-  pub read : (n : ℕ) → reading_of question.read n ≡ a.read n
+  pub read : AreReadings question.read a.read
   pub returned : question.returned ≡ a.returned
   pub left : question.left ≡ a.left
   pub enters : question.enters ≡ a.enters
@@ -36,6 +42,20 @@ pub record IsAsked (question : Question) (a : Asked) : Type 0 where
 abbrev pub seeds_of : List Seed → Seeds
 seeds_of [] = []
 seeds_of (e ∷ es) = (e.place, entry_shape e.values) ∷ seeds_of es
+
+abbrev pub seed_of : Option Seed → Seeds
+seed_of None = []
+seed_of (Some e) = (e.place, entry_shape e.values) ∷ []
+
+-- how many names the literal of an instruction has, if it loads one
+abbrev pub count_after : Instruction → Option ℕ
+count_after (i.LoadConst v) = Some (name_count v)
+count_after x = None
+
+-- the entry of a macro, if one is built after a literal with so many names
+abbrev pub entry_of : Option ℕ → Instruction → Seeds
+entry_of before (i.BuildMacro x place caller) = entry_seed before place []
+entry_of before x = []
 
 -- ---------------------------------------------------------------- what is found
 -- Shapes by their stacks, where there are any.

@@ -6,11 +6,6 @@ use Rattle.tm_syntax.specs.declared.instruction.Instruction.{Instruction}
 use Rattle.tm_shapes.specs.Accepts.{accepts}
 use Rattle.tm_shapes.specs.declared.kind.Form.{Form}
 
--- The instructions of a stream, and what they are for.
-pub record VerifiedValue : Type 0 where
-  pub instructions : List Instruction
-  pub form : Form
-
 -- It isn't accepted, or memory is out.
 abbrev pub IsRefused : Form → List Instruction → List ErrorKind → Type 0
 IsRefused form code chain = (chain ≡ OutOfMemory ∷ []) ⊎ ((chain ≡ BadStream ∷ []) × (accepts form code ≡ false))

@@ -1,12 +1,13 @@
 //! Streams that are accepted.
-ghost use Rattle.std.specs.Prelude.{◌≡◌, ◌≤◌, IfErr, IfOk, OnOk, ℕ, false, length, true};
-ghost use Rattle.tm_shapes.specs.Accepts.{Readings as Reads, accepts, all_seeds, fits, fits_either, has_zero};
+ghost use Rattle.std.specs.Prelude.{◌≡◌, ◌≤◌, ◌++◌, IfErr, IfOk, OnOk, ℕ, false, length, true};
+ghost use Rattle.tm_shapes.specs.Accepts.{Readings as Reads, accepts, all_seeds, fits, fits_either, has_zero, returns_fit};
 ghost use Rattle.tm_shapes.specs.Accepts.{ask_all, ask_some, loads_zero};
 ghost use Rattle.tm_syntax.specs.Entries.{name_count};
 ghost use Rattle.tm_shapes.specs.Marks.{AreMarks};
-ghost use Rattle.tm_shapes.specs.Searched.{IsAsked, reading_of, seeds_of};
+ghost use Rattle.tm_shapes.specs.Searched.{AreReadings, IsAsked, count_after, entry_of, seed_of, seeds_of};
 ghost use Rattle.tm_shapes.specs.Verified.{IsRefused};
 ghost use Rattle.tm_shapes.specs.declared.refusal.Refusal.TheVariants.{BadStream};
+ghost use Rattle.tm_shapes.specs.declared.kind.Form.TheVariants.{Expression};
 
 use crate::kind::Form;
 use crate::placed::{caches_fit, entered_places, parts_fit};
@@ -29,27 +30,50 @@ fn name_count(value: &Value) -> usize
     }
 }
 
+/// How many names the literal of an instruction has, if it loads one.
+fn count_after(instruction: &Instruction) -> Option<usize>
+    ensures { result ≡ count_after instruction.now }
+{
+    match instruction {
+        Instruction::LoadConst(value) => Some(name_count(value)),
+        _ => None,
+    }
+}
+
+/// The entry of a macro, if one is built after a literal with so many names.
+fn entry_of(before: Option<usize>, instruction: &Instruction) -> Option<Seed>
+    ensures { seed_of result ≡ entry_of before instruction.now }
+{
+    match (instruction, before) {
+        (Instruction::BuildMacro(_, place, _), Some(values)) => Some(Seed {
+            place: *place,
+            values,
+        }),
+        _ => None,
+    }
+}
+
+/// Adds a place where runs begin, if there is one. AllocError when out of memory.
+fn add_seed(seeds: &mut Vec<Seed>, seed: Option<Seed>) -> Result<(), AllocError>
+    ensures { OnOk result (seeds_of seeds.new.items ≡ seeds_of seeds.old.items ++ seed_of seed) }
+{
+    if let Some(seed) = seed {
+        seeds.push(seed)?;
+    }
+    Ok(())
+}
+
 /// Where runs begin: the start, and the entry of each macro that is built, after a literal with so many names. AllocError when out
 /// of memory.
 fn all_seeds(alloc: Global, code: &[Instruction]) -> Result<Vec<Seed>, AllocError>
     ensures { IfOk result (λ seeds. seeds_of seeds.items ≡ all_seeds code.now) }
 {
-    let mut seeds = vec![in alloc; Seed { place: 0, values: 0 }]?;
+    let mut seeds = Vec::new(alloc);
+    seeds.push(Seed { place: 0, values: 0 })?;
     let mut before = None;
     for instruction in code {
-        before = match instruction {
-            Instruction::BuildMacro(_, place, _) => {
-                if let Some(values) = before {
-                    seeds.push(Seed {
-                        place: *place,
-                        values,
-                    })?;
-                }
-                None
-            }
-            Instruction::LoadConst(value) => Some(name_count(value)),
-            _ => None,
-        };
+        add_seed(&mut seeds, entry_of(before, instruction))?;
+        before = count_after(instruction);
     }
     Ok(seeds)
 }
@@ -77,15 +101,15 @@ fn has_zero(code: &[Instruction]) -> bool
 }
 
 /// With all that is reached.
-fn ask_all<'a>(read: Readings<'a>, form: Form) -> Asked<'a>
-    ensures { (reads : Reads) → ((n : ℕ) → reading_of read n ≡ reads n) → IsAsked result (ask_all reads form) }
+fn ask_all<'a>(read: &Readings<'a>, form: Form) -> Asked<'a>
+    ensures { (reads : Reads) → AreReadings read.now reads → IsAsked result (ask_all reads form) }
 {
     let (returned, left) = match form {
         Form::Template => (Some(0), 0),
         Form::Expression => (None, 1),
     };
     Asked {
-        read,
+        read: *read,
         returned,
         left,
         enters: true,
@@ -93,14 +117,40 @@ fn ask_all<'a>(read: Readings<'a>, form: Form) -> Asked<'a>
 }
 
 /// With what is reached from some places alone, where so many operands are left at a `Return`.
-fn ask_some<'a>(read: Readings<'a>, left: usize) -> Asked<'a>
-    ensures { (reads : Reads) → ((n : ℕ) → reading_of read n ≡ reads n) → IsAsked result (ask_some reads left) }
+fn ask_some<'a>(read: &Readings<'a>, left: usize) -> Asked<'a>
+    ensures { (reads : Reads) → AreReadings read.now reads → IsAsked result (ask_some reads left) }
 {
     Asked {
-        read,
+        read: *read,
         returned: Some(left),
         left: 1,
         enters: false,
+    }
+}
+
+/// Whether in an expression a `Return` that the start reaches leaves one operand, and one that an entry reaches none.
+/// BadStream where that isn't so, OutOfMemory when out of memory.
+fn returns_fit(
+    alloc: Global,
+    stream: &Stream<'_>,
+    seeds: &[Seed],
+    read: &Readings<'_>,
+) -> Result<(), Refusal>
+    requires marks { AreMarks stream.now.code.now stream.now.entered.now }
+    requires long { length stream.now.code.now ≤ length stream.now.entered.now }
+    ensures found { OnOk result ((reads : Reads) → AreReadings read.now reads →
+        seeds_of seeds.now ≡ all_seeds stream.now.code.now →
+        returns_fit reads Expression stream.now.code.now ≡ true) }
+    ensures none { IfErr result (λ e. e ≡ BadStream → (reads : Reads) → AreReadings read.now reads →
+        seeds_of seeds.now ≡ all_seeds stream.now.code.now →
+        returns_fit reads Expression stream.now.code.now ≡ false) }
+{
+    match seeds {
+        [start, entries @ ..] => {
+            search(alloc, stream, &ask_some(read, 1), &[*start])?;
+            search(alloc, stream, &ask_some(read, 0), entries)
+        }
+        [] => Ok(()),
     }
 }
 
@@ -109,24 +159,22 @@ fn fits(
     alloc: Global,
     stream: &Stream<'_>,
     seeds: &[Seed],
-    read: Readings<'_>,
+    read: &Readings<'_>,
     form: Form,
 ) -> Result<(), Refusal>
     requires marks { AreMarks stream.now.code.now stream.now.entered.now }
     requires long { length stream.now.code.now ≤ length stream.now.entered.now }
-    ensures found { OnOk result ((reads : Reads) → ((n : ℕ) → reading_of read n ≡ reads n) →
-        seeds_of seeds.now ≡ all_seeds stream.now.code.now → fits reads form stream.now.code.now ≡ true) }
-    ensures none { IfErr result (λ e. e ≡ BadStream → (reads : Reads) → ((n : ℕ) → reading_of read n ≡ reads n) →
-        seeds_of seeds.now ≡ all_seeds stream.now.code.now → fits reads form stream.now.code.now ≡ false) }
+    ensures found { OnOk result ((reads : Reads) → AreReadings read.now reads →
+        seeds_of seeds.now ≡ all_seeds stream.now.code.now →
+        fits reads form stream.now.code.now ≡ true) }
+    ensures none { IfErr result (λ e. e ≡ BadStream → (reads : Reads) → AreReadings read.now reads →
+        seeds_of seeds.now ≡ all_seeds stream.now.code.now →
+        fits reads form stream.now.code.now ≡ false) }
 {
     search(alloc, stream, &ask_all(read, form), seeds)?;
     match form {
         Form::Template => Ok(()),
-        Form::Expression => {
-            let (start, entries) = seeds.split_at(1);
-            search(alloc, stream, &ask_some(read, 1), start)?;
-            search(alloc, stream, &ask_some(read, 0), entries)
-        }
+        Form::Expression => returns_fit(alloc, stream, seeds, read),
     }
 }
 
@@ -144,12 +192,12 @@ fn fits_either(
     let seeds = all_seeds(alloc, stream.code)?;
     if has_zero(stream.code) {
         let groups = groups_in(alloc, stream, &seeds)?;
-        match fits(alloc, stream, &seeds, Readings::Groups(&groups), form) {
+        match fits(alloc, stream, &seeds, &Readings::Groups(&groups), form) {
             Err(Refusal::BadStream) => {}
             told => return told,
         }
     }
-    fits(alloc, stream, &seeds, Readings::Values, form)
+    fits(alloc, stream, &seeds, &Readings::Values, form)
 }
 
 /// Whether a stream is accepted. BadStream where it isn't, OutOfMemory when out of memory.
@@ -179,13 +227,17 @@ pub struct Verified {
 }
 
 impl Model for Verified {
-    ghost use Rattle.std.specs.Prelude.{◌≡◌, true};
+    ghost use Rattle.std.specs.Prelude.{◌≡◌, List, true};
+    ghost use Rattle.std.specs.Coded.{codes};
+    ghost use Rattle.tm_values.specs.Code.{coded_Val};
     ghost use Rattle.tm_shapes.specs.Accepts.{accepts};
-    ghost use Rattle.tm_shapes.specs.Verified.{VerifiedValue};
+    ghost use Rattle.tm_syntax.specs.declared.instruction.Instruction.{Instruction as Made};
 
-    ghost Value = { VerifiedValue };
+    ghost Value = { List Made };
 
-    ghost view = { λ a. record { instructions = a.instructions.items; form = a.form } };
+    ghost coded = { Prim.hlevel (codes, coded_Val) };
+
+    ghost view = { λ a. a.instructions.items };
 
     ghost invariant = { λ a. accepts a.form a.instructions.items ≡ true };
 }
@@ -198,7 +250,7 @@ pub fn verify(
     form: Form,
 ) -> Result<Verified, Error>
     ensures accepted { IfOk result (λ made.
-        (made ≡ record { instructions = instructions.items; form = form }) × (accepts form instructions.items ≡ true)) }
+        (made ≡ instructions.items) × (accepts form instructions.items ≡ true)) }
     ensures refused { IfErr result (IsRefused form instructions.items) }
 {
     match check(alloc, instructions.as_slice(), form) {
@@ -211,15 +263,8 @@ pub fn verify(
 impl Verified {
     /// The instructions.
     pub fn as_slice(&self) -> &[Instruction]
-        ensures { result.now ≡ self.now.instructions }
+        ensures { result.now ≡ self.now }
     {
         self.instructions.as_slice()
-    }
-
-    /// What they are for.
-    pub fn form(&self) -> Form
-        ensures { result ≡ self.now.form }
-    {
-        self.form
     }
 }

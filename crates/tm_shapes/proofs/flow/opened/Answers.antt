@@ -6,18 +6,18 @@ use Rattle.tm_shapes.proofs.flow.opened.Goals as goal
 
 pub returns-in_err-kind-2 : goal.returns-in_err-kind-2
 returns-in_err-kind-2 c = λ s h.
-    let w = c.in_ok-kind.ensures s h in
+    let w = c.in_ok-kind.ensures.popped s h in
     rw c.from_residual-in_err-kind-2.ensures
-    (λ site. add_second site s _ _ w.1 (c.in_err-kind-2.ensures (with_operands w.0 s) w.2))
+    (λ site. add_second site s _ _ w.1 (c.in_err-kind-2.ensures.popped (with_operands w.0 s) w.2))
 
 pub returns-in-Opened : goal.returns-in-Opened
 returns-in-Opened c = λ s h.
-    let w = c.in_ok-kind.ensures s h in
-    let v = c.in_ok-kind-2.ensures (with_operands w.0 s) w.2 in
+    let w = c.in_ok-kind.ensures.popped s h in
+    let v = c.in_ok-kind-2.ensures.popped (with_operands w.0 s) w.2 in
     (v.0, two-operands _ _ _ _ _ _ _ w.1 c.in-One.is v.1 c.in-Opened.is, v.2)
 
 pub returns-in_default-kind : goal.returns-in_default-kind
 returns-in_default-kind c = λ s h site.
-    let w = c.in_ok-kind.ensures s h in
-    let v = c.in_ok-kind-2.ensures (with_operands w.0 s) w.2 in
+    let w = c.in_ok-kind.ensures.popped s h in
+    let v = c.in_ok-kind-2.ensures.popped (with_operands w.0 s) w.2 in
     no_opened site s _ _ _ _ w.1 c.in-One.is v.1 c.in_default-kind.not-Opened

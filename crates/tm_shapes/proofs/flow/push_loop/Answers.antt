@@ -26,7 +26,7 @@ returns-in-Some-2-clause-told c =
     let t : Shape = with_operands w.0 s in (
       t,
       w.1 (λ (ks : List Kind). on site (loop_begun c.args.flags.now.recursive (with_operands ks s)))
-          ∙ loop-pushed site t _ _ _ _ c.if-flags.false (c.operands.ensures c.args.cells.now t w.2) w.2.level.count w.2.level.escapes,
+          ∙ loop-pushed site t _ _ _ _ c.if-flags.false (c.operands.ensures.counted c.args.cells.now t w.2) w.2.level.count w.2.level.escapes,
       w.2,
     ))
     c.push_frame.ensures.told
