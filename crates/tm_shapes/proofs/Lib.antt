@@ -11,3 +11,4 @@ pub mod Alike
 pub mod Taken
 pub mod Same
 pub mod Seeding
+pub mod Answering

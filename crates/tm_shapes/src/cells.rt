@@ -1,9 +1,13 @@
 //! Stacks that share what lies below: each is the number of its topmost cell, and the same stack has
 //! one number, so that two are compared at once.
 ghost use Rattle.std.specs.Prelude.{◌≡◌, [], IfOk, Some};
+ghost use Rattle.tm_shapes.specs.Accepts.{same_shape};
 ghost use Rattle.tm_shapes.specs.Cells.{AllOnce, Grown, cell_at};
+ghost use Rattle.tm_shapes.specs.Shapes.{Shape as Spec};
+ghost use Rattle.tm_shapes.specs.Shown.{Shows};
 
 use crate::kind::{Frame, Kind};
+use crate::shape::Shape;
 use std::alloc::{AllocError, Global};
 use std::collections::BTreeMap;
 use std::marker::Model;
@@ -105,5 +109,15 @@ impl Cells {
                 Err(failed.into())
             }
         }
+    }
+
+    /// Whether two shapes are the same.
+    pub(crate) fn is_same(&self, shape: &Shape, other: &Shape) -> bool
+        ensures { (s t : Spec) → Shows self.now shape.now s → Shows self.now other.now t →
+            result ≡ same_shape s t }
+    {
+        // For the invariant, by which no cell stands twice.
+        let _cells = &self.cells;
+        shape.is_same(other)
     }
 }

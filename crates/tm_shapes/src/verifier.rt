@@ -1,6 +1,6 @@
 //! Streams that are accepted.
 ghost use Rattle.std.specs.Prelude.{◌≡◌, ◌≤◌, ◌++◌, IfErr, IfOk, OnOk, ℕ, false, length, true};
-ghost use Rattle.tm_shapes.specs.Accepts.{Readings as Reads, accepts, all_seeds, fits, fits_either, has_zero, returns_fit};
+ghost use Rattle.tm_shapes.specs.Accepts.{Readings as Reads, accepts, all_seeds, fits, fits_as_taken, fits_either, has_zero, returns_fit};
 ghost use Rattle.tm_shapes.specs.Accepts.{ask_all, ask_some, loads_zero};
 ghost use Rattle.tm_syntax.specs.Entries.{name_count};
 ghost use Rattle.tm_shapes.specs.Marks.{AreMarks};
@@ -178,26 +178,43 @@ fn fits(
     }
 }
 
-/// Whether there are shapes, each 0 read as it is taken, or each as a value.
-fn fits_either(
+/// Whether a 0 is loaded, and there are shapes with each read as it is taken. BadStream where that isn't so, OutOfMemory
+/// when out of memory.
+fn fits_as_taken(
     alloc: Global,
     stream: &Stream<'_>,
+    seeds: &[Seed],
     form: Form,
 ) -> Result<(), Refusal>
+    requires marks { AreMarks stream.now.code.now stream.now.entered.now }
+    requires long { length stream.now.code.now ≤ length stream.now.entered.now }
+    ensures found { OnOk result (seeds_of seeds.now ≡ all_seeds stream.now.code.now →
+        fits_as_taken form stream.now.code.now ≡ true) }
+    ensures none { IfErr result (λ e. e ≡ BadStream →
+        seeds_of seeds.now ≡ all_seeds stream.now.code.now →
+        fits_as_taken form stream.now.code.now ≡ false) }
+{
+    if !has_zero(stream.code) {
+        return Err(Refusal::BadStream);
+    }
+    let groups = groups_in(alloc, stream, seeds)?;
+    fits(alloc, stream, seeds, &Readings::Groups(&groups), form)
+}
+
+/// Whether there are shapes, each 0 read as it is taken, or each as a value. BadStream where there are none, OutOfMemory when
+/// out of memory.
+fn fits_either(alloc: Global, stream: &Stream<'_>, form: Form) -> Result<(), Refusal>
     requires marks { AreMarks stream.now.code.now stream.now.entered.now }
     requires long { length stream.now.code.now ≤ length stream.now.entered.now }
     ensures found { OnOk result (fits_either form stream.now.code.now ≡ true) }
     ensures none { IfErr result (λ e. e ≡ BadStream → fits_either form stream.now.code.now ≡ false) }
 {
     let seeds = all_seeds(alloc, stream.code)?;
-    if has_zero(stream.code) {
-        let groups = groups_in(alloc, stream, &seeds)?;
-        match fits(alloc, stream, &seeds, &Readings::Groups(&groups), form) {
-            Err(Refusal::BadStream) => {}
-            told => return told,
-        }
+    match fits_as_taken(alloc, stream, &seeds, form) {
+        Ok(()) => Ok(()),
+        Err(Refusal::OutOfMemory) => Err(Refusal::OutOfMemory),
+        Err(Refusal::BadStream) => fits(alloc, stream, &seeds, &Readings::Values, form),
     }
-    fits(alloc, stream, &seeds, &Readings::Values, form)
 }
 
 /// Whether a stream is accepted. BadStream where it isn't, OutOfMemory when out of memory.

@@ -1,4 +1,0 @@
-use Rattle.tm_shapes.proofs.verifier.check.Goals as goal
-
-pub returns : goal.returns
-returns c = ?
