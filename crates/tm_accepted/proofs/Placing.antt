@@ -1,7 +1,7 @@
 -- What is tested at every instruction holds of the code of trees.
 use Rattle.std.proofs.Common.{◌≡◌, ℕ, ◌+◌, ◌-◌, ◌≤◌, List, [], ◌∷◌, length, Option, Some, None, Bool, true, false, refl, ap, ◌∙◌, subst, arith}
 use Rattle.std.proofs.Common.{map as each}
-use Rattle.std.specs.Prelude.{pos, is_some, not, ◌&&◌}
+use Rattle.std.specs.Prelude.{pos, is_some, not, ◌&&◌, ◌||◌}
 use Rattle.std.proofs.lemmas.Bool.Decides.{nat_tests}
 use Rattle.tm_values.specs.Val.{number, text}
 use Rattle.tm_values.proofs.Lists.{list_of-vals_of}

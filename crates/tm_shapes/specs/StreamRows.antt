@@ -51,6 +51,10 @@ parts_apart = i.GetClosure ∷ i.LoadConst nothing_in ∷ one_value ∷ i.Emit �
 abbrev pub called_again : List Instruction
 called_again = i.LoadConst one_list ∷ i.PushLoop (looping true) ∷ i.Iterate 5 ∷ i.FastRecurse ∷ i.Jump 2 ∷ i.PopLoopFrame ∷ []
 
+-- a loop that is left after an instruction
+abbrev pub left_by_loop : Instruction → List Instruction
+left_by_loop x = i.LoadConst one_list ∷ i.PushLoop (looping false) ∷ x ∷ i.PopLoopFrame ∷ []
+
 -- ---------------------------------------------------------------- ways that meet
 -- one of two, and then a capture's end
 abbrev pub one_way_or : Instruction → Instruction → List Instruction

@@ -1,12 +1,12 @@
 //! Rows: streams that no compiler wrote, and whether they are accepted.
-ghost use Rattle.std.specs.Prelude.{◌≡◌, [], ◌∷◌, codes, false, true};
+ghost use Rattle.std.specs.Prelude.{◌≡◌, [], ◌∷◌, None, codes, false, true};
 ghost use Rattle.tm_values.specs.Val.{boolean, text};
 ghost use Rattle.tm_syntax.specs.declared.instruction.CaptureMode.TheVariants.{Capture, Discard};
 ghost use Rattle.tm_syntax.specs.declared.instruction.Instruction.TheVariants as i;
 ghost use Rattle.tm_shapes.specs.Accepts.{accepts};
 ghost use Rattle.tm_shapes.specs.declared.kind.Form.TheVariants as forms;
 ghost use Rattle.tm_shapes.specs.StreamRows.{added, called_again, counted, filter, filtered_loop, into_the_middle, loop_over_one_or_none};
-ghost use Rattle.tm_shapes.specs.StreamRows.{looping, macro_before, macro_value, nothing_in, one_value, one_way_or, parts_apart};
+ghost use Rattle.tm_shapes.specs.StreamRows.{left_by_loop, looping, macro_before, macro_value, nothing_in, one_value, one_way_or, parts_apart};
 ghost use Rattle.tm_shapes.specs.StreamRows.{taking_from_under, test, through, unreached_macro, zero_or_value};
 
 /// Ends and targets: a target is a place or the end, where all is closed and so many operands are
@@ -46,6 +46,7 @@ pub fn way_rows()
 /// 0 is a value, or a group of none; a value goes into a group by `Swap`, `LoadConst 1` and `Add` in a row.
 pub fn group_rows()
     ensures values { accepts forms.Template added ≡ true }
+    ensures plain { accepts forms.Template (one_value ∷ i.BuildList None ∷ i.Emit ∷ []) ≡ false }
     ensures counted { accepts forms.Template (counted i.Add) ≡ true }
     ensures other { accepts forms.Template (counted i.Sub) ≡ false }
     ensures middle { accepts forms.Template (into_the_middle 3) ≡ false }
@@ -68,6 +69,8 @@ pub fn loop_rows()
     ensures recursive { accepts forms.Template (taking_from_under true) ≡ false }
     ensures not_recursive { accepts forms.Template (taking_from_under false) ≡ true }
     ensures called { accepts forms.Template called_again ≡ true }
+    ensures capture { accepts forms.Template (left_by_loop (i.BeginCapture Capture)) ≡ false }
+    ensures nothing_open { accepts forms.Template (left_by_loop i.FastSuper) ≡ true }
 {}
 
 /// Targets, entries and parts of macros, jumps between these, and cache numbers count also where
