@@ -12,3 +12,5 @@ pub mod Taken
 pub mod Same
 pub mod Seeding
 pub mod Answering
+pub mod Searching
+pub mod Seeing

@@ -1,15 +1,16 @@
 //! The search for shapes.
-ghost use Rattle.std.specs.Prelude.{◌≡◌, ◌≤◌, ◌<◌, ◌^◌, ◌-◌, IfErr, IfOk, List, OnOk, false, is_some, length, true};
-ghost use Rattle.tm_shapes.specs.Accepts.{Asked as Question, all_seeds, found, groups_in, site_of};
+ghost use Rattle.std.specs.Prelude.{◌≡◌, ◌≤◌, ◌<◌, ◌^◌, ◌-◌, IfErr, IfOk, List, OnOk, false, is_some, length, option_and_then, slice_get, true};
+ghost use Rattle.tm_shapes.specs.Accepts.{Asked as Question, all_seeds, before_it, ends_with, found, groups_in, site_of, swaps};
 ghost use Rattle.tm_shapes.specs.Flows.{Flow as Led};
-ghost use Rattle.tm_shapes.specs.Marks.{AreMarks};
+ghost use Rattle.tm_shapes.specs.Marks.{AreMarks, with_mark};
 ghost use Rattle.tm_shapes.specs.Searched.{Comes, IsAsked, IsFound, IsSeen, follow_of, glance_of, look_of, note_of};
 ghost use Rattle.tm_shapes.specs.Searched.{reach_of, reading_of, seeds_of, trace_of, unshaped};
 ghost use Rattle.tm_shapes.specs.Search.{Found as Finding, Seen as Seeing};
-ghost use Rattle.tm_shapes.specs.Shapes.{Shape as Spec};
+ghost use Rattle.tm_shapes.specs.Shapes.{Shape as Spec, itself};
 ghost use Rattle.tm_shapes.specs.Shown.{Shows};
 ghost use Rattle.tm_shapes.specs.Sites.{IsSite};
 ghost use Rattle.tm_shapes.specs.Told.{Tells, TellsWay};
+ghost use Rattle.tm_shapes.specs.declared.cells.Cell.{Cell as Celled};
 ghost use Rattle.tm_shapes.specs.declared.refusal.Refusal.TheVariants.{BadStream};
 ghost use Rattle.tm_syntax.specs.declared.instruction.Instruction.{Instruction};
 
@@ -72,23 +73,43 @@ impl<'a> Readings<'a> {
     }
 }
 
+/// Whether a `Swap` stands before a place.
+fn is_after_swap(code: &[Instruction], place: usize) -> bool
+    ensures { result ≡ swaps (option_and_then (slice_get code.now) (before_it place)) }
+{
+    let Some(before) = place.checked_sub(1) else {
+        return false;
+    };
+    match code.get(before) {
+        Some(Instruction::Swap) => true,
+        _ => false,
+    }
+}
+
+impl<'a> Asked<'a> {
+    /// Whether this may stand at the end.
+    fn ends_with(&self, shape: &Shape) -> bool
+        ensures { (cells : List Celled) (s : Spec) → Shows cells shape.now s →
+            result ≡ ends_with self.now.left s }
+    {
+        shape.is_closed() && shape.operands() == self.left
+    }
+}
+
 impl<'a> Stream<'a> {
     /// Where the instruction at a place stands.
     fn site(&self, asked: &Asked<'_>, place: usize) -> Site<'a>
-        requires { place < length self.now.code.now }
-        ensures { (question : Question) → AreMarks self.now.code.now self.now.entered.now →
-            IsAsked asked.now question → IsSite result (site_of question self.now.code.now place) }
+        requires place { place < length self.now.code.now }
+        requires marks { AreMarks self.now.code.now self.now.entered.now }
+        requires long { length self.now.code.now ≤ length self.now.entered.now }
+        ensures { (question : Question) → IsAsked asked.now question →
+            IsSite result (site_of question self.now.code.now place) }
     {
-        let (before, from) = self.code.split_at(place);
-        let is_after_swap = match before.last() {
-            Some(Instruction::Swap) => true,
-            _ => false,
-        };
         Site {
             place,
-            rest: &from[1..],
+            rest: &self.code[place + 1..],
             entered: &self.entered[place..],
-            is_after_swap,
+            is_after_swap: is_after_swap(self.code, place),
             reading: asked.read.of(place),
             returned: asked.returned,
             enters: asked.enters,
@@ -108,6 +129,13 @@ fn no_shapes(alloc: Global, code: &[Instruction]) -> Result<Vec<Option<Shape>>, 
     Ok(shapes)
 }
 
+/// The shape of a place, where it has one.
+fn shape_at(shapes: &[Option<Shape>], place: usize) -> Option<Shape>
+    ensures { result ≡ option_and_then itself (slice_get shapes.now place) }
+{
+    *shapes.get(place)?
+}
+
 /// The shapes so far, and the places that are still to be looked at.
 #[derive(Drop)]
 struct Found {
@@ -119,12 +147,13 @@ struct Found {
 impl Found {
     /// A place is reached in a shape: refused past the end, and where it has another.
     fn reach(&mut self, place: usize, shape: Shape) -> Result<(), Refusal>
-        ensures { (question : Question) (code : List Instruction) (f : Finding) (s : Spec) → IsFound self.old f →
+        ensures reached { (question : Question) (code : List Instruction) (f : Finding) (s : Spec) → IsFound self.old f →
             Shows self.old.cells shape s → Comes self.new (reach_of question code place s f) result }
+        ensures cells { self.new.cells ≡ self.old.cells }
     {
         match self.shapes.get(place) {
             None => Err(Refusal::BadStream),
-            Some(Some(known)) if known.is_same(&shape) => Ok(()),
+            Some(Some(known)) if self.cells.is_same(&shape, known) => Ok(()),
             Some(Some(_)) => Err(Refusal::BadStream),
             Some(None) => {
                 self.work.push(place)?;
@@ -154,13 +183,13 @@ impl Found {
 
     /// A place is looked at.
     fn look(&mut self, stream: &Stream<'_>, asked: &Asked<'_>, place: usize) -> Result<(), Refusal>
-        ensures { (question : Question) (f : Finding) → AreMarks stream.now.code.now stream.now.entered.now →
-            length stream.now.code.now ≤ length stream.now.entered.now → IsAsked asked.now question →
+        requires marks { AreMarks stream.now.code.now stream.now.entered.now }
+        requires long { length stream.now.code.now ≤ length stream.now.entered.now }
+        ensures { (question : Question) (f : Finding) → IsAsked asked.now question →
             IsFound self.old f → Comes self.new (look_of question stream.now.code.now place f) result }
     {
-        let shape = match self.shapes.get(place) {
-            Some(Some(shape)) => *shape,
-            _ => return Err(Refusal::BadStream),
+        let Some(shape) = shape_at(&self.shapes, place) else {
+            return Err(Refusal::BadStream);
         };
         match stream.code.get(place) {
             Some(instruction) => {
@@ -168,12 +197,7 @@ impl Found {
                 let flow = flow_of(&mut self.cells, &site, instruction, shape)?;
                 self.follow(place, flow.way)
             }
-            None if place == stream.code.len()
-                && shape.is_closed()
-                && shape.operands() == asked.left =>
-            {
-                Ok(())
-            }
+            None if place == stream.code.len() && asked.ends_with(&shape) => Ok(()),
             None => Err(Refusal::BadStream),
         }
     }
@@ -219,14 +243,33 @@ struct Seen {
 impl Seen {
     /// A place keeps the first shape in which it is met, and none lies past the end.
     fn note(&mut self, place: usize, shape: Shape) -> Result<(), AllocError>
-        ensures { OnOk result ((question : Question) (code : List Instruction) (f : Seeing) (s : Spec) → IsSeen self.old f →
+        ensures noted { OnOk result ((question : Question) (code : List Instruction) (f : Seeing) (s : Spec) → IsSeen self.old f →
             Shows self.old.cells shape s → IsSeen self.new (note_of question code place s f)) }
+        ensures cells { self.new.cells ≡ self.old.cells }
     {
-        if let Some(None) = self.shapes.get(place) {
-            self.work.push(place)?;
-            self.shapes[place] = Some(shape);
+        match self.shapes.get(place) {
+            Some(None) => {
+                self.work.push(place)?;
+                self.shapes[place] = Some(shape);
+                Ok(())
+            }
+            Some(Some(_)) => Ok(()),
+            None => Ok(()),
         }
-        Ok(())
+    }
+
+    /// The 0 of a place is taken as a group, if there is one.
+    fn take(&mut self, taken: Option<usize>)
+        ensures groups { self.new.groups.items ≡ with_mark taken self.old.groups.items }
+        ensures cells { self.new.cells ≡ self.old.cells }
+        ensures shapes { self.new.shapes.items ≡ self.old.shapes.items }
+        ensures work { self.new.work ≡ self.old.work }
+    {
+        if let Some(place) = taken {
+            if let Some(mark) = self.groups.get_mut(place) {
+                *mark = true;
+            }
+        }
     }
 
     /// What an instruction at a place leads to is noted.
@@ -235,11 +278,7 @@ impl Seen {
         ensures { OnOk result ((question : Question) (code : List Instruction) (f : Seeing) (x : Led) → IsSeen self.old f →
             Tells self.old.cells place flow x → IsSeen self.new (trace_of question code x f)) }
     {
-        if let Some(taken) = flow.taken {
-            if let Some(mark) = self.groups.get_mut(taken) {
-                *mark = true;
-            }
-        }
+        self.take(flow.taken);
         match flow.way {
             Way::Refused => Ok(()),
             Way::Ends => Ok(()),
@@ -254,19 +293,22 @@ impl Seen {
 
     /// A place is looked at.
     fn glance(&mut self, stream: &Stream<'_>, asked: &Asked<'_>, place: usize) -> Result<(), AllocError>
-        ensures { OnOk result ((question : Question) (f : Seeing) → AreMarks stream.now.code.now stream.now.entered.now →
-            length stream.now.code.now ≤ length stream.now.entered.now → IsAsked asked.now question →
+        requires marks { AreMarks stream.now.code.now stream.now.entered.now }
+        requires long { length stream.now.code.now ≤ length stream.now.entered.now }
+        ensures { OnOk result ((question : Question) (f : Seeing) → IsAsked asked.now question →
             IsSeen self.old f → IsSeen self.new (glance_of question stream.now.code.now place f)) }
     {
-        if let (Some(instruction), Some(Some(shape))) =
-            (stream.code.get(place), self.shapes.get(place))
-        {
-            let shape = *shape;
-            let site = stream.site(asked, place);
-            let flow = flow_of(&mut self.cells, &site, instruction, shape)?;
-            self.trace(place, flow)?;
+        let Some(shape) = shape_at(&self.shapes, place) else {
+            return Ok(());
+        };
+        match stream.code.get(place) {
+            Some(instruction) => {
+                let site = stream.site(asked, place);
+                let flow = flow_of(&mut self.cells, &site, instruction, shape)?;
+                self.trace(place, flow)
+            }
+            None => Ok(()),
         }
-        Ok(())
     }
 }
 
