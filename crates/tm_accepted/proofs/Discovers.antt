@@ -580,8 +580,7 @@ module _ (code : List Instruction) where
       let end = wandered read form returned sh settled bottom never fits marks steps f.work f (omega (arith, begin.going.enough)) ready
       (λ p e. ap mark_of e) in
       let g = wander steps f.work f in
-      let sound : taken.Sound code read sh marks = λ p e. end.0.kept.grouped p (is_marked (slice_get marks p) e) in
-      (
+      let sound : taken.Sound code read sh marks = λ p e. end.0.kept.grouped p (is_marked (slice_get marks p) e) in (
         kept_shapes read form returned sh settled bottom never fits marks g.shapes sh,
         kept_fit read form returned sh settled bottom never fits marks g end.0
             (λ k e q. let h = begin.there k e q in (h.0, end.1 e.0 h.0 h.1)) sound,

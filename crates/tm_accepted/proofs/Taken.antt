@@ -451,9 +451,12 @@ module _ (code : List Instruction) (read : Readings) (sh : Shapes) (marks : List
           Three (choose b (λ _. takes p (next site_open (opened (Some p) ∷ ks) s)) (λ _. next site_open (value ∷ value ∷ ks) s))
           (choose b (λ _. next at (opened (Some p) ∷ ds) t) (λ _. refused)) R
       zero_group p ks ds R false g inside r is h = absurd h
-      zero_group p ks ds R true g inside r is h =
-          (g, inside, λ e. subst (λ R. Three (next site_open (opened (Some p) ∷ ks) s) (next at (opened (Some p) ∷ ds) t) R) (sym (is e))
-          (opened_three (Some p) ks ds e r))
+      zero_group p ks ds R true g inside r is h = (
+        g,
+        inside,
+        λ e. subst (λ R. Three (next site_open (opened (Some p) ∷ ks) s) (next at (opened (Some p) ∷ ds) t) R) (sym (is e))
+            (opened_three (Some p) ks ds e r),
+      )
 
       marked_over : (p : ℕ) (ds : List Kind) → marked p ≡ true →
           swap_over by_marks u (turned_group (marked p) p ∷ turns ds) ≡ swap_group by_marks u (Some p) (turns ds)

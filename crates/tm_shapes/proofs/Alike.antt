@@ -140,16 +140,17 @@ module _ (cells : List Cell) where
           captures = captures i;
           «open» = (h.count ∙ sym g.count) i;
           escapes = (h.escapes ∙ sym g.escapes) i;
-          floor = e i
+          floor = e i;
         }
 
     parts-two : (n f m g : ℕ) (qs : List Part) → Parts cells n f qs → Parts cells m g qs → (n ≡ m) × (f ≡ g)
     parts-two n f m g [] h k = (h.0 ∙ sym k.0, h.1 ∙ sym k.1)
     parts-two n f m g (q ∷ qs) (level, b, cell, is, low, rest) (level1, b1, cell1, is1, low1, rest1) =
         let more = parts-two b level.floor b1 level1.floor qs rest rest1 in
-        let levels = level-two level level1 q is is1 more.1 in
-        (number-of n m (items.Part level1) b b1 (subst (λ l. IsCell cells n (items.Part l) b) levels cell) cell1 more.0,
-        low ∙ ap (λ f. length q.operands + f) more.1 ∙ sym low1)
+        let levels = level-two level level1 q is is1 more.1 in (
+          number-of n m (items.Part level1) b b1 (subst (λ l. IsCell cells n (items.Part l) b) levels cell) cell1 more.0,
+          low ∙ ap (λ f. length q.operands + f) more.1 ∙ sym low1,
+        )
 
     pub one-stack : (a b : Made) (s : Shape) → Shows cells a s → Shows cells b s → a ≡ b
     one-stack a b s h g =

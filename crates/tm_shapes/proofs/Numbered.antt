@@ -100,5 +100,5 @@ module _ (cells : List Cell) (c : Cell) (m n : BTreeMap Cell ℕ) (fit : Fit cel
   fit-more = record {
     once = once;
     sound = λ q k e. sound-by (is_at (order c) q) q k refl (sym (h.0 q) ∙ (btree_map_get_iff order_total exact_cells n is q k).1 e);
-    complete = λ k q e. (btree_map_get_iff order_total exact_cells n is q k).0 (in-map k q e (place-of cells c k q e))
+    complete = λ k q e. (btree_map_get_iff order_total exact_cells n is q k).0 (in-map k q e (place-of cells c k q e));
   }

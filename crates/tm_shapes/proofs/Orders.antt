@@ -62,7 +62,7 @@ exact_levels a b e =
       captures = exact_unsigned a.captures b.captures q.0 i;
       «open» = exact_unsigned a.«open» b.«open» r.0 i;
       escapes = exact_unsigned a.escapes b.escapes s.0 i;
-      floor = exact_unsigned a.floor b.floor s.1 i
+      floor = exact_unsigned a.floor b.floor s.1 i;
     }
 
 exact_items : (a b : Item) → (ordered_item.cmp-value).it a b ≡ Equal → a ≡ b

@@ -195,9 +195,9 @@ made-one a b e =
         captures = eqb-true a.level.captures b.level.captures w.0 i;
         «open» = eqb-true a.level.«open» b.level.«open» x.0 i;
         escapes = eqb-true a.level.escapes b.level.escapes y.0 i;
-        floor = eqb-true a.level.floor b.level.floor y.1 i
+        floor = eqb-true a.level.floor b.level.floor y.1 i;
       };
-      below = eqb-true a.below b.below u.1 i
+      below = eqb-true a.below b.below u.1 i;
     }
 
 made-itself : (a : Made) → same_made a a ≡ true

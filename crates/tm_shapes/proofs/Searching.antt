@@ -202,17 +202,16 @@ module _ (a : Asked) (code : List Instruction) where
       slice_get made.shapes.items n ≡ Some None → Shows made.cells m s → new.cells ≡ made.cells →
       new.shapes.items ≡ slice_set made.shapes.items n (Some m) → new.work ≡ n ∷ made.work →
       (g : Found) × (reach_of a code n s f ≡ Some g) × IsFound new g
-  reach_first made new f n s m h e x same put work =
-      (
-        record { shapes = slice_set f.shapes n (Some s); work = n ∷ f.work },
-        ap (λ o. reach_of_by o n s f) (open_at made.cells made.shapes.items f.shapes n h.shapes e),
-        record {
-          shapes = subst (λ cells. AllShown cells new.shapes.items (slice_set f.shapes n (Some s))) (sym same)
-              (subst (λ ms. AllShown made.cells ms (slice_set f.shapes n (Some s))) (sym put)
-              (put_shown made.cells made.shapes.items f.shapes n m s h.shapes x));
-          work = work ∙ ap (λ w. n ∷ w) h.work;
-        },
-      )
+  reach_first made new f n s m h e x same put work = (
+    record { shapes = slice_set f.shapes n (Some s); work = n ∷ f.work },
+    ap (λ o. reach_of_by o n s f) (open_at made.cells made.shapes.items f.shapes n h.shapes e),
+    record {
+      shapes = subst (λ cells. AllShown cells new.shapes.items (slice_set f.shapes n (Some s))) (sym same)
+          (subst (λ ms. AllShown made.cells ms (slice_set f.shapes n (Some s))) (sym put)
+          (put_shown made.cells made.shapes.items f.shapes n m s h.shapes x));
+      work = work ∙ ap (λ w. n ∷ w) h.work;
+    },
+  )
 
   -- ---------------------------------------------------------------- following
   abbrev pub Taking : List Cell → ℕ → Way → Flow → Type 0
@@ -331,23 +330,21 @@ seeds_next seeds k lt =
 
 pub begins : (a : Asked) (code : List Instruction) (all : Seeds) (made : Finding) → made.shapes.items ≡ unshaped code → made.work ≡ [] →
     Begins a code all all made
-begins a code all made shapes work =
-    (
-      record { shapes = no_shapes code; work = [] },
-      record { shapes = subst (λ ms. AllShown made.cells ms (no_shapes code)) (sym shapes) (none_shown made.cells code); work = work },
-      refl,
-      omega (arith, all_unmet code),
-    )
+begins a code all made shapes work = (
+  record { shapes = no_shapes code; work = [] },
+  record { shapes = subst (λ ms. AllShown made.cells ms (no_shapes code)) (sym shapes) (none_shown made.cells code); work = work },
+  refl,
+  omega (arith, all_unmet code),
+)
 
 pub begins_on : (a : Asked) (code : List Instruction) (all rest more : Seeds) (e : ℕ × Shape) (made new : Finding) → rest ≡ e ∷ more →
     (b : Begins a code all rest made) → ((g : Found) × (reach_of a code e.0 e.1 b.0 ≡ Some g) × IsFound new g) → Begins a code all more new
-begins_on a code all rest more e made new is (f, shown, same, much) (g, reached, now) =
-    (
-      g,
-      now,
-      same ∙ ap (λ es. begun a code es f) is ∙ ap (option_and_then (begun a code more)) reached,
-      reach_left a code e.0 e.1 f g reached ∙ much,
-    )
+begins_on a code all rest more e made new is (f, shown, same, much) (g, reached, now) = (
+  g,
+  now,
+  same ∙ ap (λ es. begun a code es f) is ∙ ap (option_and_then (begun a code more)) reached,
+  reach_left a code e.0 e.1 f g reached ∙ much,
+)
 
 pub begins_none : (a : Asked) (code : List Instruction) (all rest more : Seeds) (e : ℕ × Shape) (made : Finding) → rest ≡ e ∷ more →
     (b : Begins a code all rest made) → reach_of a code e.0 e.1 b.0 ≡ None → is_some (found a code all) ≡ false
@@ -358,14 +355,13 @@ begins_none a code all rest more e made is (f, shown, same, much) refuses =
 
 pub goes : (a : Asked) (code : List Instruction) (all rest : Seeds) (made : Finding) → rest ≡ [] → Begins a code all rest made →
     Goes a code all made
-goes a code all rest made is (f, shown, same, much) =
-    (
-      f,
-      length (no_shapes code),
-      shown,
-      omega (arith, much),
-      ap (option_and_then (λ (f : Found). search_of a code (length (no_shapes code)) f.work f.shapes)) (same ∙ ap (λ es. begun a code es f) is),
-    )
+goes a code all rest made is (f, shown, same, much) = (
+  f,
+  length (no_shapes code),
+  shown,
+  omega (arith, much),
+  ap (option_and_then (λ (f : Found). search_of a code (length (no_shapes code)) f.work f.shapes)) (same ∙ ap (λ es. begun a code es f) is),
+)
 
 -- a place is taken from the work
 pub taken_off : (made new : Finding) (f : Found) (n : ℕ) (work : List ℕ) → IsFound made f → made.work ≡ n ∷ work → new.cells ≡ made.cells →

@@ -201,37 +201,34 @@ no_groups_are (x ∷ xs) = ap (λ bs. false ∷ bs) (no_groups_are xs)
 
 pub begins : (code : List Instruction) (all : Seeds) (made : Seeing) → made.shapes.items ≡ unshaped code → made.work ≡ [] →
     made.groups.items ≡ no_groups code → Begins code all all made
-begins code all made shapes work groups =
-    (
-      nothing_seen code,
-      record {
-        shapes = subst (λ ms. AllShown made.cells ms (no_shapes code)) (sym shapes) (none_shown made.cells code);
-        work = work;
-        groups = groups;
-      },
-      refl,
-      omega (arith, all_unmet code),
-    )
+begins code all made shapes work groups = (
+  nothing_seen code,
+  record {
+    shapes = subst (λ ms. AllShown made.cells ms (no_shapes code)) (sym shapes) (none_shown made.cells code);
+    work = work;
+    groups = groups;
+  },
+  refl,
+  omega (arith, all_unmet code),
+)
 
 pub begins_on : (code : List Instruction) (all rest more : Seeds) (e : ℕ × Shape) (made new : Seeing) → rest ≡ e ∷ more →
     (b : Begins code all rest made) → IsSeen new (note_of ask_openly code e.0 e.1 b.0) → Begins code all more new
-begins_on code all rest more e made new is (f, shown, same, much) now =
-    (
-      note_of ask_openly code e.0 e.1 f,
-      now,
-      same ∙ ap (λ es. noted code es f) is,
-      note_left ask_openly code e.0 e.1 f ∙ much,
-    )
+begins_on code all rest more e made new is (f, shown, same, much) now = (
+  note_of ask_openly code e.0 e.1 f,
+  now,
+  same ∙ ap (λ es. noted code es f) is,
+  note_left ask_openly code e.0 e.1 f ∙ much,
+)
 
 pub goes : (code : List Instruction) (all rest : Seeds) (made : Seeing) → rest ≡ [] → Begins code all rest made → Goes code all made
-goes code all rest made is (f, shown, same, much) =
-    (
-      f,
-      length (no_shapes code),
-      shown,
-      omega (arith, much),
-      ap (λ (f : Seen). (wander code (site_of ask_openly code) (length (no_shapes code)) f.work f).groups) (same ∙ ap (λ es. noted code es f) is),
-    )
+goes code all rest made is (f, shown, same, much) = (
+  f,
+  length (no_shapes code),
+  shown,
+  omega (arith, much),
+  ap (λ (f : Seen). (wander code (site_of ask_openly code) (length (no_shapes code)) f.work f).groups) (same ∙ ap (λ es. noted code es f) is),
+)
 
 -- a place is taken from the work
 pub taken_off : (made new : Seeing) (f : Seen) (n : ℕ) (work : List ℕ) → IsSeen made f → new.cells ≡ made.cells →

@@ -36,7 +36,7 @@ module _ (old new : List Cell) (g : Grown old new) where
     frames = frames-kept level.frames p.frames h.frames;
     captures = captures-kept level.captures p.captures h.captures;
     count = h.count;
-    escapes = h.escapes
+    escapes = h.escapes;
   }
 
   parts-kept : (n floor : ℕ) (qs : List Part) → Parts old n floor qs → Parts new n floor qs
@@ -55,9 +55,9 @@ module _ (old new : List Cell) (g : Grown old new) where
       frames = frames-kept made.level.frames s.part.frames shown.level.frames;
       captures = captures-kept made.level.captures s.part.captures shown.level.captures;
       count = shown.level.count;
-      escapes = shown.level.escapes
+      escapes = shown.level.escapes;
     };
-    parts = parts-kept made.below made.level.floor s.below shown.parts
+    parts = parts-kept made.below made.level.floor s.below shown.parts;
   }
 
   -- a part over the others
@@ -75,7 +75,7 @@ module _ (old new : List Cell) (g : Grown old new) where
       level-kept made.level s.part shown.level,
       floor ∙ shown.height,
       parts-kept made.below made.level.floor s.below shown.parts,
-    )
+    );
   }
 
 -- ---------------------------------------------------------------- values
@@ -101,7 +101,7 @@ shows-pushed cells made s c v h e f shown = record {
       (operands-pushed cells made.values made.top c (s.part.operands ++ all_operands s.below) shown.operands));
   height = omega (arith, f, shown.height, length-pushed c s.part.operands);
   level = record { frames = shown.level.frames; captures = shown.level.captures; count = shown.level.count; escapes = shown.level.escapes };
-  parts = shown.parts
+  parts = shown.parts;
 }
 
 none-more : (v : ℕ) → 0 + v ≡ v
@@ -115,7 +115,7 @@ shows-over cells v level none floor = record {
       (subst (λ w. Operands cells w 0 (pushed v [])) (none-more v) (operands-pushed cells 0 0 v [] refl));
   height = omega (arith, length-pushed v [], floor);
   level = record { frames = none.frames; captures = none.captures; count = none.count; escapes = none.escapes };
-  parts = (refl, floor)
+  parts = (refl, floor);
 }
 
 -- ---------------------------------------------------------------- a part less
@@ -138,13 +138,17 @@ lower cells made s level b (q ∷ qs) cell is (found, c, at, of, low, rest) show
     ap (λ rs. s.part.operands ++ all_operands rs) is ∙ sym (append_assoc s.part.operands q.operands (all_operands qs)) in
     let lies : IsLevel cells level q = subst (λ l. IsLevel cells l q) same of in
     let floors : made.level.floor ≡ length q.operands + level.floor =
-    subst (λ (l : Level). made.level.floor ≡ length q.operands + l.floor) same low in
-    (q, qs, is, record {
-      operands = subst (λ ks. Operands cells made.values made.top ks) all shown.operands;
-      height = omega (arith, shown.height, floors, length-append s.part.operands q.operands);
-      level = record { frames = lies.frames; captures = lies.captures; count = lies.count; escapes = lies.escapes };
-      parts = subst (λ (l : Level). Parts cells b l.floor qs) same (subst (λ m. Parts cells m found.floor qs) under rest)
-    })
+    subst (λ (l : Level). made.level.floor ≡ length q.operands + l.floor) same low in (
+      q,
+      qs,
+      is,
+      record {
+        operands = subst (λ ks. Operands cells made.values made.top ks) all shown.operands;
+        height = omega (arith, shown.height, floors, length-append s.part.operands q.operands);
+        level = record { frames = lies.frames; captures = lies.captures; count = lies.count; escapes = lies.escapes };
+        parts = subst (λ (l : Level). Parts cells b l.floor qs) same (subst (λ m. Parts cells m found.floor qs) under rest);
+      },
+    )
 
 pub shows-lower : (cells : List Cell) (made : Made) (s : Shape) (level : Level) (b : ℕ) →
     cell_at cells made.below ≡ Some (record { item = items.Part level; below = b }) → Shows cells made s →
@@ -172,13 +176,16 @@ pub shows-under-value : (cells : List Cell) (made : Made) (s : Shape) (v : ℕ) 
     × Shows cells (record made { values = v; height = made.height - 1 }) (with_operands ls s)
 shows-under-value cells made s v e lt shown =
     let p = under-value cells v made.top made.height made.level.floor s.part.operands (all_operands s.below) lt shown.height
-    (subst (λ w. Operands cells w made.top (s.part.operands ++ all_operands s.below)) e shown.operands) in
-    (p.0, p.1, record {
-      operands = p.2;
-      height = p.3;
-      level = record { frames = shown.level.frames; captures = shown.level.captures; count = shown.level.count; escapes = shown.level.escapes };
-      parts = shown.parts
-    })
+    (subst (λ w. Operands cells w made.top (s.part.operands ++ all_operands s.below)) e shown.operands) in (
+      p.0,
+      p.1,
+      record {
+        operands = p.2;
+        height = p.3;
+        level = record { frames = shown.level.frames; captures = shown.level.captures; count = shown.level.count; escapes = shown.level.escapes };
+        parts = shown.parts;
+      },
+    )
 
 under-special : (cells : List Cell) (n h f : ℕ) (ks js : List Kind) → f < h → h ≡ length ks + f → Operands cells 0 n (ks ++ js) →
     (k : Kind) × (ls : List Kind) × (w : ℕ) × (b : ℕ) × (ks ≡ k ∷ ls) × IsCell cells n (items.Operand k w) b × Operands cells w b (ls ++ js)
@@ -203,11 +210,14 @@ shows-under-special cells made s k w b e lt cell shown =
     (subst (λ w. Operands cells w made.top (s.part.operands ++ all_operands s.below)) e shown.operands) in
     let same = same-cells (record { item = items.Operand p.0 p.2; below = p.3 }) (record { item = items.Operand k w; below = b }) (sym p.5 ∙ cell) in
     let kind : p.0 ≡ k = cc same.0 in
-    let values : p.2 ≡ w = cc same.0 in
-    (p.1, p.4 ∙ ap (λ k. k ∷ p.1) kind, record {
-      operands = subst (λ w. Operands cells w b (p.1 ++ all_operands s.below)) values
-          (subst (λ b. Operands cells p.2 b (p.1 ++ all_operands s.below)) same.1 p.6);
-      height = p.7;
-      level = record { frames = shown.level.frames; captures = shown.level.captures; count = shown.level.count; escapes = shown.level.escapes };
-      parts = shown.parts
-    })
+    let values : p.2 ≡ w = cc same.0 in (
+      p.1,
+      p.4 ∙ ap (λ k. k ∷ p.1) kind,
+      record {
+        operands = subst (λ w. Operands cells w b (p.1 ++ all_operands s.below)) values
+            (subst (λ b. Operands cells p.2 b (p.1 ++ all_operands s.below)) same.1 p.6);
+        height = p.7;
+        level = record { frames = shown.level.frames; captures = shown.level.captures; count = shown.level.count; escapes = shown.level.escapes };
+        parts = shown.parts;
+      },
+    )

@@ -52,13 +52,16 @@ shows-off : (cells : List Cell) (made : Made) (s : Shape) (c : ℕ) → c ≤ ma
     (ls : List Kind) × (s.part.operands ≡ pushed c ls)
     × Shows cells (record made { values = made.values - c; height = made.height - c }) (with_operands ls s)
 shows-off cells made s c le lt shown =
-    let off = values-off cells c made.values made.top s.part.operands (all_operands s.below) le lt shown.operands in
-    (off.0, off.1, record {
-      operands = off.2;
-      height = omega (arith, shown.height, ap length off.1, length-pushed c off.0);
-      level = record { frames = shown.level.frames; captures = shown.level.captures; count = shown.level.count; escapes = shown.level.escapes };
-      parts = shown.parts
-    })
+    let off = values-off cells c made.values made.top s.part.operands (all_operands s.below) le lt shown.operands in (
+      off.0,
+      off.1,
+      record {
+        operands = off.2;
+        height = omega (arith, shown.height, ap length off.1, length-pushed c off.0);
+        level = record { frames = shown.level.frames; captures = shown.level.captures; count = shown.level.count; escapes = shown.level.escapes };
+        parts = shown.parts;
+      },
+    )
 
 -- So many values are still to be taken, from what stays of a shape.
 abbrev pub IsLeft : List Cell → Made → ℕ → Made → ℕ → Type 0
@@ -81,8 +84,7 @@ module _ (cells : List Cell) (self : Made) (count : ℕ) (made : Made) (left : �
       let p = h s shown in
       let off = shows-off cells made (with_operands p.0 s) made.values (omega arith) (omega (arith, le, p.1)) p.3 in
       let none : made.values - made.values ≡ 0 = omega arith in
-      let rest : left ≡ made.values + (left - made.values) = omega (arith, le) in
-      (
+      let rest : left ≡ made.values + (left - made.values) = omega (arith, le) in (
         off.0,
         omega (arith, p.1, ap length off.1, length-pushed made.values off.0, le),
         (λ f. p.2 f ∙ ap (λ ks. pops left ks f) off.1 ∙ pops-past made.values (left - made.values) left rest off.0 f),

@@ -1,8 +1,6 @@
 -- Which streams are accepted.
 use Rattle.std.specs.Prelude.{◌≡◌, ℕ, zero, suc, ◌+◌, List, [], ◌∷◌, drop, length, Option, Some, None, Bool, true, false, nat_eq, not, is_some}
 use Rattle.std.specs.Prelude.{◌&&◌, ◌||◌, option_and_then, slice_get}
-use Rattle.tm_meaning.specs.World.{choose}
-use Rattle.tm_meaning.specs.Steps.{is_empty}
 use Rattle.tm_syntax.specs.declared.instruction.CaptureMode.{CaptureMode}
 use Rattle.tm_syntax.specs.declared.instruction.CaptureMode.TheVariants.{Capture, Discard}
 use Rattle.tm_syntax.specs.declared.instruction.Instruction.{Instruction}
@@ -17,7 +15,7 @@ use Rattle.tm_shapes.specs.declared.kind.Reading.{Reading}
 use Rattle.tm_shapes.specs.declared.kind.Reading.TheVariants as readings
 use Rattle.tm_shapes.specs.declared.kind.Form.{Form}
 use Rattle.tm_shapes.specs.declared.kind.Form.TheVariants as forms
-use Rattle.tm_shapes.specs.Shapes.{Part, Shape, Shapes, entry_shape, first_shape, itself, shape_at}
+use Rattle.tm_shapes.specs.Shapes.{Part, Shape, Shapes, entry_shape, first_shape, shape_at}
 use Rattle.tm_shapes.specs.Flows.{Site, are, flow_of, is_closed, is_zero}
 use Rattle.tm_shapes.specs.Placed.{is_entered, is_placed}
 use Rattle.tm_shapes.specs.Search.{Found, Has, Seen, note, reach, search, wander}

@@ -17,5 +17,5 @@ mod verifier;
 
 pub use before::Before;
 pub use kind::{Form, Frame, Kind, Reading};
-pub use verifier::{Verified, verify};
 pub use rows::{end_rows, form_rows, group_rows, loop_rows, placed_rows, shape_rows, way_rows};
+pub use verifier::{Verified, verify};

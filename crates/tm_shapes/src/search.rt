@@ -292,7 +292,12 @@ impl Seen {
     }
 
     /// A place is looked at.
-    fn glance(&mut self, stream: &Stream<'_>, asked: &Asked<'_>, place: usize) -> Result<(), AllocError>
+    fn glance(
+        &mut self,
+        stream: &Stream<'_>,
+        asked: &Asked<'_>,
+        place: usize,
+    ) -> Result<(), AllocError>
         requires marks { AreMarks stream.now.code.now stream.now.entered.now }
         requires long { length stream.now.code.now ≤ length stream.now.entered.now }
         ensures { OnOk result ((question : Question) (f : Seeing) → IsAsked asked.now question →

@@ -69,7 +69,10 @@ impl Shape {
         ensures { IfOk result (λ made. (cells : List Celled) (s : Spec) → Shows cells self s →
             Shows cells made (with_operands (pushed count s.part.operands) s)) }
     {
-        match (self.values.checked_add(count), self.height.checked_add(count)) {
+        match (
+            self.values.checked_add(count),
+            self.height.checked_add(count),
+        ) {
             (Some(values), Some(height)) => Ok(Shape {
                 values,
                 height,

@@ -78,7 +78,11 @@ impl<'a> Site<'a> {
         ensures { result ≡ builds_after self.now.rest.now }
     {
         match self.rest {
-            [Instruction::LoadConst(_), Instruction::BuildMacro(_, _, _), ..] => true,
+            [
+                Instruction::LoadConst(_),
+                Instruction::BuildMacro(_, _, _),
+                ..
+            ] => true,
             _ => false,
         }
     }
@@ -101,8 +105,7 @@ impl<'a> Site<'a> {
     {
         match self.rest {
             [Instruction::Add, ..] => {
-                self.is_after_swap
-                    && !(is_marked(self.entered, 0) || is_marked(self.entered, 1))
+                self.is_after_swap && !(is_marked(self.entered, 0) || is_marked(self.entered, 1))
             }
             _ => false,
         }

@@ -69,7 +69,10 @@ fn all_seeds(alloc: Global, code: &[Instruction]) -> Result<Vec<Seed>, AllocErro
     ensures { IfOk result (λ seeds. seeds_of seeds.items ≡ all_seeds code.now) }
 {
     let mut seeds = Vec::new(alloc);
-    seeds.push(Seed { place: 0, values: 0 })?;
+    seeds.push(Seed {
+        place: 0,
+        values: 0,
+    })?;
     let mut before = None;
     for instruction in code {
         add_seed(&mut seeds, entry_of(before, instruction))?;
@@ -261,11 +264,7 @@ impl Model for Verified {
 
 /// Accepts a stream that is never stuck: where shapes of its places meet the rules. BadStream where there are none,
 /// OutOfMemory when out of memory; the instructions are dropped then.
-pub fn verify(
-    alloc: Global,
-    instructions: Vec<Instruction>,
-    form: Form,
-) -> Result<Verified, Error>
+pub fn verify(alloc: Global, instructions: Vec<Instruction>, form: Form) -> Result<Verified, Error>
     ensures accepted { IfOk result (λ made.
         (made ≡ instructions.items) × (accepts form instructions.items ≡ true)) }
     ensures refused { IfErr result (IsRefused form instructions.items) }

@@ -10,5 +10,8 @@ returns-in-Ok-clause-accepted c = (refl, subst (λ code. accepts c.args.form cod
 
 pub returns-in-Err-BadStream-clause-refused : goal.returns-in-Err-BadStream-clause-refused
 returns-in-Err-BadStream-clause-refused c =
-    inr (c.from.ensures, subst (λ code. accepts c.args.form code ≡ false) c.as_slice.ensures.value
-    (c.in-Err-BadStream.ensures.refused c.in-Err-BadStream.field-0-is))
+    inr (
+      c.from.ensures,
+      subst (λ code. accepts c.args.form code ≡ false) c.as_slice.ensures.value
+          (c.in-Err-BadStream.ensures.refused c.in-Err-BadStream.field-0-is),
+    )

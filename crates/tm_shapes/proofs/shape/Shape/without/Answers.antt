@@ -48,8 +48,7 @@ loop-left-preserved c = (
       let p = left-past c.args.cells.now c.args.self c.args.count c.loop-left.shape c.loop-left.left c.loop-left.invariant.1
       (omega (arith, c.if-left-shape.false)) s shown in
       let popped = subst (λ o. IsPopped c.args.cells.now (with_operands p.0 s) o) c.in_ok-rest.was (c.pop.ensures.popped (with_operands p.0 s) p.3) in
-      let a_value : is_value (c.in_ok-rest.field-0).0 ≡ true = search rules in
-      (
+      let a_value : is_value (c.in_ok-rest.field-0).0 ≡ true = search rules in (
         popped.0,
         omega (arith, p.1, ap length popped.1),
         (λ f. p.2 f ∙ pops-one (c.loop-left.left - c.loop-left.shape.values) p.0 (c.in_ok-rest.field-0).0 popped.0

@@ -19,5 +19,5 @@ returns-in-Part c = λ s shown.
 pub returns-in_default : goal.returns-in_default
 returns-in_default c = λ s shown.
     shows-lowest c.args.cells.now c.args.self s (λ level b cell.
-        let e : (c.in_ok-level.field-0).item ≡ items.Part level = (same-cells _ _ (sym c.in_ok-level.was ∙ c.get.ensures.found ∙ cell)).0 in
-        search rules) shown
+    let e : (c.in_ok-level.field-0).item ≡ items.Part level = (same-cells _ _ (sym c.in_ok-level.was ∙ c.get.ensures.found ∙ cell)).0 in
+    search rules) shown
