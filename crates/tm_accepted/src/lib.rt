@@ -28,7 +28,8 @@ pub fn the_code_of_trees_has_shapes()
     ensures { (tree : StreamTree) → let code = assembled (fragment_of tree) in
         (read : Readings) × (shapes : Shapes)
         × ((n : ℕ) → (read n ≡ readings.Value) ⊎ (read n ≡ readings.Group))
-        × ((n : ℕ) (s : Shape) → read n ≡ readings.Group → shape_at shapes n ≡ Some s → s.part.operands ≡ [])
+        × ((n : ℕ) (s : Shape) → read n ≡ readings.Group → shape_at shapes n ≡ Some s →
+        s.part.operands ≡ [])
         × Laid read (form_of tree) (fragment_of tree) code shapes }
 {}
 
@@ -71,7 +72,8 @@ pub fn a_stream_is_accepted_where_shapes_fit()
 pub fn what_takes_a_group_is_found()
     ensures { (code : List Instruction) (read : Readings) (form : Form) (shapes : Shapes) →
         ((n : ℕ) → (read n ≡ readings.Value) ⊎ (read n ≡ readings.Group)) →
-        ((n : ℕ) (s : Shape) → read n ≡ readings.Group → shape_at shapes n ≡ Some s → s.part.operands ≡ []) →
+        ((n : ℕ) (s : Shape) → read n ≡ readings.Group → shape_at shapes n ≡ Some s →
+        s.part.operands ≡ []) →
         ((n : ℕ) (s : Shape) (k : Kind) (ks : List Kind) → slice_get code n ≡ Some Swap →
         in_row (site_of (ask_all read form) code n) ≡ true → shape_at shapes n ≡ Some s →
         s.part.operands ≡ k ∷ value ∷ ks → ⊥) →

@@ -33,13 +33,16 @@ pub fn shape_rows()
         (i.LoadConst nothing_in ∷ i.PushLoop (looping false) ∷ i.PopFrame ∷ []) ≡ false }
     ensures included { accepts forms.Template
         (i.LoadConst (text (codes "e") false) ∷ i.IncludeModule ∷ []) ≡ true }
-    ensures exported { accepts forms.Template (one_value ∷ i.ExportLocals ∷ i.DiscardTop ∷ []) ≡ true }
+    ensures exported { accepts forms.Template
+        (one_value ∷ i.ExportLocals ∷ i.DiscardTop ∷ []) ≡ true }
 {}
 
 /// Captures are the same by their modes, and loops by what was there at their `PushLoop`.
 pub fn way_rows()
-    ensures modes { accepts forms.Template (one_way_or (i.BeginCapture Capture) (i.BeginCapture Discard)) ≡ false }
-    ensures mode { accepts forms.Template (one_way_or (i.BeginCapture Capture) (i.BeginCapture Capture)) ≡ true }
+    ensures modes { accepts forms.Template
+        (one_way_or (i.BeginCapture Capture) (i.BeginCapture Discard)) ≡ false }
+    ensures mode { accepts forms.Template
+        (one_way_or (i.BeginCapture Capture) (i.BeginCapture Capture)) ≡ true }
     ensures loops { accepts forms.Template loop_over_one_or_none ≡ false }
 {}
 
@@ -79,12 +82,17 @@ pub fn placed_rows()
     ensures target { accepts forms.Template (i.Jump 2 ∷ i.Jump 9 ∷ []) ≡ false }
     ensures unreached { accepts forms.Template unreached_macro ≡ false }
     ensures parts { accepts forms.Template parts_apart ≡ false }
-    ensures alone { accepts forms.Template (i.Jump 2 ∷ i.BuildMacro (codes "m") 2 false ∷ []) ≡ false }
+    ensures alone { accepts forms.Template
+        (i.Jump 2 ∷ i.BuildMacro (codes "m") 2 false ∷ []) ≡ false }
     ensures together { accepts forms.Template (macro_before (i.Jump 5)) ≡ true }
     ensures middle { accepts forms.Template (macro_before (i.Jump 2)) ≡ false }
     ensures last { accepts forms.Template (macro_before (i.Jump 3)) ≡ false }
-    ensures two_names { accepts forms.Template (through (filter (codes "a") 0) (filter (codes "b") 0)) ≡ false }
-    ensures two_caches { accepts forms.Template (through (filter (codes "a") 0) (filter (codes "b") 1)) ≡ true }
-    ensures tests_apart { accepts forms.Template (through (filter (codes "a") 0) (test (codes "b") 0)) ≡ true }
-    ensures no_cache { accepts forms.Template (one_value ∷ filter (codes "a") 60 ∷ i.Emit ∷ []) ≡ false }
+    ensures two_names { accepts forms.Template
+        (through (filter (codes "a") 0) (filter (codes "b") 0)) ≡ false }
+    ensures two_caches { accepts forms.Template
+        (through (filter (codes "a") 0) (filter (codes "b") 1)) ≡ true }
+    ensures tests_apart { accepts forms.Template
+        (through (filter (codes "a") 0) (test (codes "b") 0)) ≡ true }
+    ensures no_cache { accepts forms.Template
+        (one_value ∷ filter (codes "a") 60 ∷ i.Emit ∷ []) ≡ false }
 {}

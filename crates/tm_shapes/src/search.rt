@@ -147,8 +147,9 @@ struct Found {
 impl Found {
     /// A place is reached in a shape: refused past the end, and where it has another.
     fn reach(&mut self, place: usize, shape: Shape) -> Result<(), Refusal>
-        ensures reached { (question : Question) (code : List Instruction) (f : Finding) (s : Spec) → IsFound self.old f →
-            Shows self.old.cells shape s → Comes self.new (reach_of question code place s f) result }
+        ensures reached { (question : Question) (code : List Instruction) (f : Finding) (s : Spec) →
+            IsFound self.old f → Shows self.old.cells shape s →
+            Comes self.new (reach_of question code place s f) result }
         ensures cells { self.new.cells ≡ self.old.cells }
     {
         match self.shapes.get(place) {
@@ -166,8 +167,9 @@ impl Found {
     /// What an instruction at a place leads to is reached.
     fn follow(&mut self, place: usize, way: Way) -> Result<(), Refusal>
         requires { place < 2 ^ 64 - 1 }
-        ensures { (question : Question) (code : List Instruction) (f : Finding) (x : Led) → IsFound self.old f →
-            TellsWay self.old.cells place way x → Comes self.new (follow_of question code x f) result }
+        ensures { (question : Question) (code : List Instruction) (f : Finding) (x : Led) →
+            IsFound self.old f → TellsWay self.old.cells place way x →
+            Comes self.new (follow_of question code x f) result }
     {
         match way {
             Way::Refused => Err(Refusal::BadStream),
@@ -186,7 +188,8 @@ impl Found {
         requires marks { AreMarks stream.now.code.now stream.now.entered.now }
         requires long { length stream.now.code.now ≤ length stream.now.entered.now }
         ensures { (question : Question) (f : Finding) → IsAsked asked.now question →
-            IsFound self.old f → Comes self.new (look_of question stream.now.code.now place f) result }
+            IsFound self.old f →
+            Comes self.new (look_of question stream.now.code.now place f) result }
     {
         let Some(shape) = shape_at(&self.shapes, place) else {
             return Err(Refusal::BadStream);
@@ -214,7 +217,8 @@ pub(crate) fn search(
     requires long { length stream.now.code.now ≤ length stream.now.entered.now }
     ensures found { OnOk result ((question : Question) → IsAsked asked.now question →
         is_some (found question stream.now.code.now (seeds_of seeds.now)) ≡ true) }
-    ensures none { IfErr result (λ e. e ≡ BadStream → (question : Question) → IsAsked asked.now question →
+    ensures none { IfErr result (λ e. e ≡ BadStream →
+        (question : Question) → IsAsked asked.now question →
         is_some (found question stream.now.code.now (seeds_of seeds.now)) ≡ false) }
 {
     let mut found = Found {
@@ -243,7 +247,8 @@ struct Seen {
 impl Seen {
     /// A place keeps the first shape in which it is met, and none lies past the end.
     fn note(&mut self, place: usize, shape: Shape) -> Result<(), AllocError>
-        ensures noted { OnOk result ((question : Question) (code : List Instruction) (f : Seeing) (s : Spec) → IsSeen self.old f →
+        ensures noted { OnOk result ((question : Question) (code : List Instruction)
+            (f : Seeing) (s : Spec) → IsSeen self.old f →
             Shows self.old.cells shape s → IsSeen self.new (note_of question code place s f)) }
         ensures cells { self.new.cells ≡ self.old.cells }
     {
@@ -275,7 +280,8 @@ impl Seen {
     /// What an instruction at a place leads to is noted.
     fn trace(&mut self, place: usize, flow: Flow) -> Result<(), AllocError>
         requires { place < 2 ^ 64 - 1 }
-        ensures { OnOk result ((question : Question) (code : List Instruction) (f : Seeing) (x : Led) → IsSeen self.old f →
+        ensures { OnOk result ((question : Question) (code : List Instruction)
+            (f : Seeing) (x : Led) → IsSeen self.old f →
             Tells self.old.cells place flow x → IsSeen self.new (trace_of question code x f)) }
     {
         self.take(flow.taken);

@@ -210,7 +210,8 @@ fn fits_either(alloc: Global, stream: &Stream<'_>, form: Form) -> Result<(), Ref
     requires marks { AreMarks stream.now.code.now stream.now.entered.now }
     requires long { length stream.now.code.now ≤ length stream.now.entered.now }
     ensures found { OnOk result (fits_either form stream.now.code.now ≡ true) }
-    ensures none { IfErr result (λ e. e ≡ BadStream → fits_either form stream.now.code.now ≡ false) }
+    ensures none { IfErr result (λ e. e ≡ BadStream →
+        fits_either form stream.now.code.now ≡ false) }
 {
     let seeds = all_seeds(alloc, stream.code)?;
     match fits_as_taken(alloc, stream, &seeds, form) {
@@ -239,7 +240,7 @@ fn check(alloc: Global, code: &[Instruction], form: Form) -> Result<(), Refusal>
     fits_either(alloc, &stream, form)
 }
 
-/// A stream that is accepted: the only kind that the machine runs. A contract sees the instructions and what they are for.
+/// A stream that is accepted. A contract sees the instructions.
 #[derive(Drop)]
 pub struct Verified {
     instructions: Vec<Instruction>,
@@ -262,8 +263,8 @@ impl Model for Verified {
     ghost invariant = { λ a. accepts a.form a.instructions.items ≡ true };
 }
 
-/// Accepts a stream that is never stuck: where shapes of its places meet the rules. BadStream where there are none,
-/// OutOfMemory when out of memory; the instructions are dropped then.
+/// Gives a stream if it is accepted, so never stuck. BadStream where it isn't, OutOfMemory when out of memory; the
+/// instructions are dropped then. Time is about in proportion to the number of instructions.
 pub fn verify(alloc: Global, instructions: Vec<Instruction>, form: Form) -> Result<Verified, Error>
     ensures accepted { IfOk result (λ made.
         (made ≡ instructions.items) × (accepts form instructions.items ≡ true)) }
