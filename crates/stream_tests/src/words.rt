@@ -135,8 +135,13 @@ pub(crate) fn is_accepted(alloc: Global, words: &[Word], form: Form) -> Result<b
         instructions.push(instruction(alloc, *word)?)?;
     }
     match verify(alloc, instructions, form) {
-        Ok(_) => Ok(true),
-        Err(error) if error.kind() == ErrorKind::BadStream => Ok(false),
-        Err(error) => Err(error),
+        Ok(_verified) => Ok(true),
+        Err(error) => {
+            if error.kind() == ErrorKind::BadStream {
+                Ok(false)
+            } else {
+                Err(error)
+            }
+        }
     }
 }
