@@ -3,7 +3,7 @@ use Rattle.std.proofs.Common.{◌≡◌, ℕ, List, refl, sym, ap, ◌∙◌, Op
 use Rattle.std.specs.Map.{keys_of}
 use Rattle.std.specs.Option.{option_map}
 use Rattle.tm_values.specs.declared.escape.AutoEscape.{AutoEscape}
-use Rattle.tm_syntax.specs.BlockCodes.{block_code}
+use Rattle.tm_shapes.specs.BlockCodes.{block_code}
 use Rattle.tm_syntax.specs.Blocks.{stream_blocks, stream_of}
 use Rattle.tm_syntax.specs.Named.{by_name, find}
 use Rattle.tm_meaning.specs.declared.stream.StreamId.{StreamId}

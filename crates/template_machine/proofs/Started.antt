@@ -5,7 +5,7 @@ use Rattle.tm_values.specs.Val.{Val}
 use Rattle.tm_values.specs.declared.error.ErrorKind.{ErrorKind}
 use Rattle.tm_values.specs.declared.escape.AutoEscape.{AutoEscape}
 use Rattle.std.specs.Map.{keys_of}
-use Rattle.tm_syntax.specs.BlockCodes.{block_code}
+use Rattle.tm_shapes.specs.BlockCodes.{block_code}
 use Rattle.tm_syntax.specs.Blocks.{stream_blocks, stream_of}
 use Rattle.tm_syntax.specs.Named.{by_name}
 use Rattle.tm_meaning.specs.World.{World}

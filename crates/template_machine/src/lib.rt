@@ -31,7 +31,8 @@ pub use tm_operations as operations;
 pub use tm_output::{Target, TargetFailed};
 pub use tm_parts::{Counted, Limited, NullWriter, Output, Sink, WriteWrapper, write_text};
 pub use tm_printing as printing;
-pub use tm_syntax::{Assignment, AssignmentTarget, CaptureMode, CaptureUse, Code};
+pub use tm_shapes::{Form, Verified, verify};
+pub use tm_syntax::{Assignment, AssignmentTarget, CaptureMode, CaptureUse};
 pub use tm_tables::{
     Answering, BlockStack, Callable, CallableAnswer, Called, EscapeRule, Formatter, FuelTracker,
     MethodFallback, Objects, Parties, PathJoin, Plain, View,

@@ -13,8 +13,9 @@ use std::marker::Model;
 use tm_meaning::{StreamId, TemplateId};
 use tm_operations::with_maps;
 use tm_parts::{Captures, Halt, NullWriter, Sink};
+use tm_shapes::Verified;
 use tm_state::StateData;
-use tm_syntax::{Code, Name, NameMap};
+use tm_syntax::{Name, NameMap};
 use tm_tables::{CallableAnswer, Called, Host, NO_PLACE, Parties, TemplateEntry, View};
 use tm_templates::CompiledTemplate;
 use tm_values::{AutoEscape, Error, ErrorKind, UndefinedBehavior, Value};
@@ -284,7 +285,7 @@ impl<O: Parties> Host for Rendering<'_, O> {
         }
     }
 
-    fn instructions(&self, stream: &StreamId, place: usize) -> &Code {
+    fn instructions(&self, stream: &StreamId, place: usize) -> &Verified {
         self.template_at(&stream.template, place)
             .stream(&stream.block)
     }

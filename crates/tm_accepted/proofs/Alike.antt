@@ -2,8 +2,8 @@
 use Rattle.std.proofs.Common.{◌≡◌, ◌⊎◌, inl, inr, ℕ, zero, suc, List, [], ◌∷◌, Option, Some, None, Bool, true, false, refl, sym, ap, subst}
 use Rattle.std.specs.Prelude.{slice_get, ◌&&◌, ◌||◌}
 use Rattle.tm_values.specs.Val.{Val}
-use Rattle.tm_meaning.specs.Instructions.{names_in}
-use Rattle.tm_meaning.specs.World.{choose}
+use Rattle.tm_syntax.specs.Entries.{names_in}
+use Rattle.tm_syntax.specs.Choices.{choose}
 use Rattle.tm_syntax.specs.declared.instruction.Instruction.{Instruction}
 use Rattle.tm_syntax.specs.declared.instruction.Instruction.TheVariants as i
 use Rattle.tm_shapes.specs.declared.kind.Form.{Form}

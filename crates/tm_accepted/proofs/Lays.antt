@@ -9,8 +9,8 @@ use Rattle.tm_syntax.specs.declared.jump.JumpKind.{JumpKind}
 use Rattle.tm_syntax.specs.declared.jump.JumpKind.TheVariants as kinds
 use Rattle.tm_syntax.specs.Fragments.{Fragment, straight, ◌⨾◌, jump_out, bounded, fork, looped, break_loop, next_round, declares, MacroHead}
 use Rattle.tm_syntax.specs.Fragments.{beyond_all, beyond, Labels, outward, inward, ending_at, jump, assemble, after_body, building, name_list}
-use Rattle.tm_meaning.specs.Instructions.{names_in, texts_in, and_text}
-use Rattle.tm_meaning.specs.World.{choose}
+use Rattle.tm_syntax.specs.Entries.{names_in, texts_in, and_text}
+use Rattle.tm_syntax.specs.Choices.{choose}
 use Rattle.tm_shapes.specs.declared.kind.Kind.{Kind}
 use Rattle.tm_shapes.specs.declared.kind.Kind.TheVariants.{Value as value, Group as group, Closure as closure, Names as names}
 use Rattle.tm_shapes.specs.declared.kind.Reading.{Reading}

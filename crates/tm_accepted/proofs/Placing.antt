@@ -5,7 +5,7 @@ use Rattle.std.specs.Prelude.{pos, is_some, not, ◌&&◌, ◌||◌}
 use Rattle.std.proofs.lemmas.Bool.Decides.{nat_tests}
 use Rattle.tm_values.specs.Val.{number, text}
 use Rattle.tm_values.proofs.Lists.{list_of-vals_of}
-use Rattle.tm_meaning.specs.Instructions.{names_in, texts_in, and_text}
+use Rattle.tm_syntax.specs.Entries.{names_in, texts_in, and_text}
 use Rattle.tm_syntax.specs.declared.instruction.Instruction.{Instruction}
 use Rattle.tm_syntax.specs.declared.instruction.Instruction.TheVariants as i
 use Rattle.tm_syntax.specs.Blocks.{StreamTree, fragment_of}

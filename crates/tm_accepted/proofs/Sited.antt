@@ -3,8 +3,8 @@ use Rattle.std.proofs.Common.{◌≡◌, ℕ, zero, suc, ◌+◌, List, [], ◌�
 use Rattle.std.specs.Prelude.{pos, drop, slice_get, option_and_then, not, ◌&&◌, ◌||◌}
 use Rattle.std.proofs.lemmas.Bool.Decides.{nat_tests}
 use Rattle.tm_values.specs.Val.{Val, number}
-use Rattle.tm_meaning.specs.World.{choose}
-use Rattle.tm_meaning.specs.Instructions.{names_in}
+use Rattle.tm_syntax.specs.Choices.{choose}
+use Rattle.tm_syntax.specs.Entries.{names_in}
 use Rattle.tm_syntax.specs.declared.instruction.Instruction.{Instruction}
 use Rattle.tm_syntax.specs.declared.instruction.Instruction.TheVariants as i
 use Rattle.tm_syntax.specs.Fragments.{name_list}

@@ -3,9 +3,9 @@ use Rattle.std.proofs.Common.{◌≡◌, ◌⊎◌, inl, inr, ℕ, zero, suc, �
 use Rattle.std.proofs.Common.{refl, sym, ap, ◌∙◌, subst, arith}
 use Rattle.std.specs.Prelude.{slice_get, nat_eq, ◌&&◌}
 use Rattle.tm_values.specs.Val.{Val}
-use Rattle.tm_meaning.specs.World.{choose}
-use Rattle.tm_meaning.specs.Instructions.{names_in}
-use Rattle.tm_meaning.specs.Steps.{is_empty}
+use Rattle.tm_syntax.specs.Choices.{choose}
+use Rattle.tm_syntax.specs.Entries.{names_in}
+use Rattle.tm_syntax.specs.Choices.{is_empty}
 use Rattle.tm_syntax.specs.declared.instruction.Instruction.{Instruction}
 use Rattle.tm_syntax.specs.declared.instruction.Instruction.TheVariants as i
 use Rattle.tm_syntax.specs.declared.instruction.CaptureMode.{CaptureMode}

@@ -32,7 +32,7 @@ use Rattle.tm_shapes.specs.declared.kind.Kind.TheVariants.{Value as value, Group
 use Rattle.tm_shapes.specs.declared.kind.Reading.TheVariants.{Value as as_value}
 use Rattle.tm_shapes.specs.Shapes.{Shape, pushed}
 use Rattle.tm_shapes.specs.Flows.{Flow, Site, flow_of, is_zero, leads, pops, pop_counted, with_operands, replaces, replaces_counted}
-use Rattle.tm_meaning.specs.World.{choose}
+use Rattle.tm_syntax.specs.Choices.{choose}
 use Rattle.tm_accepted.specs.Sites.{ordinary, pieces_of, site_by}
 use Rattle.tm_accepted.proofs.Lays.{Around, StraightBy, Types}
 

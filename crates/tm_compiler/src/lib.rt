@@ -7,8 +7,9 @@ mod streams;
 pub use source::{one_expr, one_tree, parse, parse_expr};
 pub use streams::{Streams, generate};
 pub use tm_scanner::{SyntaxConfig, SyntaxConfigBuilder};
+pub use tm_shapes::{BlockCode, Form, Verified, verify};
 pub use tm_syntax::{
-    Application, Argument, BinaryOperator, BlockCode, CallBlock, Code, Comparison, Condition, Expr,
-    ForLoop, Imported, Instruction, Keyword, Macro, Name, NameMap, Pair, Parameter, RawText, Step,
-    Stmt, Tree, UnaryOperator,
+    Application, Argument, BinaryOperator, CallBlock, Comparison, Condition, Expr, ForLoop,
+    Imported, Instruction, Keyword, Macro, Name, NameMap, Pair, Parameter, RawText, Step, Stmt,
+    Tree, UnaryOperator,
 };

@@ -1,20 +1,21 @@
 //! The streams of a tree.
 ghost use Rattle.std.specs.Prelude.{◌≡◌, [], ◌∷◌, IfOk, IfErr};
 ghost use Rattle.tm_syntax.specs.Blocks.{code_of, stream_blocks, stream_of};
-ghost use Rattle.tm_syntax.specs.BlockCodes.{compiled_blocks};
+ghost use Rattle.tm_shapes.specs.BlockCodes.{compiled_blocks};
 ghost use Rattle.tm_syntax.specs.Named.{by_name};
 ghost use Rattle.tm_values.specs.declared.error.ErrorKind.TheVariants.{OutOfMemory};
 
 use std::alloc::Global;
 use tm_generator::{stream, value};
-use tm_syntax::{BlockCode, Code, NameMap, Tree};
+use tm_shapes::{BlockCode, Verified};
+use tm_syntax::{NameMap, Tree};
 use tm_values::Error;
 
 /// The streams of a template, or of an expression.
 #[derive(Drop)]
 pub struct Streams {
     /// What a render runs, or what the expression is evaluated by.
-    pub root: Code,
+    pub root: Verified,
     /// What its blocks run, by name; an expression has none.
     pub blocks: NameMap<BlockCode>,
 }

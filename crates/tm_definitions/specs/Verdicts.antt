@@ -8,8 +8,8 @@ use Rattle.tm_values.specs.Val.{Val, undefined, none, boolean, number, text, lis
 use Rattle.tm_values.specs.Val.{Vals, no_vals, val, Pairs, no_pairs, pair}
 use Rattle.tm_values.specs.declared.error.ErrorKind.TheVariants.{BadSerialization}
 use Rattle.tm_definitions.specs.Printed.{entered}
-use Rattle.tm_definitions.specs.declared.form.Form.{Form}
-use Rattle.tm_definitions.specs.declared.form.Form.TheVariants.{Printed, Json}
+use Rattle.tm_definitions.specs.declared.output_format.OutputFormat.{OutputFormat}
+use Rattle.tm_definitions.specs.declared.output_format.OutputFormat.TheVariants.{Printed, Json}
 
 abbrev pub Verdict : Type 0
 Verdict = Answer (Unit {0})
@@ -27,7 +27,7 @@ if_holds true otherwise = fine
 if_holds false otherwise = otherwise
 
 -- what JSON alone asks
-abbrev pub in_json : Form → Verdict → Verdict
+abbrev pub in_json : OutputFormat → Verdict → Verdict
 in_json Printed verdict = fine
 in_json Json verdict = verdict
 
@@ -35,7 +35,7 @@ abbrev pub no_json : Verdict
 no_json = refused BadSerialization
 
 -- a loop is printed where its record is there, and has no JSON
-abbrev pub loop_verdict : Form → RecordData → ℕ → ℕ → Verdict
+abbrev pub loop_verdict : OutputFormat → RecordData → ℕ → ℕ → Verdict
 loop_verdict Printed r s n = if_holds (is_some (loop_at r s n)) invalid
 loop_verdict Json r s n = no_json
 
@@ -45,7 +45,7 @@ key_verdict (text s safe) = fine
 key_verdict k = no_json
 
 -- of a pair: as a key, and then what its key and its value say
-abbrev pub member_verdict : Form → Val → Verdict → Verdict → Verdict
+abbrev pub member_verdict : OutputFormat → Val → Verdict → Verdict → Verdict
 member_verdict form k key value = and_then (in_json form (key_verdict k)) (and_then key value)
 
 -- of namespaces, by state and number
@@ -53,7 +53,7 @@ abbrev pub NamespaceVerdicts : Type 0
 NamespaceVerdicts = ℕ → ℕ → Verdict
 
 abbrev mutual
-  pub verdict : Form → RecordData → NamespaceVerdicts → Val → Verdict
+  pub verdict : OutputFormat → RecordData → NamespaceVerdicts → Val → Verdict
   verdict form r inside (undefined silent) = fine
   verdict form r inside none = fine
   verdict form r inside (boolean truth) = fine
@@ -69,13 +69,13 @@ abbrev mutual
   verdict form r inside (loop s n) = loop_verdict form r s n
   verdict form r inside (namespace s n) = inside s n
 
-  pub items_verdict : Form → RecordData → NamespaceVerdicts → Vals → Verdict
+  pub items_verdict : OutputFormat → RecordData → NamespaceVerdicts → Vals → Verdict
   items_verdict form r inside no_vals = fine
   items_verdict form r inside (val v vs) =
       and_then (verdict form r inside v) (items_verdict form r inside vs)
 
   -- of each pair the key comes first
-  pub pairs_verdict : Form → RecordData → NamespaceVerdicts → Pairs → Verdict
+  pub pairs_verdict : OutputFormat → RecordData → NamespaceVerdicts → Pairs → Verdict
   pairs_verdict form r inside no_pairs = fine
   pairs_verdict form r inside (pair k v ps) =
       and_then
@@ -94,14 +94,14 @@ through n way k = cond (n == k) true (way k)
 
 -- A namespace that isn't there is refused, and so is one on the way: it holds itself. As many
 -- levels are enough as there are namespaces that aren't on the way.
-abbrev pub namespace_verdict : Form → RecordData → ℕ → Way → NamespaceVerdicts
+abbrev pub namespace_verdict : OutputFormat → RecordData → ℕ → Way → NamespaceVerdicts
 namespace_verdict form r zero way s n = invalid
 namespace_verdict form r (suc levels) way s n =
     entered (namespace_at r s n) invalid
     (λ ps. cond (way n) invalid
     (pairs_verdict form r (namespace_verdict form r levels (through n way)) ps))
 
-abbrev pub verdict_within : Form → RecordData → ℕ → Way → Val → Verdict
+abbrev pub verdict_within : OutputFormat → RecordData → ℕ → Way → Val → Verdict
 verdict_within form r levels way v = verdict form r (namespace_verdict form r levels way) v
 
 abbrev pub print_verdict : RecordData → Val → Verdict

@@ -2,9 +2,9 @@
 #![tactic(auto)]
 
 mod comparison;
-mod form;
 mod loop_attribute;
+mod output_format;
 
 pub use comparison::ComparisonOperator;
-pub use form::Form;
 pub use loop_attribute::LoopAttribute;
+pub use output_format::OutputFormat;

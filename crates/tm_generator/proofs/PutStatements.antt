@@ -9,8 +9,8 @@ use Rattle.tm_syntax.specs.declared.tree.Stmt.TheVariants as st
 use Rattle.tm_syntax.specs.declared.tree.Stmt.TheBlock.{hidden-the_row-Stmt-0 as statements, shape-the_row-Stmt-0}
 use Rattle.tm_syntax.specs.declared.opened.Opened.{Opened}
 use Rattle.tm_syntax.specs.Blocks.{FoundBlock, body_of, blocks_of, blocks_in, found_block}
-use Rattle.tm_syntax.specs.BlockCodes.{block_code, compiled, compiled_blocks}
-use Rattle.tm_syntax.specs.declared.code.BlockCode.{BlockCode}
+use Rattle.tm_shapes.specs.BlockCodes.{block_code, compiled, compiled_blocks}
+use Rattle.tm_shapes.specs.declared.code.BlockCode.{BlockCode}
 use Rattle.tm_values.specs.Val.{text}
 use Rattle.tm_syntax.specs.declared.tree.CallBlock.{CallBlock}
 use Rattle.tm_syntax.specs.declared.tree.Parameter.{Parameter}

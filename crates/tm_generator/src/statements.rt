@@ -2,7 +2,7 @@
 ghost use Rattle.std.specs.Prelude.{◌≡◌, [], ◌∷◌, OnOk, IfOk};
 ghost use Rattle.tm_generator.specs.Building.{macro_code, put_in, rounds};
 ghost use Rattle.tm_syntax.specs.Blocks.{blocks_of, blocks_in, body_of, found_block};
-ghost use Rattle.tm_syntax.specs.BlockCodes.{block_code, compiled_blocks};
+ghost use Rattle.tm_shapes.specs.BlockCodes.{block_code, compiled_blocks};
 ghost use Rattle.tm_syntax.specs.Code.{for_flags, target_code, statement_code, statements_code};
 ghost use Rattle.tm_syntax.specs.Code.{stream_code};
 ghost use Rattle.tm_syntax.specs.Fragments.{◌⨾◌, over};
@@ -24,11 +24,13 @@ use crate::macros::{push_building, push_caller, push_parameters};
 use crate::targets::{push_assignments, push_set, push_target, push_use};
 use std::alloc::{AllocError, Global};
 use std::mem;
+use tm_accepted::the_code_of_trees_is_accepted;
 use tm_items::Items;
 use tm_names::macro_names;
+use tm_shapes::{BlockCode, Form, Verified};
 use tm_syntax::{
-    Assignment, BlockCode, CallBlock, CaptureMode, CaptureUse, Code, Expr, ForLoop, Instruction,
-    JumpKind, LoopFlags, Macro, Name, NameMap, Opened, Parameter, Step, Stmt,
+    Assignment, CallBlock, CaptureMode, CaptureUse, Expr, ForLoop, Instruction, JumpKind,
+    LoopFlags, Macro, Name, NameMap, Opened, Parameter, Step, Stmt,
 };
 
 // A frame has room for the locals of all that is inlined, and clears them at its start: so what is
@@ -486,7 +488,7 @@ pub fn stream(
     alloc: Global,
     blocks: &mut NameMap<BlockCode>,
     body: &[Stmt],
-) -> Result<Code, AllocError>
+) -> Result<Verified, AllocError>
     ensures code { IfOk result (λ code. code ≡ stream_code (statements body.now)) }
     ensures blocks { OnOk result
         (blocks.new ≡ put_each (compiled_blocks (blocks_in (statements body.now))) blocks.old) }
@@ -499,5 +501,6 @@ pub fn stream(
     let StreamBuilder { code, enclosing: _ } = stream;
     let mut instructions = code.finish();
     number_caches(alloc, &mut instructions)?;
-    Code::new(alloc, instructions)
+    the_code_of_trees_is_accepted();
+    Verified::new(alloc, instructions, Form::Template)
 }

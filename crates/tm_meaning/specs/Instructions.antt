@@ -14,6 +14,7 @@ use Rattle.tm_meaning.specs.World.{items_over, Res, answered, looked_up, emitted
 use Rattle.tm_meaning.specs.World.{set_member, push, pop, plain_scope, captured_text, module_with, enclose, own_closure, make_macro}
 use Rattle.tm_syntax.specs.Loops.{loops_before}
 use Rattle.tm_syntax.specs.Entries.{entry_number}
+pub use Rattle.tm_syntax.specs.Entries.{and_text, texts_in, names_in}
 use Rattle.tm_syntax.specs.CacheNumbers.{no_cache, cache_count}
 use Rattle.tm_syntax.specs.Named.{same_name}
 use Rattle.tm_syntax.specs.declared.tree.Application.{Application}
@@ -167,20 +168,6 @@ abbrev pub closure_in : Val → Option (Option ℕ)
 closure_in none = Some None
 closure_in (number (pos n)) = Some (Some n)
 closure_in v = None
-
-abbrev pub and_text : Option (List ℕ) → Option (List (List ℕ)) → Option (List (List ℕ))
-and_text (Some x) (Some xs) = Some (x ∷ xs)
-and_text x xs = None
-
--- the texts that values are, where each is one
-abbrev pub texts_in : List Val → Option (List (List ℕ))
-texts_in [] = Some []
-texts_in (v ∷ vs) = and_text (text_in v) (texts_in vs)
-
--- the names that a list of texts is
-abbrev pub names_in : Val → Option (List (List ℕ))
-names_in (list vs) = texts_in (list_of vs)
-names_in v = None
 
 abbrev pub on_parts : Option (Option ℕ) → Option (List (List ℕ)) → World → (Option ℕ → List (List ℕ) → Next) → Next
 on_parts (Some closure) (Some names) w f = f closure names

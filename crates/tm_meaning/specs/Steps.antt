@@ -1,6 +1,7 @@
 -- A step of the machine, and whole runs.
 use Rattle.std.specs.Prelude.{◌≡◌, ℕ, zero, suc, List, [], ◌∷◌, ◌++◌, length, Option, Some, None, Bool, true, false, ◌&&◌}
 use Rattle.std.specs.Prelude.{nat_eq, slice_get}
+pub use Rattle.tm_syntax.specs.Choices.{is_empty}
 use Rattle.tm_syntax.specs.declared.instruction.Instruction.{Instruction}
 use Rattle.tm_syntax.specs.declared.instruction.Instruction.TheVariants as i
 use Rattle.tm_syntax.specs.declared.tree.Application.TheVariants as applications
@@ -95,10 +96,6 @@ charge_of i.EndCapture = 1
 -- an instruction is paid for before its effect
 abbrev pub pay : Instruction → World → Res (Unit {0})
 pay x w = pays (charge_of x) w
-
-abbrev pub is_empty : {A : Type 0} → List A → Bool
-is_empty [] = true
-is_empty (x ∷ xs) = false
 
 -- all that the run opened is closed
 abbrev pub closed : Base → Config → Bool

@@ -2,6 +2,7 @@
 use Rattle.std.specs.Prelude.{ℕ, zero, suc, ◌+◌, ◌-◌, ◌≤◌, List, [], ◌∷◌, ◌++◌, length, map as each, Option, Some, None, option_and_then, Bool}
 use Rattle.std.specs.Prelude.{is_some, true, false, not, ◌&&◌, ◌||◌, nat_le, nat_lt, nat_eq, if◌then◌else◌, Ok, Err, slice_get, codes}
 use Rattle.tm_syntax.specs.declared.instruction.LoopFlags.{LoopFlags}
+pub use Rattle.tm_syntax.specs.Choices.{choose}
 pub use Rattle.tm_syntax.specs.Named.{Named, same_name, find, put, put_each}
 use Rattle.tm_values.specs.Answer.{Answer, invalid}
 use Rattle.tm_values.specs.Map.{member}
@@ -26,11 +27,6 @@ use Rattle.tm_definitions.specs.Members.{or_undefined, settable}
 use Rattle.tm_values.specs.Defined.{refusal_of, unless}
 use Rattle.tm_definitions.specs.Emitted.{emission_verdict, emitted_text, text_answer}
 use Rattle.tm_definitions.specs.Verdicts.{Verdict}
-
--- one of two, where only that one is computed
-abbrev pub choose : {A : Type 0} → Bool → (Unit {0} → A) → (Unit {0} → A) → A
-choose true f g = f tt
-choose false f g = g tt
 
 abbrev pub Bindings : Type 0
 Bindings = Named Val

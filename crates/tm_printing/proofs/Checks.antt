@@ -13,7 +13,7 @@ use Rattle.tm_values.specs.declared.value.Node.{Node}
 use Rattle.tm_values.specs.declared.value.Node.TheVariants as node
 use Rattle.tm_definitions.specs.Verdicts.{NamespaceVerdicts, Verdict, fine, and_then, nowhere}
 use Rattle.tm_definitions.specs.Verdicts.{in_json, key_verdict, verdict, items_verdict, pairs_verdict, namespace_verdict, verdict_within}
-use Rattle.tm_definitions.specs.declared.form.Form.{Form}
+use Rattle.tm_definitions.specs.declared.output_format.OutputFormat.{OutputFormat}
 use Rattle.tm_printing.specs.Unchecked.{Part, nothing, part_of, is_end, among, AllFine, HoldsFine, Settled, opens, AllNew}
 use Rattle.tm_printing.specs.Unchecked.{mark_at, mark_of, IsMarked, Remains, one_each, Stands, Goes}
 use Rattle.tm_printing.specs.Unchecked.{one_weight, unchecked_weight, held_weight, to_check, is_namespace}
@@ -79,7 +79,7 @@ closed_mark fines around n k old new now before (inl same) =
 closed_mark fines around n k old new now before (inr other) =
     now.elsewhere k other ∙ (before ∙ sym (else_closed fines around n k other))
 
-module _ (form : Form) (r : RecordData) where
+module _ (form : OutputFormat) (r : RecordData) where
   -- ---- what remains
 
   -- what is refused innermost is refused of the whole, after the namespaces that are open

@@ -6,7 +6,7 @@ use Rattle.std.proofs.lemmas.Bool.{eq-eqb, ne_eqb, cases_eq}
 use Rattle.tm_values.specs.Records.{RecordData}
 use Rattle.tm_values.specs.Val.{Val}
 use Rattle.tm_definitions.specs.Verdicts.{Way, NamespaceVerdicts, fine, through, namespace_verdict}
-use Rattle.tm_definitions.specs.declared.form.Form.{Form}
+use Rattle.tm_definitions.specs.declared.output_format.OutputFormat.{OutputFormat}
 use Rattle.tm_printing.proofs.Verdicts.{namespace-there}
 use Rattle.tm_printing.specs.Unchecked.{among, AllFine, Settled, AllNew, mark_of, if_unmet, unmet, one_each}
 use Rattle.tm_printing.specs.declared.check.Mark.{Mark}
@@ -69,7 +69,7 @@ first_or_other r n ns inside here others k there = by_case (cases_eq n k) where
 
 -- What was found fine is fine at each place to which no way leads through it, where as many levels
 -- are left.
-pub settled_fine : (form : Form) (r : RecordData) (ns : List ℕ) (levels : ℕ) (way : Way) → Settled form r ns → length ns ≤ levels
+pub settled_fine : (form : OutputFormat) (r : RecordData) (ns : List ℕ) (levels : ℕ) (way : Way) → Settled form r ns → length ns ≤ levels
     → ((k : ℕ) → among ns k ≡ true → way k ≡ false) → AllFine r ns (namespace_verdict form r levels way)
 settled_fine form r [] levels way settled enough free = λ k there. absurd (cc there)
 settled_fine form r (n ∷ ns) zero way settled enough free = absurd (omega arith)

@@ -7,22 +7,22 @@ use Rattle.tm_values.specs.Val.{Vals, no_vals, val, Pairs, no_pairs, pair}
 use Rattle.tm_values.specs.declared.plain.Plain.{Plain}
 use Rattle.tm_definitions.specs.Verdicts.{NamespaceVerdicts, Verdict, fine, and_then, verdict, items_verdict, pairs_verdict, member_verdict}
 use Rattle.tm_definitions.specs.Verdicts.{in_json, key_verdict, if_holds, no_json}
-use Rattle.tm_definitions.specs.declared.form.Form.{Form}
-use Rattle.tm_definitions.specs.declared.form.Form.TheVariants.{Printed, Json}
+use Rattle.tm_definitions.specs.declared.output_format.OutputFormat.{OutputFormat}
+use Rattle.tm_definitions.specs.declared.output_format.OutputFormat.TheVariants.{Printed, Json}
 use Rattle.tm_printing.specs.Plain.{holds_in, is_plain}
 
 both_true : (a b : Bool) → cond a b false ≡ true → (a ≡ true) × (b ≡ true)
 both_true true b h = (refl, h)
 both_true false b h = absurd (cc h)
 
-both_hold : (form : Form) (a b : Plain) → holds_in form (both a b) ≡ true → (holds_in form a ≡ true) × (holds_in form b ≡ true)
+both_hold : (form : OutputFormat) (a b : Plain) → holds_in form (both a b) ≡ true → (holds_in form a ≡ true) × (holds_in form b ≡ true)
 both_hold Printed a b h = both_true a.in_print b.in_print h
 both_hold Json a b h = both_true a.in_json b.in_json h
 
 joined : (a b : Verdict) → a ≡ fine → b ≡ fine → and_then a b ≡ fine
 joined a b h k = ap (λ (o : Verdict). and_then o b) h ∙ k
 
-key_fine : (form : Form) (k : Val) → holds_in form (as_key k) ≡ true → in_json form (key_verdict k) ≡ fine
+key_fine : (form : OutputFormat) (k : Val) → holds_in form (as_key k) ≡ true → in_json form (key_verdict k) ≡ fine
 key_fine Printed k h = refl
 key_fine Json (text s safe) h = refl
 key_fine Json _ h = absurd (cc h)
@@ -31,19 +31,19 @@ number_fine : (fits : Bool) → fits ≡ true → if_holds fits no_json ≡ fine
 number_fine true h = refl
 number_fine false h = absurd (cc h)
 
-fine_number : (form : Form) (z : ℤ) → is_plain form (number z) ≡ true → in_json form (if_holds (fits_json z) no_json) ≡ fine
+fine_number : (form : OutputFormat) (z : ℤ) → is_plain form (number z) ≡ true → in_json form (if_holds (fits_json z) no_json) ≡ fine
 fine_number Printed z h = refl
 fine_number Json z h = number_fine (fits_json z) h
 
-print_alone : (form : Form) (o : Verdict) → holds_in form in_print_alone ≡ true → in_json form o ≡ fine
+print_alone : (form : OutputFormat) (o : Verdict) → holds_in form in_print_alone ≡ true → in_json form o ≡ fine
 print_alone Printed o h = refl
 print_alone Json o h = absurd (cc h)
 
-no_form : (form : Form) → holds_in form in_no_form ≡ true → ⊥
+no_form : (form : OutputFormat) → holds_in form in_no_form ≡ true → ⊥
 no_form Printed h = absurd (cc h)
 no_form Json h = absurd (cc h)
 
-module _ (form : Form) (r : RecordData) (inside : NamespaceVerdicts) where
+module _ (form : OutputFormat) (r : RecordData) (inside : NamespaceVerdicts) where
   mutual
     pub plain_fine : (v : Val) → is_plain form v ≡ true → verdict form r inside v ≡ fine
     plain_fine (undefined s) h = refl

@@ -8,7 +8,7 @@ use Rattle.tm_values.specs.Val.{Val, Pairs, pairs_of}
 use Rattle.tm_values.specs.declared.error.ErrorKind.{ErrorKind}
 use Rattle.tm_definitions.specs.Printed.{entered}
 use Rattle.tm_definitions.specs.Verdicts.{Verdict, fine, and_then, Way, pairs_verdict, through, namespace_verdict}
-use Rattle.tm_definitions.specs.declared.form.Form.{Form}
+use Rattle.tm_definitions.specs.declared.output_format.OutputFormat.{OutputFormat}
 
 pub and_then-fine : (o : Verdict) → and_then o fine ≡ o
 and_then-fine (Ok u) = refl
@@ -25,7 +25,7 @@ passed (Ok u) e stated is h = absurd is
 passed (Err x) e stated is h = subst (λ (y : List ErrorKind). is_memory_alone y ≡ false → stated ≡ Err y) (sym is) h
 
 -- a namespace that is there and not on the way, with a level left
-pub namespace-there : (form : Form) (r : RecordData) (levels below : ℕ) (way : Way) (s n : ℕ) (ps : List (Val × Val)) → levels ≡ suc below →
+pub namespace-there : (form : OutputFormat) (r : RecordData) (levels below : ℕ) (way : Way) (s n : ℕ) (ps : List (Val × Val)) → levels ≡ suc below →
     namespace_at r s n ≡ Some ps → way n ≡ false →
     namespace_verdict form r levels way s n ≡ pairs_verdict form r (namespace_verdict form r below (through n way)) (pairs_of ps)
 namespace-there form r levels below way s n ps more is fresh =
@@ -35,7 +35,7 @@ namespace-there form r levels below way s n ps more is fresh =
     ∙ ap (λ (b : Bool). cond b invalid (held (pairs_of ps))) fresh)
 
 -- on the way it is refused, however many levels are left
-pub namespace-on_way : (form : Form) (r : RecordData) (levels : ℕ) (way : Way) (s n : ℕ) → way n ≡ true →
+pub namespace-on_way : (form : OutputFormat) (r : RecordData) (levels : ℕ) (way : Way) (s n : ℕ) → way n ≡ true →
     namespace_verdict form r levels way s n ≡ invalid
 namespace-on_way form r zero way s n there = refl
 namespace-on_way form r (suc below) way s n there = by_case (namespace_at r s n) where
@@ -47,7 +47,7 @@ namespace-on_way form r (suc below) way s n there = by_case (namespace_at r s n)
   by_case (Some ps) = ap (λ (b : Bool). cond b invalid (held (pairs_of ps))) there
 
 -- so is one that isn't there
-pub namespace-missing : (form : Form) (r : RecordData) (levels : ℕ) (way : Way) (s n : ℕ) → namespace_at r s n ≡ None →
+pub namespace-missing : (form : OutputFormat) (r : RecordData) (levels : ℕ) (way : Way) (s n : ℕ) → namespace_at r s n ≡ None →
     namespace_verdict form r levels way s n ≡ invalid
 namespace-missing form r zero way s n is = refl
 namespace-missing form r (suc below) way s n is =

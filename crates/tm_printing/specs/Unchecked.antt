@@ -8,7 +8,7 @@ use Rattle.tm_values.specs.Val.{Val, val_size, vals_size, pairs_size, vals_of, p
 use Rattle.tm_values.specs.declared.error.ErrorKind.{ErrorKind}
 use Rattle.tm_definitions.specs.Verdicts.{Verdict, fine, and_then, Way, nowhere, through, verdict_within, items_verdict}
 use Rattle.tm_definitions.specs.Verdicts.{NamespaceVerdicts, pairs_verdict, verdict, loop_verdict, in_json, if_holds, no_json}
-use Rattle.tm_definitions.specs.declared.form.Form.{Form}
+use Rattle.tm_definitions.specs.declared.output_format.OutputFormat.{OutputFormat}
 use Rattle.tm_printing.specs.declared.check.Unchecked.{Unchecked}
 use Rattle.tm_printing.specs.declared.check.Unchecked.TheVariants as unchecked
 use Rattle.tm_printing.specs.declared.check.Mark.{Mark}
@@ -22,7 +22,7 @@ abbrev pub nothing : Part
 nothing inside = fine
 
 -- of one of what is left; the end of a namespace stands for the namespace
-abbrev pub part_of : Form → RecordData → Unchecked → Part
+abbrev pub part_of : OutputFormat → RecordData → Unchecked → Part
 part_of form r (unchecked.Items items) inside = items_verdict form r inside (vals_of items.now)
 part_of form r (unchecked.Pairs pairs) inside = pairs_verdict form r inside (pairs_of pairs.now)
 part_of form r (unchecked.Value value) inside = verdict form r inside value.now
@@ -44,12 +44,12 @@ abbrev pub AllFine : RecordData → List ℕ → NamespaceVerdicts → Type 0
 AllFine r ns inside = (n : ℕ) → among ns n ≡ true → inside r.state n ≡ fine
 
 -- what a namespace holds is fine wherever these namespaces are
-abbrev pub HoldsFine : Form → RecordData → List ℕ → ℕ → Type 0
+abbrev pub HoldsFine : OutputFormat → RecordData → List ℕ → ℕ → Type 0
 HoldsFine form r ns n = (ps : List (Val × Val)) × ((namespace_at r r.state n ≡ Some ps)
     × ((inside : NamespaceVerdicts) → AllFine r ns inside → pairs_verdict form r inside (pairs_of ps) ≡ fine))
 
 -- found fine one after the other, the last one first
-abbrev pub Settled : Form → RecordData → List ℕ → Type 0
+abbrev pub Settled : OutputFormat → RecordData → List ℕ → Type 0
 Settled form r [] = Unit
 Settled form r (n ∷ ns) = (among ns n ≡ false) × (HoldsFine form r ns n × Settled form r ns)
 
@@ -87,7 +87,7 @@ pub record IsUnmet (r : RecordData) (s n : ℕ) (ps : List (Val × Val)) (marks 
 -- Of the whole, and of each namespace that is open: what was looked at of it is fine wherever the
 -- namespaces found fine are, so what is left of it has its verdict. The innermost stands last, and
 -- `top` after the list; `later` is what is left of the one around, which is looked at last.
-abbrev pub Remains : Form → RecordData → List ℕ → Part → Part → Part → List Unchecked → Type 0
+abbrev pub Remains : OutputFormat → RecordData → List ℕ → Part → Part → Part → List Unchecked → Type 0
 Remains form r fines top whole later [] =
     (inside : NamespaceVerdicts) → AllFine r fines inside → and_then (top inside) (later inside) ≡ whole inside
 Remains form r fines top whole later (unchecked.Items items ∷ xs) =
@@ -116,7 +116,7 @@ one_each ps = 1
 
 -- A value of which this part and that list are left to check, where namespaces are marked so. Those
 -- open, those found fine and those that weren't met are all.
-pub record Stands (form : Form) (r : RecordData) (v : Val) (top : Part) (left : List Unchecked) (marks : List Mark) : Type 0 where
+pub record Stands (form : OutputFormat) (r : RecordData) (v : Val) (top : Part) (left : List Unchecked) (marks : List Mark) : Type 0 where
   pub fines : List ℕ
   pub settled : Settled form r fines
   pub new : AllNew fines (opens [] left)
@@ -125,7 +125,7 @@ pub record Stands (form : Form) (r : RecordData) (v : Val) (top : Part) (left : 
   pub rest : Remains form r fines top (λ inside. verdict form r inside v) nothing left
 
 -- The part was looked at, and what is left of the whole is in the list; or the whole is refused.
-abbrev pub Goes : {U : Type 0} → Form → RecordData → Result U (List ErrorKind) → Part
+abbrev pub Goes : {U : Type 0} → OutputFormat → RecordData → Result U (List ErrorKind) → Part
     → List Unchecked → List Mark → List Unchecked → List Mark → Type 0
 Goes form r (Ok u) part left marks new_left new_marks =
     (v : Val) → Stands form r v part left marks → Stands form r v nothing new_left new_marks
@@ -156,12 +156,12 @@ to_check r left marks = unchecked_weight left + unmet held_weight r.namespaces (
 -- ---- one value
 
 -- the parts of a value, which is no namespace, weigh no more than it
-abbrev pub IsParts : Form → Val → Unchecked → Type 0
+abbrev pub IsParts : OutputFormat → Val → Unchecked → Type 0
 IsParts form v x = ((r : RecordData) (inside : NamespaceVerdicts) → verdict form r inside v ≡ part_of form r x inside)
     × ((is_end x ≡ false) × (one_weight x ≤ val_size v))
 
 -- of a value without parts; parts are looked at one by one
-abbrev pub leaf_verdict : Form → RecordData → Val → Verdict
+abbrev pub leaf_verdict : OutputFormat → RecordData → Val → Verdict
 leaf_verdict form r (number z) = in_json form (if_holds (fits_json z) no_json)
 leaf_verdict form r (function n) = in_json form no_json
 leaf_verdict form r (macro m) = in_json form no_json
@@ -172,6 +172,6 @@ abbrev pub is_namespace : Val → Bool
 is_namespace (namespace s n) = true
 is_namespace v = false
 
-abbrev pub IsUncheckedLeaf : Form → Val → Type 0
+abbrev pub IsUncheckedLeaf : OutputFormat → Val → Type 0
 IsUncheckedLeaf form v = (r : RecordData) (inside : NamespaceVerdicts)
     → is_namespace v ≡ false → verdict form r inside v ≡ leaf_verdict form r v

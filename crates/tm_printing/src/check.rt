@@ -11,7 +11,7 @@ ghost use Rattle.tm_definitions.specs.Verdicts.{in_json, key_verdict, if_holds, 
 ghost use Rattle.tm_definitions.specs.Verdicts.{pairs_verdict, loop_verdict, verdict, verdict_within, print_verdict, json_verdict};
 
 use std::alloc::Global;
-use tm_definitions::Form;
+use tm_definitions::OutputFormat;
 use tm_values::{Error, ErrorKind, Node, Records, Value, ValueMap, find_loop, find_namespace};
 
 /// Whether the value can be printed: InvalidOperation where a loop or a namespace in it has no
@@ -24,7 +24,7 @@ pub fn check_print<R: Records>(alloc: Global, value: &Value, records: &R) -> Res
     match &value.node {
         Node::Undefined(_) | Node::None | Node::Boolean(_) | Node::Number(_) | Node::Text(_, _) =>
             Ok(()),
-        _ => check(Form::Printed, alloc, value, records),
+        _ => check(OutputFormat::Printed, alloc, value, records),
     }
 }
 
@@ -35,7 +35,7 @@ pub fn check_print<R: Records>(alloc: Global, value: &Value, records: &R) -> Res
 pub fn check_json<R: Records>(alloc: Global, value: &Value, records: &R) -> Result<(), Error>
     ensures { IsAnswer result (json_verdict (R.records records.now) value.now) }
 {
-    check(Form::Json, alloc, value, records)
+    check(OutputFormat::Json, alloc, value, records)
 }
 
 /// What is left to check.
@@ -64,7 +64,7 @@ pub enum Mark {
 
 // What is left is in a list, and what is known of namespaces in `marks`, by their numbers: each is
 // gone through once.
-fn check<R: Records>(form: Form, alloc: Global, value: &Value, records: &R) -> Result<(), Error>
+fn check<R: Records>(form: OutputFormat, alloc: Global, value: &Value, records: &R) -> Result<(), Error>
     ensures { IsAnswer result (verdict_within form (R.records records.now)
         (length (R.records records.now).namespaces) nowhere value.now) }
 {
@@ -79,7 +79,7 @@ fn check<R: Records>(form: Form, alloc: Global, value: &Value, records: &R) -> R
 
 // Checks one of what is left.
 fn check_one<'a, R: Records>(
-    form: Form,
+    form: OutputFormat,
     last: Unchecked<'a>,
     records: &'a R,
     left: &mut Vec<Unchecked<'a>>,
@@ -100,7 +100,7 @@ fn check_one<'a, R: Records>(
 
 // Checks the first item, and puts the others into the list.
 fn check_items<'a, R: Records>(
-    form: Form,
+    form: OutputFormat,
     items: &'a [Value],
     records: &'a R,
     left: &mut Vec<Unchecked<'a>>,
@@ -122,7 +122,7 @@ fn check_items<'a, R: Records>(
 
 // Checks the first pair's key, and puts its value and the other pairs into the list.
 fn check_pairs<'a, R: Records>(
-    form: Form,
+    form: OutputFormat,
     pairs: &'a [(Value, Value)],
     records: &'a R,
     left: &mut Vec<Unchecked<'a>>,
@@ -146,7 +146,7 @@ fn check_pairs<'a, R: Records>(
 
 // Checks a value without parts, or puts the parts into the list.
 fn enter<'a, R: Records>(
-    form: Form,
+    form: OutputFormat,
     value: &'a Value,
     records: &'a R,
     left: &mut Vec<Unchecked<'a>>,
@@ -174,7 +174,7 @@ fn enter<'a, R: Records>(
 
 // Opens a namespace that wasn't met before. One that is open holds itself.
 fn enter_namespace<'a, R: Records>(
-    form: Form,
+    form: OutputFormat,
     state: u64,
     index: usize,
     records: &'a R,
@@ -204,7 +204,7 @@ fn open_namespace<'a>(
     left: &mut Vec<Unchecked<'a>>,
     marks: &mut Vec<Mark>,
 ) -> Result<(), Error>
-    ensures verdict { (form : Form) (r : RecordData) (state : ℕ)
+    ensures verdict { (form : OutputFormat) (r : RecordData) (state : ℕ)
         → IsUnmet r state index entries.now marks.old.items
         → Goes form r result (λ inside. inside state index)
         left.old.items marks.old.items left.new.items marks.new.items }
@@ -251,7 +251,7 @@ fn put<'a>(unchecked: Unchecked<'a>, left: &mut Vec<Unchecked<'a>>) -> Result<()
 }
 
 // The parts of a list, a map or, in JSON, a module.
-fn parts<'a>(form: Form, value: &'a Value) -> Option<Unchecked<'a>>
+fn parts<'a>(form: OutputFormat, value: &'a Value) -> Option<Unchecked<'a>>
     ensures { MatchOption result (IsUncheckedLeaf form value.now) (IsParts form value.now) }
 {
     match &value.node {
@@ -260,15 +260,15 @@ fn parts<'a>(form: Form, value: &'a Value) -> Option<Unchecked<'a>>
             Some(Unchecked::Pairs(pairs.as_slice()))
         }
         Node::Exports(pairs, _) => match form {
-            Form::Printed => None,
-            Form::Json => Some(Unchecked::Pairs(pairs.as_slice())),
+            OutputFormat::Printed => None,
+            OutputFormat::Json => Some(Unchecked::Pairs(pairs.as_slice())),
         },
         _ => None,
     }
 }
 
 // Checks a value without parts. What has parts is put into the list.
-fn check_leaf<R: Records>(form: Form, value: &Value, records: &R) -> Result<(), Error>
+fn check_leaf<R: Records>(form: OutputFormat, value: &Value, records: &R) -> Result<(), Error>
     ensures { IsAnswer result (leaf_verdict form (R.records records.now) value.now) }
 {
     match &value.node {
@@ -280,21 +280,21 @@ fn check_leaf<R: Records>(form: Form, value: &Value, records: &R) -> Result<(), 
 }
 
 // Whether nothing of it is refused, whatever the records are.
-fn is_plain(form: Form, value: &Value) -> bool
+fn is_plain(form: OutputFormat, value: &Value) -> bool
     ensures { result ≡ is_plain form value.now }
 {
     match form {
-        Form::Printed => value.plain().in_print,
-        Form::Json => value.plain().in_json,
+        OutputFormat::Printed => value.plain().in_print,
+        OutputFormat::Json => value.plain().in_json,
     }
 }
 
-fn check_number(form: Form, number: i128) -> Result<(), Error>
+fn check_number(form: OutputFormat, number: i128) -> Result<(), Error>
     ensures { IsAnswer result (in_json form (if_holds (fits_json number) no_json)) }
 {
     match form {
-        Form::Printed => Ok(()),
-        Form::Json => {
+        OutputFormat::Printed => Ok(()),
+        OutputFormat::Json => {
             if -0x8000_0000_0000_0000 <= number && number <= 0xffff_ffff_ffff_ffff {
                 Ok(())
             } else {
@@ -304,32 +304,32 @@ fn check_number(form: Form, number: i128) -> Result<(), Error>
     }
 }
 
-fn check_key(form: Form, key: &Value) -> Result<(), Error>
+fn check_key(form: OutputFormat, key: &Value) -> Result<(), Error>
     ensures { IsAnswer result (in_json form (key_verdict key.now)) }
 {
     match (form, &key.node) {
-        (Form::Printed, _) | (Form::Json, Node::Text(_, _)) => Ok(()),
-        (Form::Json, _) => Err(Error::from(ErrorKind::BadSerialization)),
+        (OutputFormat::Printed, _) | (OutputFormat::Json, Node::Text(_, _)) => Ok(()),
+        (OutputFormat::Json, _) => Err(Error::from(ErrorKind::BadSerialization)),
     }
 }
 
-fn check_unwritable(form: Form) -> Result<(), Error>
+fn check_unwritable(form: OutputFormat) -> Result<(), Error>
     ensures { IsAnswer result (in_json form no_json) }
 {
     match form {
-        Form::Printed => Ok(()),
-        Form::Json => Err(Error::from(ErrorKind::BadSerialization)),
+        OutputFormat::Printed => Ok(()),
+        OutputFormat::Json => Err(Error::from(ErrorKind::BadSerialization)),
     }
 }
 
-fn check_loop<R: Records>(form: Form, state: u64, index: usize, records: &R) -> Result<(), Error>
+fn check_loop<R: Records>(form: OutputFormat, state: u64, index: usize, records: &R) -> Result<(), Error>
     ensures { IsAnswer result (loop_verdict form (R.records records.now) state index) }
 {
     match form {
-        Form::Printed => match find_loop(records, state, index) {
+        OutputFormat::Printed => match find_loop(records, state, index) {
             Some(_) => Ok(()),
             None => Err(Error::from(ErrorKind::InvalidOperation)),
         },
-        Form::Json => Err(Error::from(ErrorKind::BadSerialization)),
+        OutputFormat::Json => Err(Error::from(ErrorKind::BadSerialization)),
     }
 }

@@ -5,7 +5,7 @@ use Rattle.std.specs.Borrow.{Bor}
 use Rattle.std.specs.Prelude.{is_some, option_and_then, slice_get}
 use Rattle.std.proofs.lemmas.Bool.Decides.{nat_tests}
 use Rattle.std.proofs.lemmas.Slice.Eq.{bytes_eq-Decides}
-use Rattle.tm_meaning.specs.World.{choose}
+use Rattle.tm_syntax.specs.Choices.{choose}
 use Rattle.tm_syntax.specs.CacheNumbers.{no_cache, cache_count}
 use Rattle.tm_syntax.specs.Named.{same_name}
 use Rattle.tm_shapes.specs.CacheNames.{Names, all_taken, name_of, names_of, no_names, taken, taken_by, told}

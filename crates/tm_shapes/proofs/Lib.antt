@@ -14,3 +14,5 @@ pub mod Seeding
 pub mod Answering
 pub mod Searching
 pub mod Seeing
+pub mod Places
+pub mod Entries

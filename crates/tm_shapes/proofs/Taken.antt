@@ -1,6 +1,6 @@
 -- Values that are taken from a shape, several at once.
 use Rattle.std.proofs.Common.{arith, ◌≡◌, ◌<◌, ◌≤◌, ℕ, zero, suc, ◌+◌, ◌-◌, List, [], ◌∷◌, ◌++◌, length, Bool, true, false, refl, ap, subst, ◌∙◌}
-use Rattle.tm_meaning.specs.World.{choose}
+use Rattle.tm_syntax.specs.Choices.{choose}
 use Rattle.tm_shapes.specs.declared.cells.Cell.{Cell}
 use Rattle.tm_shapes.specs.declared.kind.Kind.{Kind}
 use Rattle.tm_shapes.specs.declared.shape.Shape.{Shape as Made}

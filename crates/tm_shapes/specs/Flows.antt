@@ -1,9 +1,9 @@
 -- Where an instruction leads from a shape, and with which shapes: the table of instructions.
 use Rattle.std.specs.Prelude.{length, ℕ, zero, suc, ◌+◌, pos, List, [], ◌∷◌, ◌++◌, Option, Some, None, Bool, true, false, nat_eq, not, ◌&&◌}
 use Rattle.tm_values.specs.Val.{Val, number}
-use Rattle.tm_meaning.specs.World.{choose}
-use Rattle.tm_meaning.specs.Instructions.{names_in}
-use Rattle.tm_meaning.specs.Steps.{is_empty}
+use Rattle.tm_syntax.specs.Choices.{choose}
+use Rattle.tm_syntax.specs.Entries.{names_in}
+use Rattle.tm_syntax.specs.Choices.{is_empty}
 use Rattle.tm_syntax.specs.declared.instruction.LoopFlags.{LoopFlags}
 use Rattle.tm_syntax.specs.declared.instruction.Instruction.{Instruction}
 use Rattle.tm_syntax.specs.declared.instruction.Instruction.TheVariants as i

@@ -15,3 +15,4 @@ pub mod Verified
 pub mod Marks
 pub mod CacheNames
 pub mod Searched
+pub mod BlockCodes

@@ -6,7 +6,7 @@ use Rattle.tm_shapes.specs.declared.before.Before.{Before}
 use Rattle.tm_shapes.specs.declared.before.Before.TheVariants as befores
 use Rattle.tm_syntax.specs.CacheNumbers.{no_cache, cache_count}
 use Rattle.tm_syntax.specs.Named.{same_name}
-use Rattle.tm_meaning.specs.Instructions.{names_in}
+use Rattle.tm_syntax.specs.Entries.{names_in}
 
 -- ---------------------------------------------------------------- targets
 -- where an instruction may lead beside the next place

@@ -1,8 +1,8 @@
 //! Where an instruction leads from what stands at its place: the table of instructions.
 ghost use Rattle.std.specs.Prelude.{◌≡◌, ◌∷◌, ◌+◌, List, None, Some, IfOk, length};
 ghost use Rattle.std.specs.Option.{option_map};
-ghost use Rattle.tm_meaning.specs.Instructions.{names_in, texts_in};
-ghost use Rattle.tm_meaning.specs.World.{choose};
+ghost use Rattle.tm_syntax.specs.Entries.{names_in, texts_in};
+ghost use Rattle.tm_syntax.specs.Choices.{choose};
 ghost use Rattle.tm_shapes.specs.Cells.{Grown, IsLevel, Special, capture_item};
 ghost use Rattle.tm_shapes.specs.Flows.{Flow as Told, add, are, build_macro, did_not_iterate, end_capture, flow_of, get_closure};
 ghost use Rattle.tm_shapes.specs.Flows.{iterate, jump_if, jump_or_pop, load, load_names, load_zero, next, on, on_loop, pop};

@@ -4,6 +4,7 @@
 
 mod before;
 mod cells;
+mod code;
 mod flow;
 mod kind;
 mod pile;
@@ -16,6 +17,7 @@ mod site;
 mod verifier;
 
 pub use before::Before;
+pub use code::{BlockCode, Verified};
 pub use kind::{Form, Frame, Kind, Reading};
 pub use rows::{end_rows, form_rows, group_rows, loop_rows, placed_rows, shape_rows, way_rows};
-pub use verifier::{Verified, verify};
+pub use verifier::verify;

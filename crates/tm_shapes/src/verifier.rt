@@ -2,40 +2,29 @@
 ghost use Rattle.std.specs.Prelude.{◌≡◌, ◌≤◌, ◌++◌, IfErr, IfOk, OnOk, ℕ, false, length, true};
 ghost use Rattle.tm_shapes.specs.Accepts.{Readings as Reads, accepts, all_seeds, fits, fits_as_taken, fits_either, has_zero, returns_fit};
 ghost use Rattle.tm_shapes.specs.Accepts.{ask_all, ask_some, loads_zero};
-ghost use Rattle.tm_syntax.specs.Entries.{name_count};
 ghost use Rattle.tm_shapes.specs.Marks.{AreMarks};
 ghost use Rattle.tm_shapes.specs.Searched.{AreReadings, IsAsked, count_after, entry_of, seed_of, seeds_of};
 ghost use Rattle.tm_shapes.specs.Verified.{IsRefused};
 ghost use Rattle.tm_shapes.specs.declared.refusal.Refusal.TheVariants.{BadStream};
 ghost use Rattle.tm_shapes.specs.declared.kind.Form.TheVariants.{Expression};
 
+use crate::code::{Verified, count_of_names};
 use crate::kind::Form;
 use crate::placed::{caches_fit, entered_places, parts_fit};
 use crate::refusal::Refusal;
 use crate::search::{Asked, Readings, Seed, Stream, groups_in, search};
 use crate::site::is_zero;
 use std::alloc::{AllocError, Global};
-use std::marker::Model;
+use tm_items::Items;
 use tm_syntax::Instruction;
-use tm_values::{Error, ErrorKind, Node, Value};
-
-/// How many names a literal list of them has.
-#[tactic(auto, using(tm_values::proofs::Lists::round_trips))]
-fn name_count(value: &Value) -> usize
-    ensures { result ≡ name_count value.now }
-{
-    match &value.node {
-        Node::List(items, _) => items.len(),
-        _ => 0,
-    }
-}
+use tm_values::{Error, ErrorKind};
 
 /// How many names the literal of an instruction has, if it loads one.
 fn count_after(instruction: &Instruction) -> Option<usize>
     ensures { result ≡ count_after instruction.now }
 {
     match instruction {
-        Instruction::LoadConst(value) => Some(name_count(value)),
+        Instruction::LoadConst(value) => Some(count_of_names(value)),
         _ => None,
     }
 }
@@ -240,27 +229,18 @@ fn check(alloc: Global, code: &[Instruction], form: Form) -> Result<(), Refusal>
     fits_either(alloc, &stream, form)
 }
 
-/// A stream that is accepted. A contract sees the instructions.
-#[derive(Drop)]
-pub struct Verified {
-    instructions: Vec<Instruction>,
+/// The stream of these instructions, if it is accepted. BadStream where it isn't, OutOfMemory when out of memory.
+fn verified(
+    alloc: Global,
+    instructions: Items<Instruction>,
     form: Form,
-}
-
-impl Model for Verified {
-    ghost use Rattle.std.specs.Prelude.{◌≡◌, List, true};
-    ghost use Rattle.std.specs.Coded.{codes};
-    ghost use Rattle.tm_values.specs.Code.{coded_Val};
-    ghost use Rattle.tm_shapes.specs.Accepts.{accepts};
-    ghost use Rattle.tm_syntax.specs.declared.instruction.Instruction.{Instruction as Made};
-
-    ghost Value = { List Made };
-
-    ghost coded = { Prim.hlevel (codes, coded_Val) };
-
-    ghost view = { λ a. a.instructions.items };
-
-    ghost invariant = { λ a. accepts a.form a.instructions.items ≡ true };
+) -> Result<Verified, Refusal>
+    ensures accepted { IfOk result (λ made.
+        (made ≡ instructions) × (accepts form instructions ≡ true)) }
+    ensures refused { IfErr result (λ e. e ≡ BadStream → accepts form instructions ≡ false) }
+{
+    check(alloc, instructions.as_slice(), form)?;
+    Ok(Verified::new(alloc, instructions, form)?)
 }
 
 /// Gives a stream if it is accepted, so never stuck. BadStream where it isn't, OutOfMemory when out of memory; the
@@ -270,18 +250,9 @@ pub fn verify(alloc: Global, instructions: Vec<Instruction>, form: Form) -> Resu
         (made ≡ instructions.items) × (accepts form instructions.items ≡ true)) }
     ensures refused { IfErr result (IsRefused form instructions.items) }
 {
-    match check(alloc, instructions.as_slice(), form) {
-        Ok(()) => Ok(Verified { instructions, form }),
+    match verified(alloc, Items::from_vec(instructions), form) {
+        Ok(made) => Ok(made),
         Err(Refusal::BadStream) => Err(Error::from(ErrorKind::BadStream)),
         Err(Refusal::OutOfMemory) => Err(Error::from(ErrorKind::OutOfMemory)),
-    }
-}
-
-impl Verified {
-    /// The instructions.
-    pub fn as_slice(&self) -> &[Instruction]
-        ensures { result.now ≡ self.now }
-    {
-        self.instructions.as_slice()
     }
 }

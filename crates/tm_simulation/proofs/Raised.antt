@@ -42,8 +42,8 @@ use Rattle.tm_definitions.specs.Verdicts.{verdict, items_verdict, pairs_verdict,
 use Rattle.tm_definitions.specs.Slices.{sliced, cut, cut_by, parts_in, Parts}
 use Rattle.tm_definitions.specs.declared.comparison.ComparisonOperator.{ComparisonOperator}
 use Rattle.tm_definitions.specs.declared.comparison.ComparisonOperator.TheVariants as comparison
-use Rattle.tm_definitions.specs.declared.form.Form.{Form}
-use Rattle.tm_definitions.specs.declared.form.Form.TheVariants.{Printed, Json}
+use Rattle.tm_definitions.specs.declared.output_format.OutputFormat.{OutputFormat}
+use Rattle.tm_definitions.specs.declared.output_format.OutputFormat.TheVariants.{Printed, Json}
 use Rattle.tm_meaning.specs.Calls.{choices_in}
 use Rattle.tm_meaning.specs.World.{Scope, HostValue, View, Format, find_name, in_frames, in_scope, or_on, or_on_answer, context_member}
 use Rattle.tm_meaning.specs.World.{namespace_member}
@@ -125,11 +125,11 @@ and_raises : (first later : Verdict) → Raises first → Raises later → Raise
 and_raises (Ok _) later h k = k
 and_raises (Err chain) later h k = h
 
-json_raises : (form : Form) (v : Verdict) → Raises v → Raises (in_json form v)
+json_raises : (form : OutputFormat) (v : Verdict) → Raises v → Raises (in_json form v)
 json_raises Printed v h = tt
 json_raises Json v h = h
 
-loop_raises : (form : Form) (r : RecordData) (s n : ℕ) → Raises (loop_verdict form r s n)
+loop_raises : (form : OutputFormat) (r : RecordData) (s n : ℕ) → Raises (loop_verdict form r s n)
 loop_raises Printed r s n = by_test (λ b. if_holds b invalid) _ tt refl
 loop_raises Json r s n = refl
 
@@ -137,7 +137,7 @@ key_raises : (k : Val) → Raises (key_verdict k)
 key_raises (text s safe) = tt
 key_raises _ = refl
 
-module _ (form : Form) (r : RecordData) (inside : NamespaceVerdicts) (given_inside : (s n : ℕ) → Raises (inside s n)) where
+module _ (form : OutputFormat) (r : RecordData) (inside : NamespaceVerdicts) (given_inside : (s n : ℕ) → Raises (inside s n)) where
   mutual
     verdict_raises : (v : Val) → Raises (verdict form r inside v)
     verdict_raises (undefined silent) = tt
@@ -164,7 +164,7 @@ module _ (form : Form) (r : RecordData) (inside : NamespaceVerdicts) (given_insi
         and_raises _ _ (and_raises _ _ (json_raises form _ (key_raises k)) (and_raises _ _ (verdict_raises k) (verdict_raises v)))
         (pairs_raises ps)
 
-inside_raises : (form : Form) (r : RecordData) (levels : ℕ) (way : Way) (s n : ℕ) → Raises (namespace_verdict form r levels way s n)
+inside_raises : (form : OutputFormat) (r : RecordData) (levels : ℕ) (way : Way) (s n : ℕ) → Raises (namespace_verdict form r levels way s n)
 inside_raises form r zero way s n = refl
 inside_raises form r (suc levels) way s n =
     let held : Pairs → Verdict = λ ps. pairs_verdict form r (namespace_verdict form r levels (through n way)) ps in

@@ -4,7 +4,7 @@ use Rattle.std.specs.Prelude.{ℕ, List, [], ◌∷◌, length, Option, None, So
 use Rattle.std.specs.BTreeMap.{insert_entry}
 use Rattle.std.specs.List.{prefix_len}
 use Rattle.std.specs.Ordering.{nat_cmp}
-use Rattle.tm_values.specs.Val.{Val, list, list_of}
+use Rattle.tm_values.specs.Val.{Val, list, list_of, text_in}
 use Rattle.tm_syntax.specs.declared.instruction.Instruction.{Instruction}
 use Rattle.tm_syntax.specs.declared.instruction.Instruction.TheVariants as i
 
@@ -15,6 +15,20 @@ Entries = List (ℕ × ℕ)
 abbrev pub name_count : Val → ℕ
 name_count (list vs) = length (list_of vs)
 name_count v = 0
+
+abbrev pub and_text : Option (List ℕ) → Option (List (List ℕ)) → Option (List (List ℕ))
+and_text (Some x) (Some xs) = Some (x ∷ xs)
+and_text x xs = None
+
+-- the texts that values are, where each is one
+abbrev pub texts_in : List Val → Option (List (List ℕ))
+texts_in [] = Some []
+texts_in (v ∷ vs) = and_text (text_in v) (texts_in vs)
+
+-- the names that a list of texts is
+abbrev pub names_in : Val → Option (List (List ℕ))
+names_in (list vs) = texts_in (list_of vs)
+names_in v = None
 
 -- and a macro that is entered at a place, where a literal with so many names stands before it
 abbrev pub with_entry : Option ℕ → ℕ → Entries → Entries

@@ -8,7 +8,7 @@ pub mod Named
 pub mod Hashed
 pub mod HashedLaws
 pub mod Blocks
-pub mod BlockCodes
+pub mod Choices
 pub mod Loops
 pub mod RawText
 pub mod Entries

@@ -1,7 +1,6 @@
 //! What a template is made of: names, raw texts, tokens, trees and instructions, each declared once.
 #![tactic(auto)]
 
-mod code;
 mod instruction;
 mod jump;
 mod name;
@@ -11,7 +10,6 @@ mod raw_text;
 mod token;
 mod tree;
 
-pub use code::{BlockCode, Code};
 pub use instruction::{CACHES, CaptureMode, Instruction, LoopFlags, LoopPlace, NO_CACHE};
 pub use jump::JumpKind;
 pub use name::Name;

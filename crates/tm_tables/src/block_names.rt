@@ -8,7 +8,8 @@ ghost use Rattle.tm_values.specs.Answer.{OkOrOutOfMemory};
 
 use std::alloc::{AllocError, Global};
 use std::marker::Model;
-use tm_syntax::{BlockCode, Name, NameMap};
+use tm_shapes::BlockCode;
+use tm_syntax::{Name, NameMap};
 use tm_values::Error;
 
 /// The names of these blocks, in their order. AllocError when out of memory.

@@ -14,7 +14,8 @@ use crate::template_entry::TemplateEntry;
 use crate::view::View;
 use std::alloc::Global;
 use tm_meaning::{StreamId, TemplateId};
-use tm_syntax::{Code, Name, NameMap};
+use tm_shapes::Verified;
+use tm_syntax::{Name, NameMap};
 use tm_values::{AutoEscape, Error, UndefinedBehavior, Value};
 
 /// What a render runs under: the environment, the rendered template and all objects of the caller, as one.
@@ -63,7 +64,7 @@ pub trait Host {
         ensures { IsEntry result name.now (find name.now (meaning self.now).templates) };
 
     /// The instructions of a stream, wherever its template stands.
-    fn instructions(&self, stream: &StreamId, place: usize) -> &Code
+    fn instructions(&self, stream: &StreamId, place: usize) -> &Verified
         ensures { result.now ≡ code self.now stream.now };
 
     /// What the function of a number answers, or which one of the language it is; none where there is no such function.

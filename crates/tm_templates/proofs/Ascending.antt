@@ -3,9 +3,9 @@ use Rattle.std.proofs.Common.{[], ◌∷◌, ◌≡◌, sym, subst}
 use Rattle.std.specs.List.Sorted.{IsStrictlySortedBy}
 use Rattle.std.specs.Map.{keys_of}
 use Rattle.tm_syntax.specs.Blocks.{stream_blocks, stream_of}
-use Rattle.tm_syntax.specs.BlockCodes.{compiled_blocks}
+use Rattle.tm_shapes.specs.BlockCodes.{compiled_blocks}
 use Rattle.tm_syntax.specs.Named.{Named, by_name, name_cmp, put, put_each}
-use Rattle.tm_syntax.specs.declared.code.BlockCode.{BlockCode}
+use Rattle.tm_shapes.specs.declared.code.BlockCode.{BlockCode}
 use Rattle.tm_syntax.specs.declared.tree.Tree.{Tree}
 use Rattle.tm_tables.specs.Places.{AreOrdered}
 use Rattle.tm_tables.proofs.Places.{ordered-none, ordered-put}

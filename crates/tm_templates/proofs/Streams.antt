@@ -3,8 +3,8 @@ use Rattle.std.proofs.Common.{◌≡◌, ℕ, List, [], sym, ap, ◌∙◌, Opti
 use Rattle.std.specs.Option.{option_map}
 use Rattle.tm_syntax.specs.declared.instruction.Instruction.{Instruction}
 use Rattle.tm_syntax.specs.Blocks.{FoundBlock, statements, stream_blocks, stream_of, code_of}
-use Rattle.tm_syntax.specs.BlockCodes.{block_code}
-use Rattle.tm_syntax.specs.declared.code.BlockCode.{BlockCode}
+use Rattle.tm_shapes.specs.BlockCodes.{block_code}
+use Rattle.tm_shapes.specs.declared.code.BlockCode.{BlockCode}
 use Rattle.tm_syntax.specs.Named.{Named, find, by_name}
 use Rattle.tm_meaning.specs.World.{Card, card_in}
 use Rattle.tm_meaning.specs.Calls.{is_required}

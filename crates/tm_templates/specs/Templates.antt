@@ -8,8 +8,8 @@ use Rattle.tm_syntax.specs.declared.tree.Tree.{Tree}
 use Rattle.tm_syntax.specs.declared.tree.Tree.TheVariants as trees
 use Rattle.tm_syntax.specs.declared.instruction.Instruction.{Instruction}
 use Rattle.tm_syntax.specs.Blocks.{StreamTree, stream_of, stream_blocks, code_of}
-use Rattle.tm_syntax.specs.BlockCodes.{compiled_blocks}
-use Rattle.tm_syntax.specs.declared.code.BlockCode.{BlockCode}
+use Rattle.tm_shapes.specs.BlockCodes.{compiled_blocks}
+use Rattle.tm_shapes.specs.declared.code.BlockCode.{BlockCode}
 use Rattle.tm_syntax.specs.Named.{Named, by_name}
 use Rattle.tm_delimiters.specs.Syntax.{Syntax}
 use Rattle.tm_values.specs.Answer.{Refused}

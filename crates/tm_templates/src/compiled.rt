@@ -24,7 +24,7 @@ use std::collections::BTreeSet;
 use std::marker::Model;
 use std::rc::{Rc, RcStr};
 use tm_compiler::{
-    BlockCode, Code, Name, NameMap, Streams, SyntaxConfig, Tree, generate, parse, parse_expr,
+    BlockCode, Name, NameMap, Streams, SyntaxConfig, Tree, Verified, generate, parse, parse_expr,
 };
 use tm_items::Items;
 use tm_names::undeclared;
@@ -113,7 +113,7 @@ pub struct CompiledTemplate<'source> {
     tree: Tree,
     streams: Streams,
     block_names: Rc<BlockNames>,
-    nothing: Code,
+    nothing: Verified,
 }
 
 // By hand, so that the crates above need no proof of their own that a tree can be dropped.
@@ -232,7 +232,7 @@ impl<'source> CompiledTemplate<'source> {
             tree,
             streams,
             block_names,
-            nothing: Code::empty(alloc),
+            nothing: Verified::empty(alloc),
         })
     }
 
@@ -272,7 +272,7 @@ impl<'source> CompiledTemplate<'source> {
     }
 
     /// The code of its tree.
-    pub fn instructions(&self) -> &Code
+    pub fn instructions(&self) -> &Verified
         ensures { result.now ≡ code_of (stream_of self.now.tree) }
     {
         &self.streams.root
@@ -313,7 +313,7 @@ impl<'source> CompiledTemplate<'source> {
     }
 
     /// The code of a part: of the block of a name, or of all its tree. Of a block that isn't there, none.
-    pub fn stream(&self, block: &Option<Name>) -> &Code
+    pub fn stream(&self, block: &Option<Name>) -> &Verified
         ensures { result.now ≡ code_of (part_of (tree_of self.now) block.now) }
     {
         match block {

@@ -12,8 +12,9 @@ use crate::machine::Machine;
 use std::alloc::Global;
 use tm_meaning::{Base, RunText};
 use tm_parts::Halt;
+use tm_shapes::Verified;
 use tm_state::{CallResult, NestedRun, Recursion, RunOf, Saved};
-use tm_syntax::{Application, CaptureMode, Code, Name};
+use tm_syntax::{Application, CaptureMode, Name};
 use tm_tables::Host;
 use tm_values::{Error, ErrorKind, Value};
 
@@ -24,7 +25,7 @@ impl Machine {
         &mut self,
         alloc: Global,
         host: &H,
-        code: &Code,
+        code: &Verified,
         name: &Name,
         count: Option<usize>,
     ) -> Result<Flow, Halt>
@@ -49,7 +50,7 @@ impl Machine {
         &mut self,
         alloc: Global,
         host: &H,
-        code: &Code,
+        code: &Verified,
         name: &Name,
         count: Option<usize>,
     ) -> Result<Flow, Halt>
@@ -72,7 +73,7 @@ impl Machine {
         &mut self,
         alloc: Global,
         host: &H,
-        code: &Code,
+        code: &Verified,
         name: &Name,
         count: usize,
     ) -> Result<Flow, Halt>
@@ -97,7 +98,7 @@ impl Machine {
         &mut self,
         alloc: Global,
         host: &H,
-        code: &Code,
+        code: &Verified,
         count: usize,
         called: CallResult,
     ) -> Result<Flow, Halt>
@@ -120,7 +121,7 @@ impl Machine {
         &mut self,
         alloc: Global,
         host: &H,
-        code: &Code,
+        code: &Verified,
         count: usize,
         called: Recursion,
     ) -> Result<Flow, Halt>
@@ -163,7 +164,7 @@ impl Machine {
         alloc: Global,
         host: &H,
         base: &Base,
-        code: &Code,
+        code: &Verified,
     ) -> Result<Flow, Halt>
         requires in_place { CanGoOn self.old.run }
         requires its_code { code.now ≡ H.code host.now self.old.run.stream }
@@ -184,7 +185,7 @@ impl Machine {
         &mut self,
         alloc: Global,
         host: &H,
-        code: &Code,
+        code: &Verified,
         called: Recursion,
         value: bool,
     ) -> Result<Flow, Halt>
@@ -215,7 +216,7 @@ impl Machine {
         &mut self,
         alloc: Global,
         host: &H,
-        code: &Code,
+        code: &Verified,
         application: Application,
         name: &Name,
         place: usize,
@@ -239,7 +240,7 @@ impl Machine {
         &mut self,
         alloc: Global,
         host: &H,
-        code: &Code,
+        code: &Verified,
         application: Application,
         name: &Name,
         place: usize,
@@ -268,7 +269,7 @@ impl Machine {
         &mut self,
         alloc: Global,
         host: &H,
-        code: &Code,
+        code: &Verified,
         count: Option<usize>,
     ) -> Result<Flow, Halt>
         requires in_place { CanGoOn self.old.run }
@@ -289,7 +290,7 @@ impl Machine {
         &mut self,
         alloc: Global,
         host: &H,
-        code: &Code,
+        code: &Verified,
         count: usize,
     ) -> Result<Flow, Halt>
         requires in_place { CanGoOn self.old.run }
@@ -313,7 +314,7 @@ impl Machine {
         &mut self,
         alloc: Global,
         host: &H,
-        code: &Code,
+        code: &Verified,
         name: &Name,
         count: Option<usize>,
         cache: u8,
@@ -336,7 +337,7 @@ impl Machine {
         &mut self,
         alloc: Global,
         host: &H,
-        code: &Code,
+        code: &Verified,
         name: &Name,
         count: Option<usize>,
         cache: u8,

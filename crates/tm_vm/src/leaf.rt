@@ -17,7 +17,8 @@ use std::marker::Model;
 use std::mem;
 use tm_parts::Stack;
 use tm_printing::emit_at_once;
-use tm_syntax::{BinaryOperator, Code, Instruction, Name};
+use tm_shapes::Verified;
+use tm_syntax::{BinaryOperator, Instruction, Name};
 use tm_tables::{Host, Locals};
 use tm_values::{AutoEscape, Error, ErrorKind, SharedText, Value};
 
@@ -37,7 +38,7 @@ pub(crate) enum LeafFlow {
 
 /// The instruction at a place of code, where there is one.
 #[inline(always)]
-fn instruction_at(code: &Code, place: usize) -> Option<&Instruction>
+fn instruction_at(code: &Verified, place: usize) -> Option<&Instruction>
     ensures found { IsLent result (slice_get code.now place) }
     ensures within { IfSome result (λ _. place + 2 < 2 ^ 64 - 1) }
 {
@@ -405,7 +406,7 @@ impl Leaf {
     /// Does the three instructions that test whether an argument is undefined, of which this is the first, and goes on after
     /// them. Else all stays as it was, and the answer is false.
     #[inline(always)]
-    fn skip_test(&mut self, code: &Code) -> bool
+    fn skip_test(&mut self, code: &Verified) -> bool
         requires in_place { self.old.place + 2 < 2 ^ 64 - 1 }
         requires can_pay { CanPay 2 self.old.fuel }
         ensures { OrStays result self.old self.new (SkipsTest code.now self.old self.new) }
@@ -431,7 +432,7 @@ impl Leaf {
 
     /// The test of an argument, or its first instruction alone.
     #[inline(always)]
-    fn test_or_double(&mut self, code: &Code) -> bool
+    fn test_or_double(&mut self, code: &Verified) -> bool
         requires in_place { self.old.place + 2 < 2 ^ 64 - 1 }
         requires can_pay { CanPay 2 self.old.fuel }
         requires here { slice_get code.now self.old.place ≡ Some instruction.DupTop }
@@ -444,7 +445,7 @@ impl Leaf {
 
     /// One step over code, under an escape.
     #[inline(always)]
-    fn step(&mut self, code: &Code, escape: AutoEscape) -> LeafFlow
+    fn step(&mut self, code: &Verified, escape: AutoEscape) -> LeafFlow
         ensures strides { Strides result code.now escape self.old self.new }
         ensures fuel { self.new.fuel ≤ self.old.fuel }
     {
@@ -463,7 +464,7 @@ impl Leaf {
 
     /// Runs to the macro's end over code, under an escape; false where it is no leaf.
     #[inline(never)]
-    fn run(&mut self, code: &Code, escape: AutoEscape) -> bool
+    fn run(&mut self, code: &Verified, escape: AutoEscape) -> bool
         ensures runs { IsTrue result → RunsOut code.now escape self.old self.new }
         ensures fuel { self.new.fuel ≤ self.old.fuel }
     {

@@ -10,7 +10,8 @@ use std::alloc::Global;
 use tm_meaning::{Base, RunText};
 use tm_operations::iterate;
 use tm_parts::Halt;
-use tm_syntax::{Code, LoopFlags};
+use tm_shapes::Verified;
+use tm_syntax::LoopFlags;
 use tm_tables::Host;
 use tm_values::Value;
 
@@ -22,7 +23,7 @@ impl Machine {
         &mut self,
         alloc: Global,
         host: &H,
-        code: &Code,
+        code: &Verified,
         flags: LoopFlags,
     ) -> Result<Flow, Halt>
         requires in_place { CanGoOn self.old.run }

@@ -18,8 +18,8 @@ use std::marker::Model;
 use std::mem;
 use tm_meaning::{Base, RunText, StreamId, TemplateId, Wrapping};
 use tm_parts::{Captures, Halt, Sink};
+use tm_shapes::Verified;
 use tm_state::{NestedRun, RunOf, Saved, StateData};
-use tm_syntax::Code;
 use tm_tables::Host;
 use tm_values::{Error, ErrorKind, Value};
 
@@ -284,7 +284,7 @@ impl Machine {
     }
 
     /// The instructions of the run's stream.
-    fn code<'host, H: Host>(&self, host: &'host H) -> &'host Code
+    fn code<'host, H: Host>(&self, host: &'host H) -> &'host Verified
         ensures { result.now ≡ H.code host.now self.now.run.stream }
     {
         host.instructions(&self.run.stream, self.state.template_place())

@@ -11,7 +11,8 @@ use crate::machine::Machine;
 use std::alloc::Global;
 use std::rc::RcStr;
 use tm_parts::Halt;
-use tm_syntax::{Code, Name};
+use tm_shapes::Verified;
+use tm_syntax::Name;
 use tm_tables::Host;
 use tm_values::{Error, ErrorKind, Node, Value};
 
@@ -57,7 +58,7 @@ impl Machine {
         &mut self,
         alloc: Global,
         host: &H,
-        code: &Code,
+        code: &Verified,
         name: &Name,
         place: usize,
         caller: bool,

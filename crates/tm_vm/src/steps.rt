@@ -14,7 +14,8 @@ use crate::machine::Machine;
 use std::alloc::Global;
 use tm_meaning::Base;
 use tm_parts::{Halt, Sink};
-use tm_syntax::{Application, BinaryOperator, Code, Instruction, UnaryOperator};
+use tm_shapes::Verified;
+use tm_syntax::{Application, BinaryOperator, Instruction, UnaryOperator};
 use tm_tables::{Exhausted, Host, NO_PLACE};
 use tm_values::{Error, ErrorKind};
 
@@ -27,7 +28,7 @@ impl Machine {
         alloc: Global,
         host: &H,
         base: &Base,
-        code: &Code,
+        code: &Verified,
         instruction: &Instruction,
         writer: &mut W,
     ) -> Result<Flow, Halt>
@@ -211,7 +212,7 @@ impl Machine {
         alloc: Global,
         host: &H,
         base: &Base,
-        code: &Code,
+        code: &Verified,
         writer: &mut W,
     ) -> Result<Flow, Halt>
         requires { code.now ≡ H.code host.now self.old.run.stream }
@@ -238,7 +239,7 @@ impl Machine {
         &mut self,
         host: &H,
         base: &Base,
-        code: &Code,
+        code: &Verified,
         writer: &mut W,
     ) -> Attempt
         requires { code.now ≡ H.code host.now self.old.run.stream }
@@ -260,7 +261,7 @@ impl Machine {
         alloc: Global,
         host: &H,
         base: &Base,
-        code: &Code,
+        code: &Verified,
         writer: &mut W,
     ) -> Result<Flow, Halt>
         requires { code.now ≡ H.code host.now self.old.run.stream }

@@ -1,6 +1,6 @@
 use Rattle.std.proofs.Common.{◌≡◌, ◌+◌, ◌*◌, drop}
 use Rattle.tm_syntax.specs.Blocks.{blocks_in}
-use Rattle.tm_syntax.specs.BlockCodes.{compiled_blocks}
+use Rattle.tm_shapes.specs.BlockCodes.{compiled_blocks}
 use Rattle.tm_syntax.specs.Code.{statements_code}
 use Rattle.tm_syntax.specs.Named.{put_each}
 use Rattle.tm_syntax.specs.declared.tree.Stmt.TheBlock.{hidden-the_row-Stmt-0 as statements}

@@ -1,5 +1,5 @@
 use Rattle.std.proofs.Common.{◌∷◌}
-use Rattle.tm_meaning.specs.Instructions.{names_in}
+use Rattle.tm_syntax.specs.Entries.{names_in}
 use Rattle.tm_shapes.specs.declared.kind.Kind.TheVariants.{Names as names}
 use Rattle.tm_shapes.specs.Flows.{load_names, next}
 use Rattle.tm_shapes.proofs.Levels.{names-loaded}

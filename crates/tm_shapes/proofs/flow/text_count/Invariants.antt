@@ -1,6 +1,6 @@
 use Rattle.std.proofs.Common.{◌≡◌, drop, length}
 use Rattle.std.specs.Option.{option_map}
-use Rattle.tm_meaning.specs.Instructions.{texts_in}
+use Rattle.tm_syntax.specs.Entries.{texts_in}
 use Rattle.tm_shapes.proofs.Levels.{more}
 use Rattle.tm_shapes.proofs.flow.text_count.Given as goal
 

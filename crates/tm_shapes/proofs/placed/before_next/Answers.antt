@@ -1,5 +1,5 @@
 use Rattle.std.proofs.Common.{◌∙◌, ap, sym}
-use Rattle.tm_meaning.specs.Instructions.{names_in}
+use Rattle.tm_syntax.specs.Entries.{names_in}
 use Rattle.tm_shapes.specs.Placed.{before_next}
 use Rattle.tm_shapes.specs.declared.before.Before.TheVariants.{Closure}
 use Rattle.tm_shapes.proofs.MacroParts.{no_names, some_names}

@@ -3,8 +3,8 @@ use Rattle.std.proofs.lemmas.Fn.{always_returns_same}
 use Rattle.std.proofs.lemmas.List.Sorted.{IsPartitionedBy-ltb}
 use Rattle.tm_syntax.specs.Loops.{LoopPlace, loops_before}
 use Rattle.tm_syntax.specs.declared.instruction.Instruction.{Instruction}
-use Rattle.tm_syntax.proofs.Places.{made_in_order, numbered}
-use Rattle.tm_syntax.proofs.code.Code.loop_number.Goals as goal
+use Rattle.tm_shapes.proofs.Places.{made_in_order, numbered}
+use Rattle.tm_shapes.proofs.code.Verified.loop_number.Goals as goal
 
 pub returns : goal.returns
 returns c =

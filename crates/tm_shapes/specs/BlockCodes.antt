@@ -2,7 +2,7 @@
 use Rattle.std.specs.Prelude.{ℕ, List, map as each}
 use Rattle.tm_syntax.specs.Blocks.{FoundBlock, statements, code_of}
 use Rattle.tm_syntax.specs.Named.{Named}
-pub use Rattle.tm_syntax.specs.declared.code.BlockCode.{BlockCode}
+pub use Rattle.tm_shapes.specs.declared.code.BlockCode.{BlockCode}
 
 abbrev pub block_code : FoundBlock → BlockCode
 block_code b = record { required = b.required; code = code_of (statements b.body) }

@@ -1,8 +1,8 @@
 use Rattle.std.proofs.Common.{◌≡◌, List, Some, slice_get, sym, ◌∙◌, arith, subst}
 use Rattle.tm_syntax.specs.Loops.{loop_places}
 use Rattle.tm_syntax.specs.declared.instruction.Instruction.{Instruction}
-use Rattle.tm_syntax.proofs.Places.{within, read_at}
-use Rattle.tm_syntax.proofs.code.Code.loop_place.Goals as goal
+use Rattle.tm_shapes.proofs.Places.{within, read_at}
+use Rattle.tm_shapes.proofs.code.Verified.loop_place.Goals as goal
 
 pub prove-unreachable-requires : goal.prove-unreachable-requires
 prove-unreachable-requires c =

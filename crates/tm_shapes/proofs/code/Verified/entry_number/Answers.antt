@@ -6,7 +6,7 @@ use Rattle.std.specs.List.{prefix_len}
 use Rattle.std.specs.List.Sorted.{IsNonDecreasingBy}
 use Rattle.tm_syntax.specs.Entries.{Entries, entry_number}
 use Rattle.tm_syntax.specs.declared.instruction.Instruction.{Instruction}
-use Rattle.tm_syntax.proofs.code.Code.entry_number.Goals as goal
+use Rattle.tm_shapes.proofs.code.Verified.entry_number.Goals as goal
 
 pub returns : goal.returns
 returns c =

@@ -1,28 +1,32 @@
-//! The code of a stream.
+//! Streams that are accepted, as the machine runs them.
 ghost use Rattle.std.specs.List.Sorted.{IsNonDecreasingBy};
-ghost use Rattle.std.specs.Prelude.{◌≡◌, ◌-◌, ◌^◌, ℕ, ◌<◌, [], IfOk, IfSome, ltb, slice_get};
+ghost use Rattle.std.specs.Prelude.{◌≡◌, ◌-◌, ◌^◌, ℕ, ◌<◌, [], IfOk, IfSome, ltb, slice_get, true};
+ghost use Rattle.tm_shapes.specs.Accepts.{accepts};
 ghost use Rattle.tm_syntax.specs.Entries.{entries, entry_number, name_count};
 ghost use Rattle.tm_syntax.specs.Loops.{loop_places, loops_before};
 
-use crate::instruction::{Instruction, LoopPlace};
+use crate::kind::Form;
 use std::alloc::{AllocError, Global};
 use std::collections::BTreeMap;
 use std::marker::Model;
 use tm_items::Items;
+use tm_syntax::{Instruction, LoopPlace};
 use tm_values::{Node, Value};
 
-/// The instructions of a stream, where its loops begin, and where its macros are entered, each with how many
-/// arguments it takes. A contract sees the instructions.
-pub struct Code {
+/// A stream that is accepted, so never stuck: its instructions, where its loops begin, and where its macros are entered,
+/// each with how many arguments it takes. A contract sees the instructions.
+pub struct Verified {
+    form: Form,
     instructions: Items<Instruction>,
     loops: Vec<LoopPlace>,
     macros: Vec<(usize, usize)>,
 }
 
 // By hand: one call for each owner, in place of a drop of each part.
-impl Drop for Code {
+impl Drop for Verified {
     fn drop(self) {
-        let Code {
+        let Verified {
+            form: _form,
             instructions: _instructions,
             loops: _loops,
             macros: _macros,
@@ -30,11 +34,12 @@ impl Drop for Code {
     }
 }
 
-impl Model for Code {
-    ghost use Rattle.std.specs.Prelude.{◌≡◌, ℕ, List};
+impl Model for Verified {
+    ghost use Rattle.std.specs.Prelude.{◌≡◌, ℕ, List, true};
     ghost use Rattle.std.specs.List.Sorted.{IsNonDecreasingBy};
     ghost use Rattle.std.specs.Coded.{codes};
     ghost use Rattle.tm_values.specs.Code.{coded_Val};
+    ghost use Rattle.tm_shapes.specs.Accepts.{accepts};
     ghost use Rattle.tm_syntax.specs.Entries.{entries};
     ghost use Rattle.tm_syntax.specs.Loops.{loop_places};
     ghost use Rattle.tm_syntax.specs.declared.instruction.Instruction.{Instruction as Made};
@@ -46,7 +51,7 @@ impl Model for Code {
     ghost view = { λ a. a.instructions };
 
     ghost invariant = { λ a. (a.loops.items ≡ loop_places 0 a.instructions) × (a.macros.items ≡ entries a.instructions) ×
-        IsNonDecreasingBy (λ (e : ℕ × ℕ). e.0) a.macros.items };
+        IsNonDecreasingBy (λ (e : ℕ × ℕ). e.0) a.macros.items × (accepts a.form a.instructions ≡ true) };
 }
 
 /// The code of a block, and whether another template has to replace it.
@@ -54,7 +59,7 @@ pub struct BlockCode {
     /// Whether it is refused where no template replaces it.
     pub required: bool,
     /// What it runs.
-    pub code: Code,
+    pub code: Verified,
 }
 
 // By hand: one call for each owner, in place of a drop of each part.
@@ -85,7 +90,7 @@ fn places_of(alloc: Global, instructions: &[Instruction]) -> Result<Vec<LoopPlac
 
 /// How many names a literal list of them has.
 #[tactic(auto, using(tm_values::proofs::Lists::round_trips))]
-fn name_count(names: &Value) -> usize
+pub(crate) fn count_of_names(names: &Value) -> usize
     ensures { result ≡ name_count names.now }
 {
     match &names.node {
@@ -111,7 +116,7 @@ fn entries_by_place(
                 }
                 None
             }
-            Instruction::LoadConst(value) => Some(name_count(value)),
+            Instruction::LoadConst(value) => Some(count_of_names(value)),
             _ => None,
         };
     }
@@ -135,25 +140,32 @@ fn entries_of(
     Ok(found)
 }
 
-impl Code {
+impl Verified {
     /// No instructions.
-    pub fn empty(alloc: Global) -> Code
+    pub fn empty(alloc: Global) -> Verified
         ensures { result ≡ [] }
     {
-        Code {
+        Verified {
+            form: Form::Template,
             instructions: Items::new(alloc),
             loops: Vec::new(alloc),
             macros: Vec::new(alloc),
         }
     }
 
-    /// These instructions. AllocError when out of memory.
-    pub fn new(alloc: Global, instructions: Items<Instruction>) -> Result<Code, AllocError>
+    /// These instructions, which are accepted: so by proof that nothing is tested. AllocError when out of memory.
+    pub fn new(
+        alloc: Global,
+        instructions: Items<Instruction>,
+        form: Form,
+    ) -> Result<Verified, AllocError>
+        requires { accepts form instructions ≡ true }
         ensures { IfOk result (λ code. code ≡ instructions) }
     {
         let loops = places_of(alloc, instructions.as_slice())?;
         let macros = entries_of(alloc, instructions.as_slice())?;
-        Ok(Code {
+        Ok(Verified {
+            form,
             instructions,
             loops,
             macros,

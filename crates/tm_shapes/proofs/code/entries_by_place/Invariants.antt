@@ -1,6 +1,6 @@
 use Rattle.std.proofs.Common.{◌≡◌, drop}
 use Rattle.tm_syntax.specs.Entries.{entries, entries_from}
-use Rattle.tm_syntax.proofs.code.entries_by_place.Given as goal
+use Rattle.tm_shapes.proofs.code.entries_by_place.Given as goal
 
 abbrev pub invariant-loop-instruction : goal.invariant-loop-instruction
 invariant-loop-instruction l =

@@ -4,8 +4,8 @@ use Rattle.std.specs.List.Sorted.{IsStrictlySortedBy}
 use Rattle.std.specs.Map.{keys_of}
 use Rattle.std.specs.Ordering.{nat_cmp}
 use Rattle.tm_syntax.specs.Entries.{Entries}
-use Rattle.tm_syntax.proofs.Entries.{rise}
-use Rattle.tm_syntax.proofs.code.entries_of.Goals as goal
+use Rattle.tm_shapes.proofs.Entries.{rise}
+use Rattle.tm_shapes.proofs.code.entries_of.Goals as goal
 
 pub returns-clause-order : goal.returns-clause-order
 returns-clause-order c =
