@@ -64,7 +64,12 @@ pub enum Mark {
 
 // What is left is in a list, and what is known of namespaces in `marks`, by their numbers: each is
 // gone through once.
-fn check<R: Records>(form: OutputFormat, alloc: Global, value: &Value, records: &R) -> Result<(), Error>
+fn check<R: Records>(
+    form: OutputFormat,
+    alloc: Global,
+    value: &Value,
+    records: &R,
+) -> Result<(), Error>
     ensures { IsAnswer result (verdict_within form (R.records records.now)
         (length (R.records records.now).namespaces) nowhere value.now) }
 {
@@ -322,7 +327,12 @@ fn check_unwritable(form: OutputFormat) -> Result<(), Error>
     }
 }
 
-fn check_loop<R: Records>(form: OutputFormat, state: u64, index: usize, records: &R) -> Result<(), Error>
+fn check_loop<R: Records>(
+    form: OutputFormat,
+    state: u64,
+    index: usize,
+    records: &R,
+) -> Result<(), Error>
     ensures { IsAnswer result (loop_verdict form (R.records records.now) state index) }
 {
     match form {
