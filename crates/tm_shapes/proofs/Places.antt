@@ -8,7 +8,8 @@ use Rattle.std.specs.List.{prefix_len}
 use Rattle.std.specs.List.Sorted.{IsNonDecreasingBy, IsPartitionPoint}
 use Rattle.tm_syntax.specs.declared.instruction.Instruction.{Instruction}
 use Rattle.tm_syntax.specs.declared.instruction.LoopFlags.{LoopFlags}
-use Rattle.tm_syntax.specs.Loops.{LoopPlace, begins, with_place, loop_places, one_more_loop, loops_before}
+use Rattle.tm_syntax.specs.Loops.{begins, with_place, loop_places, one_more_loop, loops_before}
+use Rattle.tm_syntax.specs.declared.instruction.LoopPlace.{LoopPlace}
 
 -- ---------------------------------------------------------------- in order
 -- none begins before a place

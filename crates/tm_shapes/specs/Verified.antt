@@ -1,5 +1,5 @@
 -- Streams that are accepted.
-use Rattle.std.specs.Prelude.{◌≡◌, ◌⊎◌, List, [], ◌∷◌, false}
+use Rattle.std.specs.Prelude.{◌≡◌, ◌⊎◌, List, [], ◌∷◌, false, true}
 use Rattle.tm_values.specs.declared.error.ErrorKind.{ErrorKind}
 use Rattle.tm_values.specs.declared.error.ErrorKind.TheVariants.{BadStream, OutOfMemory}
 use Rattle.tm_syntax.specs.declared.instruction.Instruction.{Instruction}
@@ -9,3 +9,7 @@ use Rattle.tm_shapes.specs.declared.kind.Form.{Form}
 -- It isn't accepted, or memory is out.
 abbrev pub IsRefused : Form → List Instruction → List ErrorKind → Type 0
 IsRefused form code chain = (chain ≡ OutOfMemory ∷ []) ⊎ ((chain ≡ BadStream ∷ []) × (accepts form code ≡ false))
+
+-- It is accepted, in some form.
+abbrev pub IsAccepted : List Instruction → Type 0
+IsAccepted code = (form : Form) × (accepts form code ≡ true)

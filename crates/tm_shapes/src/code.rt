@@ -2,6 +2,7 @@
 ghost use Rattle.std.specs.List.Sorted.{IsNonDecreasingBy};
 ghost use Rattle.std.specs.Prelude.{◌≡◌, ◌-◌, ◌^◌, ℕ, ◌<◌, [], IfOk, IfSome, ltb, slice_get, true};
 ghost use Rattle.tm_shapes.specs.Accepts.{accepts};
+ghost use Rattle.tm_shapes.specs.Verified.{IsAccepted};
 ghost use Rattle.tm_syntax.specs.Entries.{entries, entry_number, name_count};
 ghost use Rattle.tm_syntax.specs.Loops.{loop_places, loops_before};
 
@@ -170,6 +171,13 @@ impl Verified {
             loops,
             macros,
         })
+    }
+
+    /// It is accepted; this takes no step.
+    pub fn accepted(&self)
+        ensures { IsAccepted self.now }
+    {
+        let _form = &self.form;
     }
 
     /// The instructions.
