@@ -3,3 +3,4 @@ pub mod Comes
 pub mod Fine
 pub mod Effects
 pub mod Never
+pub mod Ends

@@ -1,10 +1,13 @@
 //! Proofs: streams that no compiler wrote. What stands at each place of a stream, whatever ran before it, is its shape; a stream with shapes
-//! is never stuck, and so none that is accepted is. The functions here are laws: they run nothing.
+//! is never stuck, and so none that is accepted is. Whatever the streams are, a fault in which a run of them ends arises as one of a render
+//! does, and a run that is done has closed its captures. The functions here are laws: they run nothing.
 #![tactic(auto)]
 
-ghost use Rattle.std.specs.Prelude.{◌≡◌, ℕ, List, [], Bool, true};
+ghost use Rattle.std.specs.Prelude.{◌≡◌, ℕ, List, [], length, Bool, true};
+ghost use Rattle.tm_values.specs.Val.{Val};
+ghost use Rattle.tm_values.specs.declared.error.ErrorKind.{ErrorKind};
 ghost use Rattle.tm_meaning.specs.Calls.{Callee};
-ghost use Rattle.tm_meaning.specs.Machine.{Capture, Program, Stuck, base_of};
+ghost use Rattle.tm_meaning.specs.Machine.{Capture, Program, Finished, Failed, Stuck, base_of};
 ghost use Rattle.tm_meaning.specs.Steps.{Final, final, Leads, begins};
 ghost use Rattle.tm_meaning.specs.World.{World};
 ghost use Rattle.tm_meaning.specs.declared.stream.StreamId.{StreamId};
@@ -13,6 +16,7 @@ ghost use Rattle.tm_shapes.specs.Placed.{is_placed};
 ghost use Rattle.tm_shapes.specs.Shaped.{IsShaped};
 ghost use Rattle.tm_shapes.specs.Shapes.{Shapes};
 ghost use Rattle.tm_shapes.specs.declared.kind.Form.{Form};
+ghost use Rattle.tm_simulation.specs.Chains.{Arises};
 ghost use Rattle.tm_safety.specs.Fits.{AllEnter, ids_of};
 ghost use Rattle.tm_safety.specs.Runs.{stream_of, EndsIn};
 
@@ -43,4 +47,24 @@ pub fn accepted_streams_are_never_stuck()
         w.stream ≡ stream_of k → w.loops ≡ [] →
         let f = base_of heard captures w in
         Leads p f told (begins p f k captures w) (final got (Stuck left)) → ⊥ }
+{}
+
+/// The chain of a fault in which a run of streams ends arises in it: what ends it is a kind that
+/// renders raise, or a chain that an object of the caller states, and before that stand kinds that
+/// wrap.
+pub fn a_fault_of_streams_arises()
+    ensures { (p : Program) (k : Callee) (heard : Bool) (captures : List Capture)
+        (told got : List ℕ) (w left : World) (chain : List ErrorKind) →
+        let f = base_of heard captures w in
+        Leads p f told (begins p f k captures w) (final got (Failed chain left)) →
+        Arises p.host chain }
+{}
+
+/// A run that is done has closed all captures that it opened.
+pub fn a_run_closes_its_captures()
+    ensures { (p : Program) (k : Callee) (heard : Bool) (captures new : List Capture)
+        (told got : List ℕ) (w left : World) (vs : List Val) →
+        let f = base_of heard captures w in
+        Leads p f told (begins p f k captures w) (final got (Finished vs new left)) →
+        length new ≡ length captures }
 {}

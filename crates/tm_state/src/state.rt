@@ -506,6 +506,13 @@ impl StateData {
         self.context.top_mark().is_some()
     }
 
+    /// Forgets the records of all loops: the values of loops are of none then.
+    pub fn forget_loops(&mut self)
+        ensures { self.new ≡ record self.old { loops = [] } }
+    {
+        self.loops.clear();
+    }
+
     /// Leaves the innermost scope.
     pub fn pop_scope(&mut self)
         ensures { self.new ≡ pop self.old }

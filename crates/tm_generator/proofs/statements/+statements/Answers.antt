@@ -1,9 +1,12 @@
-use Rattle.std.proofs.Common.{◌≡◌, ◌∙◌, ap, refl}
+use Rattle.std.proofs.Common.{◌≡◌, ◌∙◌, ap, refl, subst, sym, true}
 use Rattle.std.proofs.lemmas.List.{drop_all}
 use Rattle.std.proofs.lemmas.Result.{on_ok_weaker}
+use Rattle.tm_syntax.specs.Blocks.{body_of, statements as of_statements}
 use Rattle.tm_syntax.specs.CacheNumbers.{numbered}
 use Rattle.tm_syntax.specs.Code.{stream_code}
 use Rattle.tm_syntax.specs.declared.tree.Stmt.TheBlock.{hidden-the_row-Stmt-0 as statements}
+use Rattle.tm_shapes.specs.Accepts.{accepts}
+use Rattle.tm_shapes.specs.declared.kind.Form.TheVariants.{Template}
 use Rattle.tm_generator.proofs.PutExpressions.{next}
 use Rattle.tm_generator.proofs.PutStatements.{more-statements, no_more-statements, made-stream, else-blocks, for-else-blocks, block-blocks}
 use Rattle.tm_generator.proofs.Spreading.{if_ok_weaker}
@@ -58,6 +61,14 @@ push_statements-returns-clause-code t c =
 pub push_statements-returns-clause-blocks : goal.push_statements-returns-clause-blocks
 push_statements-returns-clause-blocks t c = no_more-blocks _ _ _
     (drop_all c.loop-statement.statement-index c.args.body.now c.loop-statement-test.false) c.loop-statement.invariant.2
+
+pub stream-new-requires-3 : goal.stream-new-requires-3
+stream-new-requires-3 t c =
+    let same = c.in_ok-number_caches.ensures ∙ ap numbered (c.finish-instructions.ensures
+    ∙ made-stream c.new.result _ c.push_statements.new.stream c.args.body.now refl (ap (λ b. b.code) c.new.ensures)
+    (ap (λ b. b.outs) c.new.ensures) (ap (λ b. b.exits) c.new.ensures) c.new-2.ensures c.in_ok-push_statements.ensures.code) in
+    subst (λ code. accepts Template code ≡ true) (sym same)
+    (c.the_code_of_trees_is_accepted.ensures (of_statements (body_of (statements c.args.body.now))))
 
 pub stream-returns-clause-code : goal.stream-returns-clause-code
 stream-returns-clause-code t c =
