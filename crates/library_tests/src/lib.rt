@@ -4,6 +4,8 @@
 #[cfg(test)]
 mod calls;
 #[cfg(test)]
+mod host_streams;
+#[cfg(test)]
 mod library;
 #[cfg(test)]
 mod library_parts;

@@ -20,7 +20,7 @@ use std::rc::RcStr;
 use template_machine::*;
 // example ends here
 
-use crate::library_parts::compiles;
+use crate::library_parts::{compiles, runs_streams};
 use std::test::Fail;
 
 // example begins here
@@ -68,7 +68,7 @@ fn tells_values(alloc: Global) -> Result<bool, Error> {
     )
 }
 /// A map of one name.
-fn named(alloc: Global, name: &str, value: Value) -> Result<Value, Error> {
+pub(crate) fn named(alloc: Global, name: &str, value: Value) -> Result<Value, Error> {
     let mut map = ValueMap::new(alloc);
     map.insert(Value::text(alloc, name)?, value)?;
     Value::from_map(alloc, map)
@@ -536,6 +536,7 @@ fn settings_serve(rt: HostRuntime) -> Result<(), Fail> {
     let mut environment = Environment::new(alloc)?;
     assert!(rt; writes_hello(alloc, &environment)?);
     assert!(rt; compiles(alloc, &environment)?);
+    assert!(rt; runs_streams(alloc, &environment)?);
     assert!(rt; follows_settings(&mut environment)?);
     assert!(rt; has_nothing(&Environment::empty(alloc)));
     Ok(())

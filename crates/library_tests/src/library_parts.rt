@@ -1,7 +1,8 @@
 //! The last examples of docs/LIBRARY.md: captures, writers, trees and code. examples/check.sh compares both.
 
-use crate::library::{OwnRules, is_fault};
+use crate::library::{OwnRules, is_fault, named};
 use std::alloc::Global;
+use std::collections::BTreeMap;
 use std::rc::RcStr;
 use std::test::Fail;
 use template_machine::*;
@@ -76,6 +77,32 @@ pub(crate) fn compiles<P: Parties>(
             && text.as_str() == "&lt;"
             && by_name == AutoEscape::None,
     )
+}
+
+/// A greeting of a name, as a stream.
+fn greeting(alloc: Global) -> Result<Vec<Instruction>, Error> {
+    let mut stream = Vec::new(alloc);
+    stream.push(Instruction::LoadConst(Value::text(alloc, "Hello ")?))?;
+    stream.push(Instruction::Emit)?;
+    stream.push(Instruction::Lookup(Name::new(alloc, "name")?))?;
+    stream.push(Instruction::Emit)?;
+    Ok(stream)
+}
+
+pub(crate) fn runs_streams<P: Parties>(
+    alloc: Global,
+    environment: &EnvironmentOf<'_, P>,
+) -> Result<bool, Error> {
+    let root = verify(alloc, greeting(alloc)?, Form::Template)?;
+    let blocks = BTreeMap::new(alloc);
+    let compiled = CompiledTemplate::from_streams(alloc, "hello", root, blocks, AutoEscape::None)?;
+    let template = environment.template_from_compiled(compiled)?;
+    let context = named(alloc, "name", Value::text(alloc, "World")?)?;
+    let text = template.render(&mut StateIds::new(), context)?;
+    let mut stuck = Vec::new(alloc);
+    stuck.push(Instruction::Emit)?;
+    let is_refused = is_fault(verify(alloc, stuck, Form::Template), ErrorKind::BadStream);
+    Ok(is_refused && text.as_str() == "Hello World")
 }
 // example ends here
 

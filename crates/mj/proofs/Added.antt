@@ -7,9 +7,11 @@ use Rattle.tm_delimiters.specs.Syntax.{Syntax}
 use Rattle.tm_syntax.specs.Named.{Named, find, put}
 use Rattle.tm_syntax.proofs.Named.{find_put, find_put_other, same_or_not}
 use Rattle.tm_compiler.specs.Spells.{SpellsNone}
-use Rattle.tm_templates.specs.Templates.{Compiled, IsTemplate, IsRefused}
+use Rattle.tm_templates.specs.Templates.{Compiled, IsOfTree, IsTemplate, IsRefused}
+use Rattle.tm_templates.proofs.Accepted.{put_all}
+use Rattle.tm_templates.proofs.Streams.{of_source}
 use Rattle.tm_tables.specs.Stated.{StatedObjects}
-use Rattle.template_machine.specs.Environment.{EnvironmentValue, IsTemplateOf}
+use Rattle.template_machine.specs.Environment.{AreOfTrees, EnvironmentValue, IsTemplateOf}
 use Rattle.mj_words.specs.CommandLine.{Text}
 use Rattle.mj.specs.Program.{AreAdded, BeginWith, SpellNone}
 use Rattle.mj.proofs.Lists.{any_first, any_later}
@@ -32,6 +34,14 @@ module _ (syntax : Syntax) (escapes : Text → AutoEscape) where
   first_there x [] before after first added = absurd first
   first_there x (s ∷ more) before after first (t, is, added) =
       stays_there x more (put s.0 t before) after t added (ap (λ z. find z (put s.0 t before)) (sym first) ∙ find_put s.0 t before)
+
+  -- All that was added is of trees.
+  pub added_of_trees : (sources : List (Text × Text)) (before after : Named Compiled) → AreAdded syntax escapes sources before after →
+      AreOfTrees before → AreOfTrees after
+  added_of_trees [] before after added all = subst AreOfTrees added all
+  added_of_trees (s ∷ more) before after (t, is, added) all =
+      added_of_trees more (put s.0 t before) after added
+      (put_all IsOfTree s.0 t before (of_source syntax (escapes s.0) s.0 s.1 t is) all)
 
   -- The first of the sources is found, as it was put.
   pub is_found : {X : Type 0} (x : Text) (sources : List (Text × Text)) (before after found : Named Compiled) → BeginWith x sources →

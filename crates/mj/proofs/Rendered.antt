@@ -1,6 +1,6 @@
 -- What the program renders is what the words and the sources mean.
 use Rattle.std.proofs.Common.{◌≡◌, ℕ, inl, inr, List, [], ◌∷◌, Option, None, Some, Result, Ok, Err, min, ◌<◌}
-use Rattle.std.proofs.Common.{arith, refl, ap, subst, ◌∙◌}
+use Rattle.std.proofs.Common.{arith, refl, ap, subst, sym, ◌∙◌}
 use Rattle.std.specs.Io.KnownBytes.{Keeps, Appends}
 use Rattle.tm_values.specs.Val.{Val}
 use Rattle.tm_meaning.specs.Memory.{is_want_of_memory}
@@ -18,11 +18,13 @@ use Rattle.tm_templates.specs.Defaults.{escape_by_name, escape_of}
 use Rattle.tm_templates.specs.declared.defaults.EscapeSetting.{EscapeSetting}
 use Rattle.tm_templates.specs.declared.defaults.EscapeSetting.TheVariants as setting
 use Rattle.tm_tables.specs.Stated.{Join, Table, StatedObjects, language_functions, stated_of}
-use Rattle.tm_templates.specs.Templates.{Compiled}
+use Rattle.tm_templates.specs.Templates.{Compiled, IsOfTree}
+use Rattle.tm_templates.proofs.Accepted.{find_all}
 use Rattle.tm_meaning.specs.declared.stream.TemplateId.{TemplateId}
 use Rattle.tm_meaning.specs.declared.stream.TemplateId.TheVariants.{Entry}
 use Rattle.template_machine.specs.Environment.{EnvironmentValue, TemplateValue, IsEntryOf, expected_environment}
-use Rattle.template_machine.specs.Environment.{new_environment, greatest_limit}
+use Rattle.template_machine.specs.Environment.{AreOfTrees, new_environment, greatest_limit}
+use Rattle.mj.proofs.Added.{added_of_trees}
 use Rattle.template_machine.specs.Renders.{CapturedValue, StateValue, answer_by, greatest, meaning, Rendered, as_meant, by_writer}
 use Rattle.template_machine.specs.Renders.{by_memory}
 use Rattle.mj_words.specs.CommandLine.{Text, ArgumentsValue}
@@ -97,12 +99,20 @@ module _ {C M F R J : Type 0} where
       let objects : found.environment.objects ≡ first_objects =
       ap (λ (e : EnvironmentValue (Parts C M F R J)). e.objects) (same ∙ whole) in
       let escaped : gs.escapes ≡ escape_by_name =
-      ap (λ (hs : StatedObjects). hs.escapes) (none_set (ap (λ (e : EnvironmentValue (Parts C M F R J)). e.objects) start)) in (
+      ap (λ (hs : StatedObjects). hs.escapes) (none_set (ap (λ (e : EnvironmentValue (Parts C M F R J)). e.objects) start)) in
+      let added_all : AreAdded default_syntax escape_by_name i.sources [] templates =
+      subst (λ (e : EnvironmentValue (Parts C M F R J)). AreAdded e.syntax escape_by_name i.sources e.templates templates) start
+      (subst (λ (escapes : Text → AutoEscape). AreAdded set.syntax escapes i.sources set.templates templates) escaped all) in
+      let found_there : find a.file templates ≡ Some found.template =
+      subst (λ (e : EnvironmentValue (Parts C M F R J)). find a.file e.templates ≡ Some found.template) whole there in
+      let of_trees : AreOfTrees templates = added_of_trees default_syntax escape_by_name i.sources [] templates added_all tt in
+      let templates_are : found.environment.templates ≡ templates =
+      ap (λ (e : EnvironmentValue (Parts C M F R J)). e.templates) (same ∙ whole) in (
+        (find_all IsOfTree a.file templates found.template of_trees found_there, subst AreOfTrees (sym templates_are) of_trees),
         templates,
         found.template,
-        subst (λ (e : EnvironmentValue (Parts C M F R J)). AreAdded e.syntax escape_by_name i.sources e.templates templates) start
-            (subst (λ (escapes : Text → AutoEscape). AreAdded set.syntax escapes i.sources set.templates templates) escaped all),
-        subst (λ (e : EnvironmentValue (Parts C M F R J)). find a.file e.templates ≡ Some found.template) whole there,
+        added_all,
+        found_there,
         ap (λ (v : TemplateValue (Parts C M F R J)). meaning (λ _. fs) v 0 context) alone
             ∙ (ap (λ v. meaning (λ _. fs) (among a templates found.template) 0 v) given
             ∙ means_same {O = Parts C M F R J} {P = StatedObjects} fs own_objects first_objects own_objects a.file

@@ -21,7 +21,7 @@ use Rattle.tm_output.specs.Counts.{Tally, saturating_increment, AppendsBeginning
 use Rattle.tm_templates.specs.Defaults.{escape_by_name}
 use Rattle.tm_templates.specs.Templates.{Compiled, IsTemplate}
 use Rattle.tm_meaning.specs.declared.stream.TemplateId.TheVariants.{Entry}
-use Rattle.template_machine.specs.Environment.{TemplateValue, expected_environment, greatest_limit}
+use Rattle.template_machine.specs.Environment.{IsOfTrees, TemplateValue, expected_environment, greatest_limit}
 use Rattle.tm_tables.specs.Stated.{StatedObjects, language_alone}
 use Rattle.template_machine.specs.Renders.{meaning}
 use Rattle.mj_words.specs.CommandLine.{Text, ArgumentsValue, asked, asked_of, is_input}
@@ -97,9 +97,9 @@ Means input outcome = (templates : Named Compiled) × (t : Compiled)
     × (find input.asked.file templates ≡ Some t)
     × (outcome ≡ meaning_of input templates t)
 
--- A template over a context means, as the first state, what the input means.
+-- A template, which is of trees, over a context means, as the first state, what the input means.
 abbrev pub IsMeant : {P : Type 0} → (P → StatedObjects) → TemplateValue P → Val → Input → Type 0
-IsMeant stated t context input = Means input (meaning stated t 0 context)
+IsMeant stated t context input = IsOfTrees t × Means input (meaning stated t 0 context)
 
 -- What may be read of a file later may be read of it before.
 abbrev pub FilesStay : {T : Type 0} → (T → Text → Option Text → Type 0) → T → T → Type 0

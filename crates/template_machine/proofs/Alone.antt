@@ -7,15 +7,13 @@ use Rattle.std.specs.List.Sorted.{IsStrictlySortedBy}
 use Rattle.std.specs.Map.{keys_of}
 use Rattle.std.specs.Ordering.{ordering_reverse}
 use Rattle.std.specs.declared.cmp.Ordering.TheVariants.{Greater}
-use Rattle.tm_syntax.specs.Blocks.{FoundBlock}
-use Rattle.tm_syntax.specs.Named.{Named, by_name, find, name_cmp, put, put_each}
+use Rattle.tm_shapes.specs.declared.code.BlockCode.{BlockCode}
+use Rattle.tm_syntax.specs.Named.{Named, find, name_cmp, put}
 use Rattle.tm_meaning.specs.Calls.{own_blocks}
 use Rattle.tm_meaning.specs.Inheritance.{after_all}
-use Rattle.tm_meaning.specs.Tree.{carded}
 use Rattle.tm_meaning.specs.declared.stream.TemplateId.{TemplateId}
 use Rattle.tm_tables.specs.Lists.{with_block, with_each}
-use Rattle.tm_tables.specs.Places.{AreOrdered}
-use Rattle.tm_tables.proofs.Places.{ordered-none, ordered-put}
+use Rattle.tm_templates.specs.Templates.{carded}
 use Rattle.tm_templates.proofs.Named.{turned}
 
 -- names that were turned into something else are the same names
@@ -23,17 +21,9 @@ pub keys-turned : {A B : Type 0} (f : A → B) (ps : Named A) → keys_of (turne
 keys-turned f [] = refl
 keys-turned f (p ∷ ps) = ap (λ ks. p.0 ∷ ks) (keys-turned f ps)
 
-pub keys-carded : (bs : Named FoundBlock) → keys_of (map carded bs) ≡ keys_of bs
+pub keys-carded : (bs : Named BlockCode) → keys_of (map carded bs) ≡ keys_of bs
 keys-carded [] = refl
 keys-carded (b ∷ bs) = ap (λ ks. b.0 ∷ ks) (keys-carded bs)
-
--- what stands by its name is in order
-put_each-ordered : {A : Type 0} (ps qs : Named A) → AreOrdered qs → AreOrdered (put_each ps qs)
-put_each-ordered [] qs o = o
-put_each-ordered (p ∷ ps) qs o = put_each-ordered ps (put p.0 p.1 qs) (ordered-put p.0 p.1 qs o)
-
-by_name-ordered : {A : Type 0} (ps : Named A) → AreOrdered (by_name ps)
-by_name-ordered {A = A} ps = put_each-ordered ps [] (ordered-none A)
 
 -- the other way round
 above : (x y : List ℕ) → name_cmp y x ≡ Less → name_cmp x y ≡ Greater
@@ -83,9 +73,9 @@ module _ (t : TemplateId) where
       ∙ each-above xs (ys ++ x ∷ []) o.1 (each_below x ys xs below.1 o.0)
       ∙ ap each_one (append_assoc ys (x ∷ []) xs)
 
-  own-carded : (bs : Named FoundBlock) → each_one (keys_of bs) ≡ own_blocks t (map carded bs)
+  own-carded : (bs : Named BlockCode) → each_one (keys_of bs) ≡ own_blocks t (map carded bs)
   own-carded [] = refl
   own-carded (b ∷ bs) = ap (λ ls. (b.0, one) ∷ ls) (own-carded bs)
 
-  pub each_alone : (bs : Named FoundBlock) → with_each t (keys_of (by_name bs)) [] ≡ own_blocks t (map carded (by_name bs))
-  each_alone bs = each-above (keys_of (by_name bs)) [] (by_name-ordered bs) (none_below (keys_of (by_name bs))) ∙ own-carded (by_name bs)
+  pub each_alone : (bs : Named BlockCode) → IsStrictlySortedBy name_cmp (keys_of bs) → with_each t (keys_of bs) [] ≡ own_blocks t (map carded bs)
+  each_alone bs order = each-above (keys_of bs) [] order (none_below (keys_of bs)) ∙ own-carded bs

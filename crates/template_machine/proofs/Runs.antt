@@ -15,7 +15,12 @@ use Rattle.tm_meaning.specs.Runs.{left_of}
 use Rattle.tm_vm.specs.Answers.{program, HaltsAs, ReachesEnd}
 use Rattle.tm_vm.specs.Nested.{WroteBeginning}
 use Rattle.tm_meaning.specs.declared.stream.TemplateId.TheVariants.{Own}
-use Rattle.template_machine.specs.Environment.{IsMadeIn, EnvironmentValue, TemplateValue, host_of, trees, code}
+use Rattle.tm_meaning.specs.Calls.{whole}
+use Rattle.tm_meaning.specs.Steps.{final}
+use Rattle.tm_safety.proofs.Ends.{run_ends_well}
+use Rattle.tm_templates.proofs.Streams.{of_source}
+use Rattle.template_machine.specs.Environment.{AreOfTrees, IsMadeIn, IsOfTrees, EnvironmentValue, TemplateValue, host_of, trees, code}
+use Rattle.template_machine.proofs.Meant.{trees_code}
 use Rattle.template_machine.specs.Renders.{answer_of, meaning, meaning_from, IsFresh, Ran, RenderedText, RenderedSource, source_rendered, IsUnnumbered}
 use Rattle.template_machine.proofs.Answered.{run_answers, run_done, run_halted, run_leaves}
 
@@ -28,50 +33,59 @@ module _ {O : Type 0} (stated : O → StatedObjects) (t : TemplateValue O) (capt
   abbrev m : Outcome
   m = meaning_from stated t w
 
-  pub over_done : (us : List Val) (kept : List Capture) (put : World) → new ≡ kept → left ≡ put →
+  pub over_done : IsOfTrees t → (us : List Val) (kept : List Capture) (put : World) → new ≡ kept → left ≡ put →
       ReachesEnd p (base_of true config.captures config.world) config told now (Finished us new left) → count ≡ failures →
       Ran m (Ok kept) put captures told now failures count
-  over_done us kept put is there comes counted =
+  over_done of us kept put is there comes counted =
       subst (λ ks. Ran m (Ok ks) put captures told now failures count) is
       (subst (λ x. Ran m (Ok new) x captures told now failures count) there
-      (run_done p (trees t) (λ s. refl) captures new w left told now failures count us fresh
+      (run_done p (trees t) (trees_code t of) captures new w left told now failures count us fresh
       (subst (λ (c : Config). ReachesEnd p (base_of true c.captures c.world) c told now (Finished us new left)) begins comes) counted))
 
-  pub over_leaves : (us : List Val) →
+  pub over_leaves : IsOfTrees t → (us : List Val) →
       ReachesEnd p (base_of true config.captures config.world) config told now (Finished us new left) → us ≡ left_of m
-  over_leaves us comes =
-      run_leaves p (trees t) (λ s. refl) captures new w left told now failures count us fresh
+  over_leaves of us comes =
+      run_leaves p (trees t) (trees_code t of) captures new w left told now failures count us fresh
       (subst (λ (c : Config). ReachesEnd p (base_of true c.captures c.world) c told now (Finished us new left)) begins comes)
 
-  pub over_answers : (us : List Val) →
+  pub over_answers : IsOfTrees t → (us : List Val) →
       ReachesEnd p (base_of true config.captures config.world) config told now (Finished us new left) → answer_of m ≡ Ok left
-  over_answers us comes =
-      run_answers p (trees t) (λ s. refl) captures new w left told now failures count us fresh
+  over_answers of us comes =
+      run_answers p (trees t) (trees_code t of) captures new w left told now failures count us fresh
       (subst (λ (c : Config). ReachesEnd p (base_of true c.captures c.world) c told now (Finished us new left)) begins comes)
 
-  pub over_halted : (why : Halt) (put : World) → left ≡ put →
+  pub over_halted : IsOfTrees t → (why : Halt) (put : World) → left ≡ put →
       HaltsAs why left (ReachesEnd p (base_of true config.captures config.world) config told now) →
       WroteBeginning p (base_of true config.captures config.world) (step p (base_of true config.captures config.world) config) told now →
       count ≡ failures_after {A = Unit {0}} (Err why) failures → Ran m (Err why) put captures told now failures count
-  over_halted why put there ends begun counted =
+  over_halted of why put there ends begun counted =
       subst (λ x. Ran m (Err why) x captures told now failures count) there
-      (run_halted p (trees t) (λ s. refl) captures new w left told now failures count why fresh
+      (run_halted p (trees t) (trees_code t of) captures new w left told now failures count why fresh
       (subst (λ (c : Config). HaltsAs why left (ReachesEnd p (base_of true c.captures c.world) c told now)) begins ends)
       (subst (λ (c : Config). WroteBeginning p (base_of true c.captures c.world) (step p (base_of true c.captures c.world) c) told now)
       begins begun) counted)
+
+  -- it closed the captures that it opened
+  pub over_closed : (us : List Val) →
+      ReachesEnd p (base_of true config.captures config.world) config told now (Finished us new left) → length new ≡ length captures
+  over_closed us comes =
+      let (text, appended, leads) : ReachesEnd p (base_of true captures w) (running (run_from w.stream (length captures)) captures w) told now
+      (Finished us new left) =
+      subst (λ (c : Config). ReachesEnd p (base_of true c.captures c.world) c told now (Finished us new left)) begins comes in
+      run_ends_well p (whole w.stream) true captures [] w (final text (Finished us new left)) leads
 
 -- a source that was rendered
 pub source_done : {O : Type 0} (stated : O → StatedObjects) (e : EnvironmentValue O) (t : TemplateValue O)
     (name source : List ℕ) (old new : ℕ) (context : Val)
     (result : Result (String Global) (List ErrorKind)) →
-    IsMadeIn stated e name source t → RenderedText (meaning stated t old context) result → new ≡ old + 1 →
+    IsMadeIn stated e name source t → (IsOfTrees t → RenderedText (meaning stated t old context) result) → new ≡ old + 1 →
     RenderedSource stated e name source old new context result
 source_done stated e t name source old new context result made text counted =
-    source_rendered t.template made.2
+    source_rendered t.template made.2 (λ others.
     (subst (λ e. RenderedText (meaning stated (record { environment = e; id = Own; template = t.template }) old context) result)
     made.0
     (subst (λ id. RenderedText (meaning stated (record { environment = t.environment; id = id; template = t.template }) old context)
-    result) made.1 text)) counted
+    result) made.1 (text (of_source e.syntax ((stated e.objects).escapes name) name source t.template made.2, subst (λ e. AreOfTrees e.templates) (sym made.0) others))))) counted
 
 -- one that spells a template, where the counter is full
 pub source_full : {O : Type 0} (stated : O → StatedObjects) (e : EnvironmentValue O) (t : TemplateValue O) (name source : List ℕ)

@@ -29,7 +29,9 @@ use Rattle.tm_state.specs.declared.nested.NestedRun.{NestedRun}
 use Rattle.tm_tables.specs.Stated.{StatedObjects}
 use Rattle.tm_vm.specs.Answers.{ComesTo, HaltsAs, NoFewer, ReachesEnd, program}
 use Rattle.tm_vm.proofs.Loop.{left_below, undone_is}
-use Rattle.template_machine.specs.Environment.{TemplateValue, code, host_of, trees}
+use Rattle.tm_safety.proofs.Ends.{run_ends_well}
+use Rattle.template_machine.specs.Environment.{IsOfTrees, TemplateValue, code, host_of, trees}
+use Rattle.template_machine.proofs.Meant.{trees_code}
 use Rattle.template_machine.specs.Renders.{answer_by, answer_of, called_value, callee_run, IsMacroCall, IsCapturedRun, RanApart}
 
 -- the captures of a run whose text is a value, and those after it
@@ -77,7 +79,8 @@ not_stuck next t out left x same = let ends : Stuck left ≡ Finished [] (taking
 not_stuck (fault why) t out left x same = let ends : Stuck left ≡ Failed why x = ap (λ (o : Final). o.end) same in absurd (cc)
 
 -- ---------------------------------------------------------------- a run in a capture
-module _ {O : Type 0} (stated : O → StatedObjects) (t : TemplateValue O) (k : Callee) (w left : World) (told now : Option (List ℕ)) where
+module _ {O : Type 0} (stated : O → StatedObjects) (t : TemplateValue O) (of : IsOfTrees t) (k : Callee) (w left : World)
+    (told now : Option (List ℕ)) where
   abbrev p : Program
   p = program (host_of stated t) (code t)
 
@@ -89,7 +92,7 @@ module _ {O : Type 0} (stated : O → StatedObjects) (t : TemplateValue O) (k : 
   reached =
       let e : suc p.host.limit ≡ p.host.limit + 1 = omega arith in
       subst (λ n. RunsTo p k true one [] w (final_in one [] (nests_of p.host (trees t) n k true [] w))) e
-      (nested_comes_to_meaning (trees t) p p.host.limit k true one [] w (λ s. refl) (omega arith))
+      (nested_comes_to_meaning (trees t) p p.host.limit k true one [] w (trees_code t of) (omega arith))
 
   abbrev Meant : End → Type 0
   Meant e = ComesTo p (base_of true one w) (begins p (base_of true one w) k one w) told now e
@@ -127,19 +130,19 @@ module _ {O : Type 0} (stated : O → StatedObjects) (t r : TemplateValue O) (sa
       sym (ap (λ x. begun p base x captures w) there) in
       of_first e (subst (λ n. ComesTo p base n told now e) first (subst (λ c. Comes r c e) at comes))
 
-  pub over_done : (config : Config) → config ≡ running config.run captures w → first_run (of r) k (length captures) ≡ Some config.run →
+  pub over_done : IsOfTrees t → (config : Config) → config ≡ running config.run captures w → first_run (of r) k (length captures) ≡ Some config.run →
       (us : List Val) (new kept : List Capture) (put : World) → new ≡ kept → left ≡ put → Comes r config (Finished us new left) →
       RanApart (Ok kept) (callee_run stated t k w) put
-  over_done config at first us new kept put is there comes =
+  over_done by_trees config at first us new kept put is there comes =
       subst (λ ks. RanApart (Ok ks) (callee_run stated t k w) put) is
       (subst (λ x. RanApart (Ok new) (callee_run stated t k w) x) there
-      (run_done stated t k w left told now us new (of_template config at first (Finished us new left) comes)))
+      (run_done stated t by_trees k w left told now us new (of_template config at first (Finished us new left) comes)))
 
-  by_halt : (why : Halt) → 0 ≡ failures_after {A = Unit {0}} (Err why) 0 → HaltsAs why left (Starts t one) →
+  by_halt : IsOfTrees t → (why : Halt) → 0 ≡ failures_after {A = Unit {0}} (Err why) 0 → HaltsAs why left (Starts t one) →
       RanApart (Err why) (callee_run stated t k w) left
-  by_halt halt.Writer counted ends = absurd (cc counted)
-  by_halt halt.Stuck counted ends = run_stuck stated t k w left told now ends
-  by_halt (halt.Fault chain) counted ends = λ m. run_failed stated t k w left told now chain (ends m)
+  by_halt by_trees halt.Writer counted ends = absurd (cc counted)
+  by_halt by_trees halt.Stuck counted ends = run_stuck stated t by_trees k w left told now ends
+  by_halt by_trees (halt.Fault chain) counted ends = λ m. run_failed stated t by_trees k w left told now chain (ends m)
 
   halted_there : (config : Config) → config ≡ running config.run captures w → first_run (of r) k (length captures) ≡ Some config.run →
       (why : Halt) → HaltsAs why left (Comes r config) → HaltsAs why left (Starts t one)
@@ -147,22 +150,30 @@ module _ {O : Type 0} (stated : O → StatedObjects) (t r : TemplateValue O) (sa
   halted_there config at first halt.Stuck ends = of_template config at first (Stuck left) ends
   halted_there config at first (halt.Fault chain) ends = λ own. of_template config at first (Failed chain left) (ends own)
 
-  pub over_halted : (config : Config) → config ≡ running config.run captures w → first_run (of r) k (length captures) ≡ Some config.run →
+  pub over_halted : IsOfTrees t → (config : Config) → config ≡ running config.run captures w → first_run (of r) k (length captures) ≡ Some config.run →
       (why : Halt) (put : World) → left ≡ put → 0 ≡ failures_after {A = Unit {0}} (Err why) 0 →
       HaltsAs why left (Comes r config) → RanApart (Err why) (callee_run stated t k w) put
-  over_halted config at first why put there counted ends =
-      subst (λ x. RanApart (Err why) (callee_run stated t k w) x) there (by_halt why counted (halted_there config at first why ends))
+  over_halted by_trees config at first why put there counted ends =
+      subst (λ x. RanApart (Err why) (callee_run stated t k w) x) there (by_halt by_trees why counted (halted_there config at first why ends))
+
+  -- it closed the captures that it opened
+  pub over_closed : (config : Config) → config ≡ running config.run captures w → first_run (of r) k (length captures) ≡ Some config.run →
+      (us : List Val) (new : List Capture) → Comes r config (Finished us new left) → length new ≡ 1
+  over_closed config at first us new comes = closed_by us new (of_template config at first (Finished us new left) comes)
+    where
+      closed_by : (us : List Val) (new : List Capture) → Starts t one (Finished us new left) → length new ≡ 1
+      closed_by us new (text, appended, leads) = run_ends_well (of t) k true one [] w (final text (Finished us new left)) leads
 
 -- one that there isn't
 pub over_none : {O : Type 0} (stated : O → StatedObjects) (t r : TemplateValue O) (same : r ≡ t) (k : Callee) (w put : World)
-    (captures : List Capture) → captures ≡ one → first_run (program (host_of stated r) (code r)) k (length captures) ≡ None →
+    (captures : List Capture) → IsOfTrees t → captures ≡ one → first_run (program (host_of stated r) (code r)) k (length captures) ≡ None →
     w ≡ put → RanApart (Err (halt.Fault (InvalidOperation ∷ []))) (callee_run stated t k w) put
-over_none stated t r same k w put captures fresh none there =
+over_none stated t r same k w put captures by_trees fresh none there =
     let p = program (host_of stated r) (code r) in
     let base = base_of true captures w in
     let refused : begins p base k captures w ≡ Over (Failed (InvalidOperation ∷ []) w) = ap (λ x. begun p base x captures w) none in
     subst (λ x. RanApart (Err (halt.Fault (InvalidOperation ∷ []))) (callee_run stated t k w) x) there
-    (λ m. run_failed stated t k w w None None (InvalidOperation ∷ [])
+    (λ m. run_failed stated t by_trees k w w None None (InvalidOperation ∷ [])
     (of_first stated t r same k w w captures fresh None None (Failed (InvalidOperation ∷ []) w)
     ([], appends_nothing None, over refused refl)))
 

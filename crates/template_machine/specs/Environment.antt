@@ -7,16 +7,16 @@ use Rattle.tm_values.specs.declared.undefined.UndefinedBehavior.{UndefinedBehavi
 use Rattle.tm_values.specs.declared.undefined.UndefinedBehavior.TheVariants.{Lenient}
 use Rattle.tm_syntax.specs.declared.instruction.Instruction.{Instruction}
 use Rattle.tm_syntax.specs.Named.{Named, find, put}
-use Rattle.tm_syntax.specs.Blocks.{code_of}
+use Rattle.std.specs.List.{AllByRecursion}
 use Rattle.tm_delimiters.specs.Syntax.{Syntax, default_syntax}
 use Rattle.tm_meaning.specs.declared.stream.StreamId.{StreamId}
 use Rattle.tm_meaning.specs.declared.stream.TemplateId.{TemplateId}
 use Rattle.tm_meaning.specs.declared.stream.TemplateId.TheVariants.{Own, Entry}
 use Rattle.tm_meaning.specs.World.{Bindings, HostValue, Template, World, name_of, or_is}
-use Rattle.tm_meaning.specs.Tree.{TemplateTree, Trees, template_of, trees_of}
+use Rattle.tm_meaning.specs.Tree.{TemplateTree, Trees, trees_of}
 use Rattle.tm_tables.specs.Language.{language_globals}
 use Rattle.tm_tables.specs.Stated.{Table, StatedObjects, language_functions, with_object, next_number}
-use Rattle.tm_templates.specs.Templates.{Compiled, IsExpression, IsTemplate, empty_template, tree_of}
+use Rattle.tm_templates.specs.Templates.{Compiled, IsExpression, IsOfTree, IsTemplate, empty_template, part_code, told_of, tree_of}
 use Rattle.tm_templates.specs.declared.defaults.EscapeSetting.{EscapeSetting}
 use Rattle.tm_templates.specs.declared.defaults.EscapeSetting.TheVariants as escapes
 
@@ -98,16 +98,13 @@ abbrev pub with_objects : {O : Type 0} → O → EnvironmentValue O → Environm
 with_objects objects e = record e { objects = objects }
 
 -- ---------------------------------------------------------------- what it is to the machine
-abbrev pub trees_in : Named Compiled → Named TemplateTree
-trees_in ts = each (λ (t : List ℕ × Compiled). (t.0, tree_of t.1)) ts
-
 abbrev pub templates_in : Named Compiled → Named Template
-templates_in ts = each (λ (t : List ℕ × Compiled). (t.0, template_of (tree_of t.1))) ts
+templates_in ts = each (λ (t : List ℕ × Compiled). (t.0, told_of t.1)) ts
 
 -- What a template's environment gives, where objects state this.
 abbrev pub host_of : {O : Type 0} → (O → StatedObjects) → TemplateValue O → HostValue
 host_of stated t = record {
-  own = template_of (tree_of t.template);
+  own = told_of t.template;
   templates = templates_in t.environment.templates;
   globals = t.environment.globals;
   functions = (stated t.environment.objects).functions;
@@ -135,17 +132,29 @@ abbrev pub named_template : {O : Type 0} → (O → StatedObjects) → TemplateV
 named_template stated t x w =
     joined_entry t.environment ((stated t.environment.objects).join x (name_of (host_of stated t) w))
 
-abbrev pub trees : {O : Type 0} → TemplateValue O → Trees
-trees t = trees_of (tree_of t.template) (trees_in t.environment.templates)
-
--- the instructions of a stream
-abbrev pub code : {O : Type 0} → TemplateValue O → StreamId → List Instruction
-code t s = code_of (trees t s)
-
 -- the template that is meant: the rendered one, or the environment's of a name, and the rendered one where there is none
 abbrev pub meant : {O : Type 0} → TemplateValue O → TemplateId → Compiled
 meant t Own = t.template
 meant t (Entry x) = or_is (find x t.environment.templates) t.template
+
+-- the instructions of a stream
+abbrev pub code : {O : Type 0} → TemplateValue O → StreamId → List Instruction
+code t s = part_code (meant t s.template) s.block
+
+-- ---------------------------------------------------------------- trees
+-- Each of the templates is that of a tree.
+abbrev pub AreOfTrees : Named Compiled → Type 0
+AreOfTrees ts = AllByRecursion (λ (t : List ℕ × Compiled). IsOfTree t.1) ts
+
+-- So are a template and all of its environment, so what it runs means what trees mean.
+abbrev pub IsOfTrees : {O : Type 0} → TemplateValue O → Type 0
+IsOfTrees t = IsOfTree t.template × AreOfTrees t.environment.templates
+
+abbrev pub trees_in : Named Compiled → Named TemplateTree
+trees_in ts = each (λ (t : List ℕ × Compiled). (t.0, tree_of t.1)) ts
+
+abbrev pub trees : {O : Type 0} → TemplateValue O → Trees
+trees t = trees_of (tree_of t.template) (trees_in t.environment.templates)
 
 -- The expression is what a source is, of the environment.
 abbrev pub IsExpressionIn : {O : Type 0} → EnvironmentValue O → List ℕ → TemplateValue O → Type 0

@@ -28,7 +28,7 @@ use Rattle.tm_output.specs.Counts.{saturating_increment, AppendsBeginning}
 use Rattle.tm_parts.specs.declared.halt.Halt.{Halt}
 use Rattle.tm_parts.specs.declared.halt.Halt.TheVariants as halt
 use Rattle.tm_templates.specs.Templates.{Compiled, IsRefused}
-use Rattle.template_machine.specs.Environment.{EnvironmentValue, TemplateValue, IsTemplateOf, host_of, trees}
+use Rattle.template_machine.specs.Environment.{AreOfTrees, EnvironmentValue, TemplateValue, IsTemplateOf, host_of, trees}
 
 -- a template that is rendered, and the world that it leaves
 pub record StateValue (O : Type 0) : Type 0 where
@@ -131,15 +131,15 @@ pub data RenderedCaptured {O : Type 0} (t : TemplateValue O) (m : Outcome)
   captured_by_memory : IsMemory result → RenderedCaptured t m result
 
 -- How a render of a source ended, whose template has this name: refused, since it spells no template or no memory was found, and no state
--- was numbered; or rendered, as the template that it spells.
+-- was numbered; or rendered, as the template that it spells, where those of the environment are of trees too.
 pub data RenderedSource {O : Type 0} (stated : O → StatedObjects) (e : EnvironmentValue O)
     (name source : List ℕ) (old new : ℕ) (context : Val)
     (result : Result (String Global) (List ErrorKind)) : Type 0 where
   source_refused : (chain : List ErrorKind) → result ≡ Err chain → IsRefused e.syntax source chain → new ≡ old →
       RenderedSource stated e name source old new context result
   source_rendered : (t : Compiled) → IsTemplateOf stated e name source t →
-      RenderedText (meaning stated (record { environment = e; id = Own; template = t }) old context) result → new ≡ old + 1 →
-      RenderedSource stated e name source old new context result
+      (AreOfTrees e.templates → RenderedText (meaning stated (record { environment = e; id = Own; template = t }) old context) result) →
+      new ≡ old + 1 → RenderedSource stated e name source old new context result
 
 -- What is answered to a source where the counter is full, whose template has this name: why it was refused, or InvalidOperation, since no
 -- state can be numbered.

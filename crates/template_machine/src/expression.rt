@@ -2,7 +2,8 @@
 ghost use Rattle.std.specs.BTreeSet.{keys};
 ghost use Rattle.std.specs.Prelude.{◌≡◌, ◌+◌, ◌<◌, [], ◌∷◌, Err, IfOk, IfErr, map as each, string_bytes};
 ghost use Rattle.tm_meaning.specs.declared.stream.TemplateId.TheVariants.{Own};
-ghost use Rattle.tm_syntax.specs.Names.{undeclared_in};
+ghost use Rattle.tm_templates.specs.Templates.{undeclared_by};
+ghost use Rattle.template_machine.specs.Environment.{IsOfTrees};
 ghost use Rattle.template_machine.specs.Renders.{first, greatest, value_meant, Evaluated};
 
 use crate::environment::{BoxedObjects, EnvironmentOf};
@@ -74,7 +75,7 @@ impl<'env, 'source, O: Drop> ExpressionOf<'env, 'source, O> {
     /// asked for. OutOfMemory where there is no memory.
     pub fn undeclared_variables(&self, nested: bool) -> Result<BTreeSet<String>, Error>
         ensures ok { IfOk result (λ names. each string_bytes (keys names)
-            ≡ undeclared_in nested self.now.template.tree) }
+            ≡ undeclared_by nested self.now.template.tree) }
         ensures memory { IfErr result (λ e. e ≡ ErrorKind.OutOfMemory ∷ []) }
     {
         self.compiled
@@ -90,7 +91,7 @@ impl<'env, 'source, O: Parties> ExpressionOf<'env, 'source, O> {
         ensures full { ids.old ≡ greatest →
             (result ≡ Err (ErrorKind.InvalidOperation ∷ [])) × (ids.new ≡ ids.old) }
         ensures next { ids.old < greatest → ids.new ≡ ids.old + 1 }
-        ensures evaluated { ids.old < greatest →
+        ensures evaluated { ids.old < greatest → IsOfTrees self.now →
             Evaluated (value_meant O.stated self.now (first O.stated self.now ids.old context)) result }
     {
         let id = ids.next()?;

@@ -1,7 +1,7 @@
 //! What a render runs under.
-ghost use Rattle.std.specs.Prelude.{◌≡◌, [], ◌∷◌, IfErr, IfOk};
+ghost use Rattle.std.specs.Prelude.{◌≡◌, [], ◌∷◌, IfErr, IfOk, length};
 ghost use Rattle.tm_state.specs.Answers.{KeepsFixed};
-ghost use Rattle.template_machine.specs.Environment.{meant, unknown_template};
+ghost use Rattle.template_machine.specs.Environment.{IsOfTrees, meant, unknown_template};
 ghost use Rattle.template_machine.specs.Renders.{first, meaning_from, value_meant, Evaluated, IsFresh, Ran};
 ghost use Rattle.template_machine.specs.TemplateRef.{entry_id, own_template};
 ghost use Rattle.tm_values.specs.Answer.{OkOrOutOfMemory};
@@ -163,6 +163,7 @@ impl<O: Parties> Rendering<'_, O> {
     {
         let template = self.id()?;
         let own = self.own.compiled();
+        own.ascend();
         let mut state = StateData::new(
             self.allocator(),
             id,
@@ -195,8 +196,10 @@ impl<O: Parties> Rendering<'_, O> {
         writer: &mut W,
     ) -> Result<Captures, Halt>
         requires { IsFresh captures }
-        ensures ran { Ran (meaning_from O.stated self.now state.old) result state.new captures
+        ensures ran { IsOfTrees self.now →
+            Ran (meaning_from O.stated self.now state.old) result state.new captures
             (W.written writer.old) (W.written writer.new) (W.failures writer.old) (W.failures writer.new) }
+        ensures closed { IfOk result (λ new. length new ≡ length captures) }
         ensures no_fewer { NoFewer state.old state.new }
         ensures kept { KeepsFixed state.old state.new }
     {
@@ -217,7 +220,7 @@ impl<O: Parties> Rendering<'_, O> {
 
     /// The value of the expression whose stream a state names, with its namespaces as maps. The state is left as the run leaves it.
     pub(crate) fn evaluate(&self, state: &mut StateData) -> Result<Value, Error>
-        ensures { Evaluated (value_meant O.stated self.now state.old) result }
+        ensures { IsOfTrees self.now → Evaluated (value_meant O.stated self.now state.old) result }
     {
         let alloc = self.allocator();
         let stream = state.stream().share()?;

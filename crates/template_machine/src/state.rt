@@ -1,7 +1,7 @@
 //! States, and what a render leaves.
 ghost use Rattle.std.specs.Fn.{FnOnceReturnsAtMut};
 ghost use Rattle.std.specs.List.Sorted.{IsStrictlySortedBy};
-ghost use Rattle.std.specs.Prelude.{◌≡◌, ◌+◌, [], ◌∷◌, Some, IfErr, IfOk, IfSome, Ok, OnErr, OnOk, false, string_bytes, true};
+ghost use Rattle.std.specs.Prelude.{◌≡◌, ◌+◌, [], ◌∷◌, Some, IfErr, IfOk, IfSome, Ok, OnErr, OnOk, false, length, string_bytes, true};
 ghost use Rattle.tm_syntax.specs.Named.{find, name_cmp, texts_of};
 ghost use Rattle.tm_values.specs.Answer.{IsAnswer, IsLent, OkOrOutOfMemory};
 ghost use Rattle.tm_meaning.specs.World.{emitted, find_name, fuel_levels, name_of, records_of, view_of};
@@ -10,7 +10,7 @@ ghost use Rattle.tm_meaning.specs.Calls.{apply_filter, enter_block, perform_test
 ghost use Rattle.tm_meaning.specs.Memory.{is_want_of_memory};
 ghost use Rattle.tm_state.specs.Answers.{Becomes, CallDeeper, CallLies, IsEmitted, KeepsFixed, NeedsRun, StaysInPlace};
 ghost use Rattle.tm_state.specs.State.{callee_of, exported};
-ghost use Rattle.template_machine.specs.Environment.{host_of, named_template};
+ghost use Rattle.template_machine.specs.Environment.{IsOfTrees, host_of, named_template};
 ghost use Rattle.template_machine.specs.Renders.{as_text, block_meaning, call_by_name, called_value, callee_run, with_temp, with_world};
 ghost use Rattle.template_machine.specs.Renders.{KeepsLists, SameLists, runs_a_block};
 ghost use Rattle.tm_values.specs.Val.{macro};
@@ -165,7 +165,7 @@ impl<'env, O: Parties> StateOf<'env, O> {
     /// none, InvalidOperation for a further call beyond the limit, and the fault of what is called; OutOfMemory.
     /// However it ends, the state stands where it stood.
     pub fn apply_filter(&mut self, name: &str, args: &[Value]) -> Result<Value, Error>
-        ensures called { IsMacroCall result (called_value O.stated self.old.template (apply_filter
+        ensures called { IsOfTrees self.old.template → IsMacroCall result (called_value O.stated self.old.template (apply_filter
             (host_of O.stated self.old.template) name.now args.now self.old.world)) self.new.world }
         ensures template { self.new.template ≡ self.old.template }
         ensures stays { StaysInPlace self.old.world self.new.world }
@@ -186,7 +186,7 @@ impl<'env, O: Parties> StateOf<'env, O> {
     /// where there is none, InvalidOperation for a further call beyond the limit, and the fault of what is called;
     /// OutOfMemory. However it ends, the state stands where it stood.
     pub fn perform_test(&mut self, name: &str, args: &[Value]) -> Result<bool, Error>
-        ensures called { IsTested result (called_value O.stated self.old.template (perform_test
+        ensures called { IsOfTrees self.old.template → IsTested result (called_value O.stated self.old.template (perform_test
             (host_of O.stated self.old.template) name.now args.now self.old.world)) self.new.world }
         ensures template { self.new.template ≡ self.old.template }
         ensures stays { StaysInPlace self.old.world self.new.world }
@@ -210,7 +210,7 @@ impl<'env, O: Parties> StateOf<'env, O> {
     /// it ends, the state stands where it stood, and what the call kept is kept.
     #[tactic(auto, using(crate::proofs::CallLists::macro_runs_none))]
     pub fn call_macro(&mut self, name: &str, args: &[Value]) -> Result<String, Error>
-        ensures called { IsEmitted result (as_text (called_value O.stated self.old.template
+        ensures called { IsOfTrees self.old.template → IsEmitted result (as_text (called_value O.stated self.old.template
             (call_by_name (host_of O.stated self.old.template) name.now args.now self.old.world)))
             self.new.world }
         ensures template { self.new.template ≡ self.old.template }
@@ -234,7 +234,7 @@ impl<'env, O: Parties> StateOf<'env, O> {
     /// limit, and the fault of its run; OutOfMemory. However it ends, the state stands where it stood, and what the run
     /// kept is kept.
     pub fn render_block(&mut self, name: &str) -> Result<String, Error>
-        ensures called { IsCapturedRun result
+        ensures called { IsOfTrees self.old.template → IsCapturedRun result
             (block_meaning O.stated self.old.template name.now self.old.world) self.new.world }
         ensures template { self.new.template ≡ self.old.template }
         ensures stays { StaysInPlace self.old.world self.new.world }
@@ -257,7 +257,7 @@ impl<'env, O: Parties> StateOf<'env, O> {
         name: &str,
         writer: &mut W,
     ) -> Result<(), Error>
-        ensures rendered { BlockWritten
+        ensures rendered { IsOfTrees self.old.template → BlockWritten
             (block_meaning O.stated self.old.template name.now self.old.world) result self.new.world
             (W.written writer.old) (W.written writer.new) (W.failures writer.old) (W.failures writer.new) }
         ensures template { self.new.template ≡ self.old.template }
@@ -278,9 +278,11 @@ impl<'env, O: Parties> StateOf<'env, O> {
         writer: &mut W,
     ) -> Result<Captures, Halt>
         requires { IsFresh captures }
-        ensures ran { Ran (block_meaning O.stated self.old.template name.now self.old.world)
+        ensures ran { IsOfTrees self.old.template →
+            Ran (block_meaning O.stated self.old.template name.now self.old.world)
             result self.new.world captures
             (W.written writer.old) (W.written writer.new) (W.failures writer.old) (W.failures writer.new) }
+        ensures closed { IfOk result (λ new. length new ≡ length captures) }
         ensures template { self.new.template ≡ self.old.template }
         ensures stays { StaysInPlace self.old.world self.new.world }
         ensures kept { KeepsFixed self.old.world self.new.world }
@@ -319,7 +321,8 @@ impl<'env, O: Parties> StateOf<'env, O> {
     /// What a call came to, as a value: the run that it needs is run, and what that replaced is put back after it.
     /// The run's fault; InvalidOperation for a loop, since none is open; OutOfMemory.
     fn value_of(&mut self, called: CallResult) -> Result<Value, Error>
-        ensures called { (asked : _) → Becomes (Ok called) asked self.old.world →
+        ensures called { IsOfTrees self.old.template →
+            (asked : _) → Becomes (Ok called) asked self.old.world →
             IsMacroCall result (called_value O.stated self.old.template asked) self.new.world }
         ensures template { self.new.template ≡ self.old.template }
         ensures stays { (limit : _) (before : _) → CallLies limit (Ok called) before self.old.world →
@@ -337,7 +340,8 @@ impl<'env, O: Parties> StateOf<'env, O> {
 
     /// The text of a run as a value; what it replaced is put back. The run's fault; OutOfMemory.
     fn value_of_run(&mut self, run: NestedRun) -> Result<Value, Error>
-        ensures called { (asked : _) → NeedsRun run asked self.old.world →
+        ensures called { IsOfTrees self.old.template →
+            (asked : _) → NeedsRun run asked self.old.world →
             IsMacroCall result (called_value O.stated self.old.template asked) self.new.world }
         ensures template { self.new.template ≡ self.old.template }
         ensures stays { (limit : _) (before : _) → CallDeeper limit run.saved before self.old.world →
@@ -362,7 +366,7 @@ impl<'env, O: Parties> StateOf<'env, O> {
     /// Runs what is called from where the state stands, and gives its text. The run's fault, InvalidOperation where
     /// there is no such run; OutOfMemory.
     fn run_in_capture(&mut self, run: RunOf) -> Result<String, Error>
-        ensures captured { IsCapturedRun result (callee_run O.stated self.old.template
+        ensures captured { IsOfTrees self.old.template → IsCapturedRun result (callee_run O.stated self.old.template
             (callee_of run) self.old.world) self.new.world }
         ensures template { self.new.template ≡ self.old.template }
         ensures no_fewer { NoFewer self.old.world self.new.world }
@@ -382,8 +386,9 @@ impl<'env, O: Parties> StateOf<'env, O> {
     /// InvalidOperation where there is no such run.
     fn run_over(&mut self, run: RunOf, captures: Captures) -> Result<Captures, Halt>
         requires { captures ≡ new_capture true ∷ [] }
-        ensures ran { RanApart result (callee_run O.stated self.old.template
+        ensures ran { IsOfTrees self.old.template → RanApart result (callee_run O.stated self.old.template
             (callee_of run) self.old.world) self.new.world }
+        ensures closed { IfOk result (λ new. length new ≡ 1) }
         ensures template { self.new.template ≡ self.old.template }
         ensures no_fewer { NoFewer self.old.world self.new.world }
         ensures kept { KeepsFixed self.old.world self.new.world }

@@ -1,10 +1,10 @@
 //! Templates of an environment.
 ghost use Rattle.std.specs.BTreeSet.{keys};
-ghost use Rattle.std.specs.Prelude.{◌≡◌, ◌+◌, ◌<◌, [], ◌∷◌, Err, IfOk, IfErr, map as each, string_bytes};
-ghost use Rattle.tm_syntax.specs.Names.{undeclared_in};
+ghost use Rattle.std.specs.Prelude.{◌≡◌, ◌+◌, ◌<◌, [], ◌∷◌, Err, IfOk, IfErr, length, map as each, string_bytes};
+ghost use Rattle.tm_templates.specs.Templates.{undeclared_by};
 ghost use Rattle.tm_meaning.specs.World.{root_of};
 ghost use Rattle.template_machine.specs.TemplateRef.{entry_id, held_id, held_template, IsHeldOf};
-ghost use Rattle.template_machine.specs.Environment.{meant};
+ghost use Rattle.template_machine.specs.Environment.{IsOfTrees, meant};
 ghost use Rattle.template_machine.specs.Renders.{first, greatest, idle, meaning, meaning_from};
 ghost use Rattle.template_machine.specs.Renders.{IsCapturedRun, IsFresh, Ran, Rendered, RenderedCaptured, RenderedText};
 
@@ -114,7 +114,7 @@ impl<'env, 'source, O: Drop> TemplateOf<'env, 'source, O> {
     /// nested in them, as `a.b.c`, where that is asked for. OutOfMemory where there is no memory.
     pub fn undeclared_variables(&self, nested: bool) -> Result<BTreeSet<String>, Error>
         ensures ok { IfOk result (λ names. each string_bytes (keys names)
-            ≡ undeclared_in nested self.now.template.tree) }
+            ≡ undeclared_by nested self.now.template.tree) }
         ensures memory { IfErr result (λ e. e ≡ ErrorKind.OutOfMemory ∷ []) }
     {
         self.compiled()
@@ -159,7 +159,7 @@ impl<'env, 'source, O: Parties> TemplateOf<'env, 'source, O> {
         ensures full { ids.old ≡ greatest →
             (result ≡ Err (ErrorKind.InvalidOperation ∷ [])) × (ids.new ≡ ids.old) }
         ensures next { ids.old < greatest → ids.new ≡ ids.old + 1 }
-        ensures rendered { ids.old < greatest →
+        ensures rendered { ids.old < greatest → IsOfTrees self.now →
             RenderedText (meaning O.stated self.now ids.old context) result }
     {
         let mut state = self.first_state(ids, context)?;
@@ -175,7 +175,7 @@ impl<'env, 'source, O: Parties> TemplateOf<'env, 'source, O> {
         ensures full { ids.old ≡ greatest →
             (result ≡ Err (ErrorKind.InvalidOperation ∷ [])) × (ids.new ≡ ids.old) }
         ensures next { ids.old < greatest → ids.new ≡ ids.old + 1 }
-        ensures rendered { ids.old < greatest →
+        ensures rendered { ids.old < greatest → IsOfTrees self.now →
             RenderedCaptured self.now (meaning O.stated self.now ids.old context) result }
     {
         let mut state = self.first_state(ids, context)?;
@@ -197,7 +197,7 @@ impl<'env, 'source, O: Parties> TemplateOf<'env, 'source, O> {
             × (W.written writer.new ≡ W.written writer.old)
             × (W.failures writer.new ≡ W.failures writer.old) }
         ensures next { ids.old < greatest → ids.new ≡ ids.old + 1 }
-        ensures rendered { ids.old < greatest →
+        ensures rendered { ids.old < greatest → IsOfTrees self.now →
             Rendered self.now (meaning O.stated self.now ids.old context) result
             (W.written writer.old) (W.written writer.new) (W.failures writer.old) (W.failures writer.new) }
     {
@@ -236,7 +236,8 @@ impl<'env, 'source, O: Parties> TemplateOf<'env, 'source, O> {
 
     /// Runs the stream that a state names in a capture, and gives its text.
     fn run_in_capture(&self, state: &mut StateData) -> Result<String, Error>
-        ensures { IsCapturedRun result (meaning_from O.stated self.now state.old) state.new }
+        ensures { IsOfTrees self.now →
+            IsCapturedRun result (meaning_from O.stated self.now state.old) state.new }
     {
         let alloc = self.environment.allocator();
         let mut captures = Captures::new(alloc);
@@ -256,8 +257,10 @@ impl<'env, 'source, O: Parties> TemplateOf<'env, 'source, O> {
         writer: &mut W,
     ) -> Result<Captures, Halt>
         requires { IsFresh captures }
-        ensures { Ran (meaning_from O.stated self.now state.old) result state.new captures
+        ensures ran { IsOfTrees self.now →
+            Ran (meaning_from O.stated self.now state.old) result state.new captures
             (W.written writer.old) (W.written writer.new) (W.failures writer.old) (W.failures writer.new) }
+        ensures closed { IfOk result (λ new. length new ≡ length captures) }
     {
         self.rendering().run(state, captures, writer)
     }

@@ -4,3 +4,4 @@ pub mod Endings
 pub mod Globals
 pub mod Gone
 pub mod Ascending
+pub mod Accepted

@@ -1,6 +1,9 @@
 -- Templates as plain data.
+use Rattle.std.specs.List.Sorted.{IsStrictlySortedBy}
 use Rattle.std.specs.Map.{keys_of}
-use Rattle.std.specs.Prelude.{◌≡◌, ℕ, List, [], codes}
+use Rattle.std.specs.Prelude.{◌≡◌, ℕ, List, [], ◌∷◌, Option, None, Some, map as each, codes, Bool, false}
+use Rattle.std.specs.Borrow.{Bor}
+use Rattle.std.specs.List.{AllByRecursion}
 use Rattle.tm_values.specs.declared.error.ErrorKind.{ErrorKind}
 use Rattle.tm_values.specs.declared.escape.AutoEscape.{AutoEscape}
 use Rattle.tm_values.specs.declared.escape.AutoEscape.TheVariants as escapes
@@ -8,47 +11,124 @@ use Rattle.tm_syntax.specs.declared.tree.Tree.{Tree}
 use Rattle.tm_syntax.specs.declared.tree.Tree.TheVariants as trees
 use Rattle.tm_syntax.specs.declared.instruction.Instruction.{Instruction}
 use Rattle.tm_syntax.specs.Blocks.{StreamTree, stream_of, stream_blocks, code_of}
+use Rattle.tm_syntax.specs.Names.{undeclared_in}
 use Rattle.tm_shapes.specs.BlockCodes.{compiled_blocks}
+use Rattle.tm_shapes.specs.Verified.{IsAccepted}
 use Rattle.tm_shapes.specs.declared.code.BlockCode.{BlockCode}
-use Rattle.tm_syntax.specs.Named.{Named, by_name}
+use Rattle.tm_syntax.specs.Named.{Named, by_name, find, name_cmp}
 use Rattle.tm_delimiters.specs.Syntax.{Syntax}
 use Rattle.tm_values.specs.Answer.{Refused}
 use Rattle.tm_compiler.specs.Spells.{Spells, SpellsExpr, SpellsNoExpr, SpellsNone}
-use Rattle.tm_meaning.specs.Tree.{TemplateTree}
+use Rattle.tm_meaning.specs.Tree.{TemplateTree, card}
+use Rattle.tm_meaning.specs.World.{Card, Template}
 
--- A template or an expression: its name, its source, how it is escaped, and the tree that the source spells.
+-- A template or an expression: its name, its source, how it is escaped, the tree that the source spells, where it has one, and what it runs:
+-- its stream, and those of its blocks, by name.
 pub record Compiled : Type 0 where
   pub name : List ℕ
   pub source : List ℕ
   pub escape : AutoEscape
-  pub tree : Tree
+  pub tree : Option Tree
+  pub root : List Instruction
+  pub blocks : Named BlockCode
 
--- the template of no statement, from no source, under a name; nothing is escaped
-abbrev pub empty_template : List ℕ → Compiled
-empty_template name = record { name = name; source = []; escape = escapes.None; tree = trees.Statements [] }
-
--- the code of its blocks, by name
+-- the code of a tree's blocks, by name
 abbrev pub block_codes : Tree → Named BlockCode
 block_codes tree = by_name (compiled_blocks (stream_blocks (stream_of tree)))
 
--- a template as its meaning takes it
-abbrev pub tree_of : Compiled → TemplateTree
-tree_of t = record { name = t.name; escape = t.escape; root = stream_of t.tree }
+-- the template of a tree
+abbrev pub of_tree : List ℕ → List ℕ → AutoEscape → Tree → Compiled
+of_tree name source escape tree = record {
+  name = name;
+  source = source;
+  escape = escape;
+  tree = Some tree;
+  root = code_of (stream_of tree);
+  blocks = block_codes tree;
+}
 
--- These are the streams of the tree, the names of its blocks, and the stream of no block.
-pub record AreStreams (tree : Tree) (root : List Instruction) (blocks : Named BlockCode) (names : List (List ℕ))
-    (nothing : List Instruction) : Type 0 where
-  pub root_is : root ≡ code_of (stream_of tree)
-  pub blocks_are : blocks ≡ block_codes tree
-  pub names_are : names ≡ keys_of (block_codes tree)
+-- the template of no statement, from no source, under a name; nothing is escaped
+abbrev pub empty_template : List ℕ → Compiled
+empty_template name = of_tree name [] escapes.None (trees.Statements [])
+
+-- a stream under a name, as a block that isn't required
+abbrev pub given_block : Bor (List ℕ) × List Instruction → List ℕ × BlockCode
+given_block b = (b.0.now, record { required = false; code = b.1 })
+
+abbrev pub given_blocks : List (Bor (List ℕ) × List Instruction) → Named BlockCode
+given_blocks bs = each given_block bs
+
+-- the template of streams, from no source and without a tree
+abbrev pub of_streams : List ℕ → List Instruction → List (Bor (List ℕ) × List Instruction) → AutoEscape → Compiled
+of_streams name root blocks escape = record {
+  name = name;
+  source = [];
+  escape = escape;
+  tree = None;
+  root = root;
+  blocks = by_name (given_blocks blocks);
+}
+
+-- It is the template of a tree.
+abbrev pub IsOfTree : Compiled → Type 0
+IsOfTree t = (tree : Tree) × (t ≡ of_tree t.name t.source t.escape tree)
+
+-- the names that a template reads where no open scope has assigned them before: its tree's, and none of streams
+abbrev pub undeclared_by : Bool → Option Tree → List (List ℕ)
+undeclared_by nested None = []
+undeclared_by nested (Some tree) = undeclared_in nested tree
+
+-- ---------------------------------------------------------------- to the machine
+abbrev pub carded : List ℕ × BlockCode → List ℕ × Card
+carded b = (b.0, record { required = b.1.required })
+
+-- what the machine is told of a template
+abbrev pub told_of : Compiled → Template
+told_of t = record { name = t.name; escape = t.escape; root = card; blocks = each carded t.blocks }
+
+abbrev pub code_or_none : Option BlockCode → List Instruction
+code_or_none None = []
+code_or_none (Some b) = b.code
+
+-- the code of a part: of the block of a name, or of all of it; of a block that isn't there, none
+abbrev pub part_code : Compiled → Option (List ℕ) → List Instruction
+part_code t None = t.root
+part_code t (Some x) = code_or_none (find x t.blocks)
+
+-- a template as its meaning takes it, which is no statement without a tree
+abbrev pub tree_or_none : Option Tree → Tree
+tree_or_none None = trees.Statements []
+tree_or_none (Some tree) = tree
+
+abbrev pub tree_of : Compiled → TemplateTree
+tree_of t = record { name = t.name; escape = t.escape; root = stream_of (tree_or_none t.tree) }
+
+-- The code of each block is accepted.
+abbrev pub AllAccepted : Named BlockCode → Type 0
+AllAccepted bs = AllByRecursion (λ (b : List ℕ × BlockCode). IsAccepted b.1.code) bs
+
+-- All that a template runs is accepted.
+abbrev pub AreAccepted : Compiled → Type 0
+AreAccepted t = (part : Option (List ℕ)) → IsAccepted (part_code t part)
+
+-- So is what each of these runs.
+abbrev pub EachAccepted : Named Compiled → Type 0
+EachAccepted ts = AllByRecursion (λ (t : List ℕ × Compiled). AreAccepted t.1) ts
+
+-- These are the names of the blocks, which ascend, and the stream of no block; and all streams are accepted.
+pub record AreStreams (root : List Instruction) (blocks : Named BlockCode) (names : List (List ℕ)) (nothing : List Instruction) : Type 0 where
+  pub root_accepted : IsAccepted root
+  pub blocks_accepted : AllAccepted blocks
+  pub names_are : names ≡ keys_of blocks
+  pub order : IsStrictlySortedBy name_cmp (keys_of blocks)
   pub nothing_is : nothing ≡ []
 
+-- ---------------------------------------------------------------- of sources
 -- the template that a source is under a name and with an escape: its tree is the one that the source spells
 pub record IsTemplate (syntax : Syntax) (escape : AutoEscape) (name source : List ℕ) (t : Compiled) : Type 0 where
-  pub name_is : t.name ≡ name
-  pub source_is : t.source ≡ source
-  pub escape_is : t.escape ≡ escape
-  pub spelled : Spells syntax source t.tree
+  pub tree : Tree
+  pub is : t ≡ of_tree name source escape tree
+  pub spelled : Spells syntax source tree
 
 -- why a source was refused: it spells no tree, or there was no memory
 abbrev pub IsRefused : Syntax → List ℕ → List ErrorKind → Type 0
@@ -56,10 +136,9 @@ IsRefused syntax source chain = Refused chain (SpellsNone syntax source)
 
 -- the expression that a source is, under the name of all expressions; nothing that it writes is escaped
 pub record IsExpression (source : List ℕ) (t : Compiled) : Type 0 where
-  pub name_is : t.name ≡ codes "<expression>"
-  pub source_is : t.source ≡ source
-  pub escape_is : t.escape ≡ escapes.None
-  pub spelled : SpellsExpr source t.tree
+  pub tree : Tree
+  pub is : t ≡ of_tree (codes "<expression>") source escapes.None tree
+  pub spelled : SpellsExpr source tree
 
 -- why an expression's source was refused
 abbrev pub IsRefusedExpression : List ℕ → List ErrorKind → Type 0

@@ -4,25 +4,25 @@ ghost use Rattle.std.specs.List.Sorted.{IsStrictlySortedBy};
 ghost use Rattle.std.specs.Map.{keys_of};
 ghost use Rattle.std.specs.Prelude.{◌≡◌, [], ◌∷◌, IfOk, IfErr, map as each, string_bytes};
 ghost use Rattle.std.specs.Rc.{rc_str_bytes};
-ghost use Rattle.tm_syntax.specs.Names.{undeclared_in};
-ghost use Rattle.tm_syntax.specs.Blocks.{code_of, stream_of};
-ghost use Rattle.tm_syntax.specs.Named.{find, name_cmp};
+ghost use Rattle.tm_syntax.specs.Named.{by_name, find, name_cmp};
 ghost use Rattle.tm_delimiters.specs.Syntax.{default_syntax};
 ghost use Rattle.tm_values.specs.Answer.{IsLent, OkOrOutOfMemory};
 ghost use Rattle.tm_values.specs.declared.error.ErrorKind.TheVariants.{OutOfMemory};
 ghost use Rattle.tm_meaning.specs.Calls.{is_required};
-ghost use Rattle.tm_meaning.specs.Tree.{part_of, template_of};
 ghost use Rattle.tm_meaning.specs.World.{card_in};
 ghost use Rattle.tm_templates.specs.Templates.{IsExpression, IsTemplate, IsRefused, IsRefusedExpression};
-ghost use Rattle.tm_templates.specs.Templates.{block_codes, empty_template, tree_of};
+ghost use Rattle.tm_templates.specs.Templates.{AllAccepted, AreAccepted, empty_template, of_streams, of_tree, part_code, told_of};
+ghost use Rattle.tm_templates.specs.Templates.{given_blocks, undeclared_by};
+ghost use Rattle.tm_shapes.specs.Verified.{IsAccepted};
 ghost use Rattle.tm_templates.specs.Defaults.{escape_of};
 ghost use Rattle.tm_templates.specs.Sources.{source_bytes};
 
 use crate::defaults::EscapeSetting;
-use std::alloc::Global;
-use std::collections::BTreeSet;
+use std::alloc::{AllocError, Global};
+use std::collections::{BTreeMap, BTreeSet};
 use std::marker::Model;
 use std::rc::{Rc, RcStr};
+use tm_accepted::the_code_of_trees_is_accepted;
 use tm_compiler::{
     BlockCode, Name, NameMap, Streams, SyntaxConfig, Tree, Verified, generate, parse, parse_expr,
 };
@@ -105,12 +105,33 @@ fn shared_names(alloc: Global, blocks: &NameMap<BlockCode>) -> Result<Rc<BlockNa
     Ok(Rc::new(alloc, BlockNames::of(alloc, blocks)?)?)
 }
 
-/// A template that is compiled: its name, its source, how it is escaped, the tree that the source spells, and the tree's streams.
+/// Streams as blocks by name, none of which is required. AllocError when out of memory.
+fn given_blocks(
+    alloc: Global,
+    mut streams: BTreeMap<&str, Verified>,
+) -> Result<NameMap<BlockCode>, AllocError>
+    ensures given { IfOk result (λ blocks. blocks ≡ by_name (given_blocks streams.entry.entries)) }
+    ensures accepted { IfOk result AllAccepted }
+{
+    let mut blocks = NameMap::new(alloc);
+    while let Some((name, code)) = streams.pop_first() {
+        code.accepted();
+        let block = BlockCode {
+            required: false,
+            code,
+        };
+        blocks.insert(Name::new(alloc, name)?, block)?;
+    }
+    Ok(blocks)
+}
+
+/// A template that is compiled: its name, its source, how it is escaped, the tree that the source spells, where it has one, and
+/// its streams.
 pub struct CompiledTemplate<'source> {
     name: Name,
     source: Source<'source>,
     escape: AutoEscape,
-    tree: Tree,
+    tree: Option<Tree>,
     streams: Streams,
     block_names: Rc<BlockNames>,
     nothing: Verified,
@@ -135,18 +156,26 @@ impl<'source> Model for CompiledTemplate<'source> {
     ghost use Rattle.std.specs.Coded.{codes};
     ghost use Rattle.tm_syntax.specs.contracts.tree.Expr as expression;
     ghost use Rattle.tm_syntax.specs.contracts.tree.Stmt as statement;
+    ghost use Rattle.tm_values.specs.Code.{coded_Val};
     ghost use Rattle.tm_templates.specs.Templates.{Compiled};
 
     ghost Value = { Compiled };
 
-    ghost coded = { Prim.hlevel (codes, expression.the_row.coded, statement.the_row.coded) };
+    ghost coded = { Prim.hlevel (codes, coded_Val, expression.the_row.coded, statement.the_row.coded) };
 
     ghost use Rattle.tm_templates.specs.Sources.{source_bytes};
     ghost use Rattle.tm_templates.specs.Templates.{AreStreams};
 
-    ghost view = { λ a. record { name = a.name; source = source_bytes a.source; escape = a.escape; tree = a.tree } };
+    ghost view = { λ a. record {
+      name = a.name;
+      source = source_bytes a.source;
+      escape = a.escape;
+      tree = a.tree;
+      root = a.streams.root;
+      blocks = a.streams.blocks;
+    } };
 
-    ghost invariant = { λ a. AreStreams a.tree a.streams.root a.streams.blocks a.block_names.value a.nothing };
+    ghost invariant = { λ a. AreStreams a.streams.root a.streams.blocks a.block_names.value a.nothing };
 }
 
 impl<'source> CompiledTemplate<'source> {
@@ -215,14 +244,53 @@ impl<'source> CompiledTemplate<'source> {
         escape: AutoEscape,
         tree: Tree,
     ) -> Result<CompiledTemplate<'source>, Error>
+        ensures { OkOrOutOfMemory result
+            (λ t. t ≡ of_tree name.now (source_bytes source.entry) escape tree) }
+    {
+        let streams = generate(alloc, &tree)?;
+        the_code_of_trees_is_accepted();
+        CompiledTemplate::of_code(alloc, name, source, escape, Some(tree), streams)
+    }
+
+    /// The template of streams under a name, without a source and a tree: that of all of it, and those of its blocks, none of
+    /// which is required. Of a stream that is an expression's the value is dropped. Fails by OutOfMemory alone.
+    pub fn from_streams(
+        alloc: Global,
+        name: &str,
+        root: Verified,
+        blocks: BTreeMap<&str, Verified>,
+        escape: AutoEscape,
+    ) -> Result<CompiledTemplate<'source>, Error>
+        ensures { OkOrOutOfMemory result
+            (λ t. t ≡ of_streams name.now root blocks.entry.entries escape) }
+    {
+        root.accepted();
+        let blocks = given_blocks(alloc, blocks)?;
+        let streams = Streams { root, blocks };
+        CompiledTemplate::of_code(alloc, name, Source::Lent(""), escape, None, streams)
+    }
+
+    /// The template of streams that are accepted, and of their tree, where there is one. Fails by OutOfMemory alone.
+    fn of_code(
+        alloc: Global,
+        name: &str,
+        source: Source<'source>,
+        escape: AutoEscape,
+        tree: Option<Tree>,
+        streams: Streams,
+    ) -> Result<CompiledTemplate<'source>, Error>
+        requires order { IsStrictlySortedBy name_cmp (keys_of streams.blocks) }
+        requires root { IsAccepted streams.root }
+        requires blocks { AllAccepted streams.blocks }
         ensures { OkOrOutOfMemory result (λ t. t ≡ record {
           name = name.now;
           source = source_bytes source.entry;
           escape = escape;
           tree = tree;
+          root = streams.root;
+          blocks = streams.blocks;
         }) }
     {
-        let streams = generate(alloc, &tree)?;
         let block_names = shared_names(alloc, &streams.blocks)?;
         let name = Name::new(alloc, name)?;
         Ok(CompiledTemplate {
@@ -258,50 +326,67 @@ impl<'source> CompiledTemplate<'source> {
     }
 
     /// The names that its tree reads where no open scope has assigned them before, each as its text; with what is nested
-    /// in them, as `a.b.c`, where that is asked for. OutOfMemory where there is no memory.
+    /// in them, as `a.b.c`, where that is asked for; none without a tree. OutOfMemory where there is no memory.
     pub fn undeclared_variables(
         &self,
         alloc: Global,
         nested: bool,
     ) -> Result<BTreeSet<String>, Error>
         ensures ok { IfOk result (λ names. each string_bytes (keys names)
-            ≡ undeclared_in nested self.now.tree) }
+            ≡ undeclared_by nested self.now.tree) }
         ensures memory { IfErr result (λ e. e ≡ OutOfMemory ∷ []) }
     {
-        Ok(undeclared(alloc, &self.tree, nested)?)
+        match &self.tree {
+            Some(tree) => Ok(undeclared(alloc, tree, nested)?),
+            None => Ok(BTreeSet::new(alloc)),
+        }
     }
 
-    /// The code of its tree.
+    /// The names of its blocks ascend; this takes no step.
+    pub fn ascend(&self)
+        ensures { IsStrictlySortedBy name_cmp (keys_of self.now.blocks) }
+    {
+        let _blocks = &self.streams;
+    }
+
+    /// All that it runs is accepted; this takes no step.
+    pub fn accepted(&self)
+        ensures { AreAccepted self.now }
+    {
+        let _streams = &self.streams;
+    }
+
+    /// The code of all of it.
     pub fn instructions(&self) -> &Verified
-        ensures { result.now ≡ code_of (stream_of self.now.tree) }
+        ensures { result.now ≡ self.now.root }
     {
         &self.streams.root
     }
 
     /// The code of its blocks, by name.
     pub fn blocks(&self) -> &NameMap<BlockCode>
-        ensures { result.now ≡ block_codes self.now.tree }
+        ensures { result.now ≡ self.now.blocks }
     {
         &self.streams.blocks
     }
 
     /// The names of its blocks, for states to share.
     pub fn block_names(&self) -> &Rc<BlockNames>
-        ensures { result.now.value ≡ keys_of (block_codes self.now.tree) }
+        ensures { result.now.value ≡ keys_of self.now.blocks }
     {
         &self.block_names
     }
 
     /// The code of its block of a name, where there is one.
     pub fn block(&self, name: &str) -> Option<&BlockCode>
-        ensures { IsLent result (find name.now (block_codes self.now.tree)) }
+        ensures { IsLent result (find name.now self.now.blocks) }
     {
         self.streams.blocks.get(name)
     }
 
     /// Whether a part is the block of a name that another template has to replace.
     pub fn is_required(&self, block: &Option<Name>) -> bool
-        ensures { result ≡ is_required (card_in (template_of (tree_of self.now)) block.now) }
+        ensures { result ≡ is_required (card_in (told_of self.now) block.now) }
     {
         match block {
             None => false,
@@ -312,9 +397,9 @@ impl<'source> CompiledTemplate<'source> {
         }
     }
 
-    /// The code of a part: of the block of a name, or of all its tree. Of a block that isn't there, none.
+    /// The code of a part: of the block of a name, or of all of it. Of a block that isn't there, none.
     pub fn stream(&self, block: &Option<Name>) -> &Verified
-        ensures { result.now ≡ code_of (part_of (tree_of self.now) block.now) }
+        ensures { result.now ≡ part_code self.now block.now }
     {
         match block {
             None => self.instructions(),

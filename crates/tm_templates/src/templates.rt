@@ -3,6 +3,7 @@ ghost use Rattle.std.specs.Prelude.{◌≡◌, ◌≢◌, ◌<◌, [], ◌∷◌
 ghost use Rattle.tm_syntax.specs.Named.{find, put, name_cmp, without};
 ghost use Rattle.tm_values.specs.Answer.{IsLent};
 ghost use Rattle.tm_tables.specs.Places.{AreOrdered, IsNameAt, IsNameGap};
+ghost use Rattle.tm_templates.specs.Templates.{EachAccepted};
 
 use crate::compiled::CompiledTemplate;
 use std::alloc::Global;
@@ -22,17 +23,19 @@ impl<'source> Model for Templates<'source> {
     ghost use Rattle.tm_syntax.specs.Named.{Named};
     ghost use Rattle.tm_syntax.specs.contracts.tree.Expr as expression;
     ghost use Rattle.tm_syntax.specs.contracts.tree.Stmt as statement;
+    ghost use Rattle.tm_values.specs.Code.{coded_Val};
     ghost use Rattle.tm_templates.specs.Templates.{Compiled};
 
     ghost Value = { Named Compiled };
 
-    ghost coded = { Prim.hlevel (codes, expression.the_row.coded, statement.the_row.coded) };
+    ghost coded = { Prim.hlevel (codes, coded_Val, expression.the_row.coded, statement.the_row.coded) };
 
     ghost use Rattle.tm_tables.specs.Places.{AreOrdered};
+    ghost use Rattle.tm_templates.specs.Templates.{EachAccepted};
 
     ghost view = { λ a. a.entries.items };
 
-    ghost invariant = { λ a. AreOrdered a.entries.items };
+    ghost invariant = { λ a. AreOrdered a.entries.items × EachAccepted a.entries.items };
 }
 
 impl<'source> Templates<'source> {
@@ -79,6 +82,7 @@ impl<'source> Templates<'source> {
         ensures kind { IfErr result (λ e. e ≡ ErrorKind.OutOfMemory ∷ []) }
         ensures err { OnErr result (self.new ≡ self.old) }
     {
+        template.accepted();
         match self.place(name.as_str()) {
             Ok(at) => {
                 self.entries[at].1 = template;
@@ -136,6 +140,13 @@ impl<'source> Templates<'source> {
     {
         let entry = &self.entries[place];
         (&entry.0, &entry.1)
+    }
+
+    /// All that the templates run is accepted; this takes no step.
+    pub fn accepted(&self)
+        ensures { EachAccepted self.now }
+    {
+        let _ = &self.entries;
     }
 
     /// The names ascend; this takes no step.

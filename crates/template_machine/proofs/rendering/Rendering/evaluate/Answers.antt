@@ -8,7 +8,7 @@ use Rattle.template_machine.proofs.Runs.{over_answers, over_halted, over_leaves}
 use Rattle.template_machine.proofs.rendering.Rendering.evaluate.Goals as goal
 
 pub returns-in_err-result : goal.returns-in_err-result
-returns-in_err-result g c =
+returns-in_err-result g c = λ of.
     let stated = g.O.Parties.stated in
     let t = c.args.self.now in
     let old = c.args.state.now in
@@ -22,11 +22,11 @@ returns-in_err-result g c =
     ∙ ap (λ w. running (run_from old.stream (length ks)) ks w) world_is in
     passed c.from_residual-in_err-result.result (Evaluated (value_meant stated t old)) (error_of why) c.from_residual-in_err-result.ensures.1
     (evaluated_failed (meaning_from stated t old) left.world ks None None why
-    (over_halted stated t ks left.captures old left.world None None 0 0 c.new-machine.result begins (inl c.new.ensures) why left.world refl
+    (over_halted stated t ks left.captures old left.world None None 0 0 c.new-machine.result begins (inl c.new.ensures) of why left.world refl
     c.in_err-result.ensures.ended c.in_err-result.ensures.beginning c.in_err-result.ensures.failures))
 
 pub returns-in-Some : goal.returns-in-Some
-returns-in-Some g c =
+returns-in-Some g c = λ of.
     let stated = g.O.Parties.stated in
     let t = c.args.self.now in
     let old = c.args.state.now in
@@ -45,13 +45,13 @@ returns-in-Some g c =
     let ended = c.in_ok-result.ensures.ended in
     let m = meaning_from stated t old in
     evaluated_one m put us v c.with_maps.result
-    (over_answers stated t ks left.captures old left.world None None 0 0 c.new-machine.result begins (inl c.new.ensures) us ended
+    (over_answers stated t ks left.captures old left.world None None 0 0 c.new-machine.result begins (inl c.new.ensures) of us ended
     ∙ ap (λ w. Ok w) (sym c.into_value-value.ensures.state))
-    (over_leaves stated t ks left.captures old left.world None None 0 0 c.new-machine.result begins (inl c.new.ensures) us ended)
+    (over_leaves stated t ks left.captures old left.world None None 0 0 c.new-machine.result begins (inl c.new.ensures) of us ended)
     one c.with_maps.ensures
 
 pub returns-in-None : goal.returns-in-None
-returns-in-None g c =
+returns-in-None g c = λ of.
     let stated = g.O.Parties.stated in
     let t = c.args.self.now in
     let old = c.args.state.now in
@@ -68,5 +68,5 @@ returns-in-None g c =
     let ended = c.in_ok-result.ensures.ended in
     subst (λ chain. Evaluated (value_meant stated t old) (Err chain)) (sym c.from.ensures)
     (evaluated_none (meaning_from stated t old) left.world us
-    (over_answers stated t ks left.captures old left.world None None 0 0 c.new-machine.result begins (inl c.new.ensures) us ended)
-    (over_leaves stated t ks left.captures old left.world None None 0 0 c.new-machine.result begins (inl c.new.ensures) us ended) many)
+    (over_answers stated t ks left.captures old left.world None None 0 0 c.new-machine.result begins (inl c.new.ensures) of us ended)
+    (over_leaves stated t ks left.captures old left.world None None 0 0 c.new-machine.result begins (inl c.new.ensures) of us ended) many)

@@ -3,15 +3,15 @@ use Rattle.tm_meaning.specs.Machine.{Config, run_from, running}
 use Rattle.tm_meaning.specs.Memory.{is_want_of_memory}
 use Rattle.tm_output.specs.Pieces.{beginning_nothing}
 use Rattle.template_machine.specs.Renders.{run_by_memory}
-use Rattle.template_machine.proofs.Runs.{over_done, over_halted}
+use Rattle.template_machine.proofs.Runs.{over_closed, over_done, over_halted}
 use Rattle.template_machine.proofs.rendering.Rendering.run.Goals as goal
 
 -- no memory for the stream's name
 pub returns-in-Err-clause-ran : goal.returns-in-Err-clause-ran
-returns-in-Err-clause-ran g c = run_by_memory c.from.result refl (ap is_want_of_memory c.from.ensures) (beginning_nothing _ _) refl
+returns-in-Err-clause-ran g c = λ of. run_by_memory c.from.result refl (ap is_want_of_memory c.from.ensures) (beginning_nothing _ _) refl
 
 pub returns-in-Ok-result-clause-ran : goal.returns-in-Ok-result-clause-ran
-returns-in-Ok-result-clause-ran g c =
+returns-in-Ok-result-clause-ran g c = λ of.
     let old = c.args.state.now in
     let ks = c.args.captures in
     let begins : c.new-machine.result ≡ running (run_from old.stream (length ks)) ks old =
@@ -20,12 +20,12 @@ returns-in-Ok-result-clause-ran g c =
     let left : Config = c.run-result.new.self in
     over_done g.O.Parties.stated c.args.self.now ks left.captures old left.world (g.W.Sink.written c.args.writer.now)
     (g.W.Sink.written c.run-result.new.writer) (g.W.Sink.failures c.args.writer.now) (g.W.Sink.failures c.run-result.new.writer)
-    c.new-machine.result begins c.requires left.run.operands c.into_parts-captures.result.0 c.into_parts-captures.result.1
+    c.new-machine.result begins c.requires of left.run.operands c.into_parts-captures.result.0 c.into_parts-captures.result.1
     (sym c.into_parts-captures.ensures.captures) (sym c.into_parts-captures.ensures.state) c.in-Ok-result.ensures.ended
     c.in-Ok-result.ensures.failures
 
 pub returns-in-Err-result-clause-ran : goal.returns-in-Err-result-clause-ran
-returns-in-Err-result-clause-ran g c =
+returns-in-Err-result-clause-ran g c = λ of.
     let old = c.args.state.now in
     let ks = c.args.captures in
     let begins : c.new-machine.result ≡ running (run_from old.stream (length ks)) ks old =
@@ -34,5 +34,18 @@ returns-in-Err-result-clause-ran g c =
     let left : Config = c.run-result.new.self in
     over_halted g.O.Parties.stated c.args.self.now ks left.captures old left.world (g.W.Sink.written c.args.writer.now)
     (g.W.Sink.written c.run-result.new.writer) (g.W.Sink.failures c.args.writer.now) (g.W.Sink.failures c.run-result.new.writer)
-    c.new-machine.result begins c.requires c.in-Err-result.halt c.into_parts-captures.result.1 (sym c.into_parts-captures.ensures.state)
+    c.new-machine.result begins c.requires of c.in-Err-result.halt c.into_parts-captures.result.1 (sym c.into_parts-captures.ensures.state)
     c.in-Err-result.ensures.ended c.in-Err-result.ensures.beginning c.in-Err-result.ensures.failures
+
+pub returns-in-Ok-result-clause-closed : goal.returns-in-Ok-result-clause-closed
+returns-in-Ok-result-clause-closed g c =
+    let old = c.args.state.now in
+    let ks = c.args.captures in
+    let begins : c.new-machine.result ≡ running (run_from old.stream (length ks)) ks old =
+    c.new-machine.ensures ∙ ap (λ s. running (run_from s (length ks)) ks c.take.result) (c.in-Ok.ensures ∙ c.stream.ensures)
+    ∙ ap (λ w. running (run_from old.stream (length ks)) ks w) c.take.ensures.taken in
+    let left : Config = c.run-result.new.self in
+    ap length c.into_parts-captures.ensures.captures
+    ∙ over_closed g.O.Parties.stated c.args.self.now ks left.captures old left.world (g.W.Sink.written c.args.writer.now)
+    (g.W.Sink.written c.run-result.new.writer) (g.W.Sink.failures c.args.writer.now) (g.W.Sink.failures c.run-result.new.writer)
+    c.new-machine.result begins c.requires left.run.operands c.in-Ok-result.ensures.ended

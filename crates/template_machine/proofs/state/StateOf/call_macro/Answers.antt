@@ -8,7 +8,7 @@ use Rattle.template_machine.proofs.CallLists.{macro_runs_none, name_keeps}
 use Rattle.template_machine.proofs.state.StateOf.call_macro.Goals as goal
 
 pub returns-clause-called : goal.returns-clause-called
-returns-clause-called g c =
+returns-clause-called g c = λ of.
     let of_state : StateValue g.row.O.Denot → List ℕ → Asked =
     λ s x. call_by_name (host_of g.O.Parties.stated s.template) x c.args.args.now s.world in
     let asked = of_state c.args.self.now c.args.name.now in

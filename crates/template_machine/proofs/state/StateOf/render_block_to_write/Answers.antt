@@ -6,7 +6,7 @@ use Rattle.template_machine.proofs.Answered.{passed, written_done, written_faile
 use Rattle.template_machine.proofs.state.StateOf.render_block_to_write.Goals as goal
 
 pub returns-in_err-_captures-clause-rendered : goal.returns-in_err-_captures-clause-rendered
-returns-in_err-_captures-clause-rendered g c =
+returns-in_err-_captures-clause-rendered g c = λ of.
     let s = c.args.self.now in
     let m = block_meaning g.O.Parties.stated s.template c.args.name.now s.world in
     let left = c.run_block.new.self.world in
@@ -17,11 +17,11 @@ returns-in_err-_captures-clause-rendered g c =
     let count = g.W.Sink.failures c.run_block.new.writer in
     let Came : Result (Unit {0}) (List ErrorKind) → Type 0 = λ r. BlockWritten m r left told now failures count in
     passed c.from_residual.result Came (error_of why) c.from_residual.ensures.1
-    (written_failed m left c.new-captures.result c.new-captures.ensures told now failures count why c.in_err-_captures.ensures.ran)
+    (written_failed m left c.new-captures.result c.new-captures.ensures told now failures count why (c.in_err-_captures.ensures.ran of))
 
 pub returns-clause-rendered : goal.returns-clause-rendered
-returns-clause-rendered g c =
+returns-clause-rendered g c = λ of.
     let s = c.args.self.now in
     written_done (block_meaning g.O.Parties.stated s.template c.args.name.now s.world) c.run_block.new.self.world c.new-captures.result
     c.new-captures.ensures (g.W.Sink.written c.args.writer.now) (g.W.Sink.written c.run_block.new.writer)
-    (g.W.Sink.failures c.args.writer.now) (g.W.Sink.failures c.run_block.new.writer) c.in_ok-_captures._captures c.in_ok-_captures.ensures.ran
+    (g.W.Sink.failures c.args.writer.now) (g.W.Sink.failures c.run_block.new.writer) c.in_ok-_captures._captures (c.in_ok-_captures.ensures.ran of)

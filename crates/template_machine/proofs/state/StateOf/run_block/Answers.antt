@@ -9,7 +9,7 @@ use Rattle.template_machine.proofs.BlockCalls.{block_ran, block_refused}
 use Rattle.template_machine.proofs.state.StateOf.run_block.Goals as goal
 
 pub returns-in_err-saved-clause-ran : goal.returns-in_err-saved-clause-ran
-returns-in_err-saved-clause-ran g c =
+returns-in_err-saved-clause-ran g c = λ of.
     let s = c.args.self.now in
     let told = g.W.Sink.written c.args.writer.now in
     let failures = g.W.Sink.failures c.args.writer.now in
@@ -21,7 +21,7 @@ returns-in_err-saved-clause-ran g c =
     (ap {A = StateValue g.row.O.Denot} (λ x. x.world) c.in_err-saved.ensures.unchanged) c.in_err-saved.ensures.err)
 
 pub returns-clause-ran : goal.returns-clause-ran
-returns-clause-ran g c =
+returns-clause-ran g c = λ of.
     let s = c.args.self.now in
     let mid = c.enter_block.new.self in
     let left = c.run-result.new.state in

@@ -4,9 +4,9 @@ use Rattle.tm_state.specs.Answers.{Becomes, CallDeeper, CallLies, NeedsRun}
 use Rattle.template_machine.proofs.state.StateOf.value_of.Goals as goal
 
 pub returns-in-Run-clause-called : goal.returns-in-Run-clause-called
-returns-in-Run-clause-called g c = λ asked becomes.
+returns-in-Run-clause-called g c = λ of asked becomes.
     let w = c.args.self.now.world in
-    c.value_of_run.ensures.called asked
+    c.value_of_run.ensures.called of asked
     (subst (λ (e : NestedRun). NeedsRun e asked w) (sym c.into_inner.ensures)
     (subst (λ called. Becomes (Ok called) asked w) c.in-Run.is becomes))
 

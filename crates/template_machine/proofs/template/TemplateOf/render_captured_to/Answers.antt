@@ -7,7 +7,7 @@ use Rattle.template_machine.proofs.Answered.{passed, rendered_failed}
 use Rattle.template_machine.proofs.template.TemplateOf.render_captured_to.Goals as goal
 
 pub returns-in_err-_captures-clause-rendered : goal.returns-in_err-_captures-clause-rendered
-returns-in_err-_captures-clause-rendered g c = λ h.
+returns-in_err-_captures-clause-rendered g c = λ h of.
     let t = c.args.self.now in
     let why = c.in_err-_captures.field-0.0 in
     let told = g.W.Sink.written c.args.writer.now in
@@ -19,5 +19,5 @@ returns-in_err-_captures-clause-rendered g c = λ h.
     let came : Came c.from_residual-in_err-_captures.result c.in_ok-first.first =
     passed c.from_residual-in_err-_captures.result (λ r. Came r c.in_ok-first.first) (error_of why) c.from_residual-in_err-_captures.ensures.1
     (rendered_failed (meaning_from g.O.Parties.stated t c.in_ok-first.first) c.run_over.new.state c.new.result c.new.ensures told now failures
-    count t why c.in_err-_captures.ensures) in
+    count t why (c.in_err-_captures.ensures.ran of)) in
     subst (Came c.from_residual-in_err-_captures.result) c.in_ok-first.ensures.state came

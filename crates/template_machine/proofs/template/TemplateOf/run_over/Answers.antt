@@ -1,10 +1,11 @@
-use Rattle.std.proofs.Common.{subst}
-use Rattle.template_machine.specs.Environment.{TemplateValue}
+use Rattle.std.proofs.Common.{subst, sym}
+use Rattle.template_machine.specs.Environment.{IsOfTrees, TemplateValue}
 use Rattle.template_machine.specs.Renders.{meaning_from, Ran}
 use Rattle.template_machine.proofs.template.TemplateOf.run_over.Goals as goal
 
-pub returns : goal.returns
-returns g c =
+pub returns-clause-ran : goal.returns-clause-ran
+returns-clause-ran g c = λ of.
     subst (λ (t : TemplateValue g.row.O.Denot). Ran (meaning_from g.O.Parties.stated t c.args.state.now) c.run-2.result c.run-2.new.state
     c.args.captures (g.W.Sink.written c.args.writer.now) (g.W.Sink.written c.run-2.new.writer) (g.W.Sink.failures c.args.writer.now)
-    (g.W.Sink.failures c.run-2.new.writer)) c.rendering.ensures.same c.run-2.ensures.ran
+    (g.W.Sink.failures c.run-2.new.writer)) c.rendering.ensures.same
+    (c.run-2.ensures.ran (subst (λ (t : TemplateValue g.row.O.Denot). IsOfTrees t) (sym c.rendering.ensures.same) of))

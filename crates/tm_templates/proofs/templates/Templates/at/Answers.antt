@@ -12,4 +12,4 @@ returns-clause-found c =
     let p = c.index-entry.result.now in
     let within = subst (λ (l : Named Compiled). c.args.place < length l) (sym c.self.view_is) c.requires in
     let at = slice_get_read entries (length entries) c.args.place p refl within c.index-entry.ensures in
-    held p.0 entries entries c.args.self.now c.args.place p refl c.self.view_is c.self.invariant at ((bytes_decides p.0 p.0).1 refl)
+    held p.0 entries entries c.args.self.now c.args.place p refl c.self.view_is c.self.invariant.0 at ((bytes_decides p.0 p.0).1 refl)

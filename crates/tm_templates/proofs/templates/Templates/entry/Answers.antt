@@ -21,7 +21,7 @@ returns-in-Ok c =
     let named : name_cmp p.0 x ≡ Equal = ap (λ (e : List ℕ × Compiled). name_cmp e.0 x) c.index.ensures ∙ there.same_name p in (
       same_text p.0 x named,
       subst (λ (l : Named Compiled). find x l
-          ≡ Some q.1) c.self.view_is (find-read x entries c.in-Ok.at q c.self.invariant there c.index-in-Ok.ensures),
+          ≡ Some q.1) c.self.view_is (find-read x entries c.in-Ok.at q c.self.invariant.0 there c.index-in-Ok.ensures),
     )
 
 pub returns-in-Err : goal.returns-in-Err

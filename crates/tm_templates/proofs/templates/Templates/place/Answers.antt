@@ -11,5 +11,5 @@ returns c =
     let x = c.args.name.now in
     let facts = c.binary_search_by.ensures in
     let by_name = facts.position (λ (p : List ℕ × Compiled). name_cmp p.0 x) (always_returns_same _ _ _ (λ a r f called. search rules)) in
-    searched_in x c.self.inside.entries.items c.deref.result.now c.args.self.now c.deref.ensures.value c.self.view_is c.self.invariant
+    searched_in x c.self.inside.entries.items c.deref.result.now c.args.self.now c.deref.ensures.value c.self.view_is c.self.invariant.0
     c.binary_search_by.result facts.bound by_name

@@ -3,19 +3,23 @@ use Rattle.tm_syntax.specs.Named.{Named, find}
 use Rattle.tm_syntax.proofs.Named.{find_others, without_absent}
 use Rattle.tm_tables.proofs.Places.{find-gap, taken, taken-ordered, without-gap}
 use Rattle.tm_tables.specs.Places.{AreOrdered}
-use Rattle.tm_templates.specs.Templates.{Compiled}
+use Rattle.tm_templates.specs.Templates.{Compiled, EachAccepted}
+use Rattle.tm_templates.proofs.Accepted.{taken_accepted}
 use Rattle.tm_templates.proofs.Gone.{gone}
 use Rattle.tm_templates.proofs.templates.Templates.remove.Goals as goal
 
 pub invariant_of-self : goal.invariant_of-self
 invariant_of-self c =
-    subst (λ (l : Named Compiled). AreOrdered l) (sym c.remove-removed.ensures.items)
-    (taken-ordered c.args.name.now c.self.inside.entries.items c.args.self.now c.in-Ok.at c.self.view_is c.self.invariant c.in-Ok.ensures)
+    subst (λ (l : Named Compiled). AreOrdered l × EachAccepted l) (sym c.remove-removed.ensures.items) (
+      taken-ordered c.args.name.now c.self.inside.entries.items c.args.self.now c.in-Ok.at c.self.view_is c.self.invariant.0 c.in-Ok.ensures,
+      taken_accepted c.args.name.now c.self.inside.entries.items c.args.self.now c.in-Ok.at c.self.view_is c.self.invariant.0 c.in-Ok.ensures
+          c.self.invariant.1,
+    )
 
 rest : goal.returns-in-Ok-clause-rest
 rest c =
     c.remove-removed.ensures.items
-    ∙ taken c.args.name.now c.self.inside.entries.items c.args.self.now c.in-Ok.at c.self.view_is c.self.invariant c.in-Ok.ensures
+    ∙ taken c.args.name.now c.self.inside.entries.items c.args.self.now c.in-Ok.at c.self.view_is c.self.invariant.0 c.in-Ok.ensures
 
 pub returns-in-Ok-clause-rest : goal.returns-in-Ok-clause-rest
 returns-in-Ok-clause-rest = rest
@@ -26,7 +30,7 @@ returns-in-Ok-clause-absent c = λ h. rest c ∙ without_absent c.args.name.now 
 pub returns-in-Ok-clause-gone : goal.returns-in-Ok-clause-gone
 returns-in-Ok-clause-gone c =
     ap (find c.args.name.now) (rest c)
-    ∙ gone c.args.name.now c.args.self.now (subst (λ (l : Named Compiled). AreOrdered l) c.self.view_is c.self.invariant)
+    ∙ gone c.args.name.now c.args.self.now (subst (λ (l : Named Compiled). AreOrdered l) c.self.view_is c.self.invariant.0)
 
 pub returns-in-Ok-clause-others : goal.returns-in-Ok-clause-others
 returns-in-Ok-clause-others c = λ x apart. ap (find x) (rest c) ∙ find_others x c.args.name.now apart c.args.self.now
