@@ -1,7 +1,7 @@
 use Rattle.std.proofs.Common.{◌≡◌, ◌∙◌, ℕ, List, Ok, ap, subst, sym}
 use Rattle.tm_meaning.specs.Calls.{Asked, by_depths}
 use Rattle.tm_state.specs.Answers.{Becomes}
-use Rattle.template_machine.specs.Environment.{host_of}
+use Rattle.template_machine.specs.Environment.{IsOfTrees, host_of}
 use Rattle.template_machine.specs.Renders.{StateValue, call_by_name, called_value}
 use Rattle.template_machine.proofs.Texts.{printed}
 use Rattle.template_machine.proofs.CallLists.{macro_runs_none, name_keeps}
@@ -20,7 +20,8 @@ returns-clause-called g c = λ of.
     printed c.to_text.result (called_value g.O.Parties.stated c.args.self.now.template asked) c.in_ok-value.value
     c.value_of.new.self.world c.self-2.inside.kept same
     (sym (ap {A = StateValue g.row.O.Denot} (λ s. called_value g.O.Parties.stated s.template asked) c.self.view_is)
-    ∙ c.in_ok-value.ensures.called asked becomes) c.to_text.ensures
+    ∙ c.in_ok-value.ensures.called (subst (λ (s : StateValue g.row.O.Denot). IsOfTrees s.template) (sym c.self.view_is) of) asked becomes)
+    c.to_text.ensures
 
 pub returns-clause-lists : goal.returns-clause-lists
 returns-clause-lists g c = λ none.

@@ -1,8 +1,8 @@
-use Rattle.std.proofs.Common.{List, Result, ap, subst}
+use Rattle.std.proofs.Common.{List, Result, ap, subst, sym}
 use Rattle.tm_meaning.specs.Machine.{Capture}
 use Rattle.tm_parts.specs.declared.halt.Halt.{Halt}
 use Rattle.tm_parts.specs.declared.halt.Halt.TheVariants as halt
-use Rattle.template_machine.specs.Environment.{TemplateValue}
+use Rattle.template_machine.specs.Environment.{IsOfTrees, TemplateValue}
 use Rattle.template_machine.specs.Renders.{StateValue, block_meaning, meaning_from, Ran}
 use Rattle.template_machine.proofs.Answered.{passed}
 use Rattle.template_machine.proofs.BlockCalls.{block_ran, block_refused}
@@ -29,8 +29,10 @@ returns-clause-ran g c = λ of.
     let now = g.W.Sink.written c.run-result.new.writer in
     let failures = g.W.Sink.failures c.args.writer.now in
     let count = g.W.Sink.failures c.run-result.new.writer in
+    let of_mid = subst (λ (t : TemplateValue g.row.O.Denot). IsOfTrees t) (sym c.in_ok-saved.ensures.template) of in
     let ran = subst (λ (x : StateValue g.row.O.Denot). Ran (meaning_from g.O.Parties.stated x.template x.world) c.run-result.result left
-    c.args.captures told now failures count) c.self.view_is c.run-result.ensures.ran in
+    c.args.captures told now failures count) c.self.view_is
+    (c.run-result.ensures.ran (subst (λ (x : StateValue g.row.O.Denot). IsOfTrees x.template) (sym c.self.view_is) of_mid)) in
     block_ran g.O.Parties.stated s.template c.args.name.now s.world left c.args.captures told now failures count c.in_ok-saved.saved mid.world
     c.run-result.result c.put_back.new.self c.in_ok-saved.ensures.ok
     (subst (λ (t : TemplateValue g.row.O.Denot). Ran (meaning_from g.O.Parties.stated t mid.world) c.run-result.result left c.args.captures told

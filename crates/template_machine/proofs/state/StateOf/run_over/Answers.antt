@@ -1,6 +1,6 @@
-use Rattle.std.proofs.Common.{rules, None}
+use Rattle.std.proofs.Common.{◌≡◌, ◌∙◌, rules, None, ap, length, sym}
 use Rattle.tm_state.specs.State.{callee_of}
-use Rattle.template_machine.proofs.StateCalls.{over_done, over_halted, over_none}
+use Rattle.template_machine.proofs.StateCalls.{over_closed, over_done, over_halted, over_none}
 use Rattle.template_machine.proofs.state.StateOf.run_over.Goals as goal
 
 -- there is no such run
@@ -27,7 +27,8 @@ returns-in-Err-result-clause-ran g c = λ of.
 pub returns-in-Ok-result-clause-closed : goal.returns-in-Ok-result-clause-closed
 returns-in-Ok-result-clause-closed g c =
     let left = c.run-result.new.self in
-    ap length (sym (search rules {Goal = left.captures ≡ c.into_parts-captures.result.0}))
+    let same : left.captures ≡ c.into_parts-captures.result.0 = search rules in
+    ap length (sym same)
     ∙ over_closed g.O.Parties.stated c.args.self.now.template c.self.inside.rendering (search rules) (callee_of c.args.run) c.args.self.now.world
     left.world c.args.captures c.requires None None c.in-Ok.machine (search rules) c.in-Ok.ensures.0 left.run.operands left.captures
     c.in-Ok-result.ensures.ended
