@@ -10,3 +10,4 @@ mod Texts
 mod Walked
 mod Expected
 pub mod CallLists
+pub mod StreamRuns

@@ -10,11 +10,12 @@ use Rattle.tm_values.specs.declared.error.ErrorKind.{ErrorKind}
 use Rattle.tm_values.specs.declared.error.ErrorKind.TheVariants.{InvalidOperation, WriteFailure}
 use Rattle.tm_syntax.specs.Named.{put}
 use Rattle.tm_meaning.specs.World.{World, Res, Good, Bad, answered}
-use Rattle.tm_meaning.specs.Calls.{Asked, has, refused, runs, Callee, Undo, of_block}
+use Rattle.tm_meaning.specs.Calls.{Asked, has, refused, runs, Callee, Undo, of_block, whole}
 use Rattle.tm_tables.specs.Stated.{StatedObjects}
 use Rattle.tm_meaning.specs.declared.stream.StreamId.{StreamId}
 use Rattle.tm_meaning.specs.declared.stream.TemplateId.TheVariants.{Own}
-use Rattle.tm_meaning.specs.Machine.{Capture, new_capture, put_in, put_out}
+use Rattle.tm_meaning.specs.Machine.{Capture, End, Finished, Failed, Program, base_of, new_capture, put_in, put_out}
+use Rattle.tm_meaning.specs.Steps.{Leads, begins, final}
 use Rattle.tm_meaning.specs.Meaning.{Ending, fault, Outcome}
 use Rattle.tm_meaning.specs.Runs.{evaluated, first_world, nests_of, rendered, rendered_block}
 pub use Rattle.tm_simulation.specs.Called.{as_text, call_by_name, called, maps_in}
@@ -28,7 +29,12 @@ use Rattle.tm_output.specs.Counts.{saturating_increment, AppendsBeginning}
 use Rattle.tm_parts.specs.declared.halt.Halt.{Halt}
 use Rattle.tm_parts.specs.declared.halt.Halt.TheVariants as halt
 use Rattle.tm_templates.specs.Templates.{Compiled, IsRefused}
-use Rattle.template_machine.specs.Environment.{AreOfTrees, EnvironmentValue, TemplateValue, IsTemplateOf, host_of, trees}
+use Rattle.tm_shapes.specs.Shaped.{IsShaped}
+use Rattle.tm_shapes.specs.Shapes.{Shapes}
+use Rattle.tm_safety.specs.Fits.{AllEnter, ids_of}
+use Rattle.tm_vm.specs.Answers.{program}
+use Rattle.tm_vm.specs.Nested.{WroteBeginning}
+use Rattle.template_machine.specs.Environment.{AreOfTrees, EnvironmentValue, TemplateValue, IsTemplateOf, code, host_of, trees}
 
 -- a template that is rendered, and the world that it leaves
 pub record StateValue (O : Type 0) : Type 0 where
@@ -250,3 +256,81 @@ runs_a_block _ = false
 abbrev pub KeepsLists : CallResult → World → World → Type 0
 KeepsLists (outcome.Run e) before w = e.value.saved ≡ saved.Macro (saved_scopes before)
 KeepsLists _ before w = SameLists before w
+
+-- ---------------------------------------------------------------- streams
+-- what a template runs, under what its environment gives
+abbrev pub program_of : {O : Type 0} → (O → StatedObjects) → TemplateValue O → Program
+program_of stated t = program (host_of stated t) (code t)
+
+-- Where shapes fit all streams, each loop of which a world has a record is entered in the shape of its place. A world without records is so.
+abbrev pub SoundRecords : {O : Type 0} → TemplateValue O → World → Type 0
+SoundRecords t w = (shapes : StreamId → Shapes) → ((s : StreamId) → IsShaped (code t s) (shapes s)) → AllEnter (code t) shapes (ids_of w.loops)
+
+-- The stream that a world names, heard and over these captures, comes to this end and writes this text: by the machine's steps, whoever
+-- made the streams.
+abbrev pub StreamEnds : {O : Type 0} → (O → StatedObjects) → TemplateValue O → List Capture → World → List ℕ → End → Type 0
+StreamEnds stated t captures w text e =
+    let f = base_of true captures w in Leads (program_of stated t) f [] (begins (program_of stated t) f (whole w.stream) captures w) (final text e)
+
+-- A writer got a beginning of what it writes.
+abbrev pub StreamBegins : {O : Type 0} → (O → StatedObjects) → TemplateValue O → List Capture → World → Option (List ℕ) → Option (List ℕ) → Type 0
+StreamBegins stated t captures w told now =
+    let f = base_of true captures w in WroteBeginning (program_of stated t) f (begins (program_of stated t) f (whole w.stream) captures w) told now
+
+-- The answer of a run over captures is this end: done, or a fault.
+abbrev pub IsStreamRun : Result (List Capture) Halt → World → (End → Type 0) → Type 0
+IsStreamRun (Ok new) left Ends = (vs : List Val) × Ends (Finished vs new left)
+IsStreamRun (Err (halt.Fault chain)) left Ends = Ends (Failed chain left)
+IsStreamRun (Err _) left Ends = ⊥
+
+-- How the run of a stream over captures ended: as its steps do, or since the writer failed or no memory was found.
+pub data StreamRan {O : Type 0} (stated : O → StatedObjects) (t : TemplateValue O) (w : World) (result : Result (List Capture) Halt)
+    (left : World) (captures : List Capture) (told now : Option (List ℕ)) (failures count : ℕ) : Type 0 where
+  stream_ran : (text : List ℕ) → IsStreamRun result left (StreamEnds stated t captures w text) → Appends told now text → count ≡ failures →
+      StreamRan stated t w result left captures told now failures count
+  stream_by_writer : result ≡ Err halt.Writer → StreamBegins stated t captures w told now → count ≡ saturating_increment failures →
+      StreamRan stated t w result left captures told now failures count
+  stream_by_memory : (chain : List ErrorKind) → result ≡ Err (halt.Fault chain) → is_want_of_memory chain ≡ true →
+      StreamBegins stated t captures w told now → count ≡ failures → StreamRan stated t w result left captures told now failures count
+
+-- The answer is the text in the capture at the end, or its fault.
+abbrev pub IsStreamText : Result (String Global) (List ErrorKind) → World → (End → Type 0) → Type 0
+IsStreamText (Ok text) left Ends =
+    (vs : List Val) × (heard : Bool) × Ends (Finished vs (record { heard = heard; text = string_bytes text } ∷ []) left)
+IsStreamText (Err chain) left Ends = Ends (Failed chain left)
+
+-- How the run of a stream in a capture ended, apart from running out of memory.
+abbrev pub StreamCaptured : {O : Type 0} → (O → StatedObjects) → TemplateValue O → World → Result (String Global) (List ErrorKind) → World → Type 0
+StreamCaptured stated t w result left =
+    IsMemory result ⊎ ((text : List ℕ) × IsStreamText result left (StreamEnds stated t (new_capture true ∷ []) w text))
+
+-- How the render of a stream to a text ended.
+abbrev pub StreamText : {O : Type 0} → (O → StatedObjects) → TemplateValue O → World → Result (String Global) (List ErrorKind) → Type 0
+StreamText stated t w result = (left : World) × StreamCaptured stated t w result left
+
+-- and to a text and a state
+abbrev pub IsStreamCaptured : {O : Type 0} → TemplateValue O → Result (CapturedValue (StateValue O)) (List ErrorKind) → (End → Type 0) → Type 0
+IsStreamCaptured t (Ok c) Ends =
+    (vs : List Val) × (heard : Bool) × (c.state.template ≡ t)
+    × Ends (Finished vs (record { heard = heard; text = c.output } ∷ []) c.state.world)
+IsStreamCaptured t (Err chain) Ends = (left : World) × Ends (Failed chain left)
+
+abbrev pub StreamState : {O : Type 0} → (O → StatedObjects) → TemplateValue O → World → Result (CapturedValue (StateValue O)) (List ErrorKind) → Type 0
+StreamState stated t w result =
+    IsMemory result ⊎ ((text : List ℕ) × IsStreamCaptured t result (StreamEnds stated t (new_capture true ∷ []) w text))
+
+-- The answer is the state at the end, without a text of its own, or its fault.
+abbrev pub IsStreamEnd : {O : Type 0} → TemplateValue O → Result (CapturedValue (StateValue O)) (List ErrorKind) → (End → Type 0) → Type 0
+IsStreamEnd t (Ok c) Ends =
+    (vs : List Val) × (new : List Capture) × (c.output ≡ []) × (c.state.template ≡ t) × Ends (Finished vs new c.state.world)
+IsStreamEnd t (Err chain) Ends = (left : World) × Ends (Failed chain left)
+
+-- How the render of a stream into a writer ended.
+pub data Streamed {O : Type 0} (stated : O → StatedObjects) (t : TemplateValue O) (w : World)
+    (result : Result (CapturedValue (StateValue O)) (List ErrorKind)) (told now : Option (List ℕ)) (failures count : ℕ) : Type 0 where
+  streamed : (text : List ℕ) → IsStreamEnd t result (StreamEnds stated t [] w text) → Appends told now text → count ≡ failures →
+      Streamed stated t w result told now failures count
+  streamed_by_writer : result ≡ Err (WriteFailure ∷ []) → StreamBegins stated t [] w told now → count ≡ saturating_increment failures →
+      Streamed stated t w result told now failures count
+  streamed_by_memory : IsMemory result → StreamBegins stated t [] w told now → count ≡ failures →
+      Streamed stated t w result told now failures count

@@ -5,7 +5,7 @@ ghost use Rattle.tm_syntax.specs.Named.{find, put, without};
 ghost use Rattle.tm_tables.specs.Places.{AreOrdered};
 ghost use Rattle.tm_tables.specs.Stated.{no_functions, with_filter, without_filter, with_test, without_test};
 ghost use Rattle.tm_tables.specs.Stated.{with_escaping, with_fallback, with_formatter, with_joining};
-ghost use Rattle.tm_templates.specs.Templates.{empty_template, Compiled, IsRefused};
+ghost use Rattle.tm_templates.specs.Templates.{empty_template, Compiled, EachAccepted, IsRefused};
 ghost use Rattle.tm_values.specs.Answer.{IsLent, OkOrOutOfMemory};
 ghost use Rattle.tm_values.specs.Val.{function};
 ghost use Rattle.std.specs.Prelude.{string_bytes};
@@ -250,6 +250,13 @@ impl<'source, O: Drop> EnvironmentOf<'source, O> {
         ensures { OkOrOutOfMemory result (λ t. t ≡ empty_template (codes "<unknown>")) }
     {
         CompiledTemplate::empty(self.alloc, UNKNOWN)
+    }
+
+    /// All that its templates run is accepted; this takes no step.
+    pub(crate) fn accepted(&self)
+        ensures { EachAccepted self.now.templates }
+    {
+        self.templates.accepted();
     }
 
     /// The templates by name.

@@ -1,8 +1,10 @@
 //! What a render runs under.
 ghost use Rattle.std.specs.Prelude.{◌≡◌, [], ◌∷◌, IfErr, IfOk, length};
 ghost use Rattle.tm_state.specs.Answers.{KeepsFixed};
-ghost use Rattle.template_machine.specs.Environment.{IsOfTrees, meant, unknown_template};
+ghost use Rattle.template_machine.specs.Environment.{IsOfTrees, code, meant, unknown_template};
 ghost use Rattle.template_machine.specs.Renders.{first, meaning_from, value_meant, Evaluated, IsFresh, Ran};
+ghost use Rattle.template_machine.specs.Renders.{SoundRecords, StreamRan};
+ghost use Rattle.tm_shapes.specs.Verified.{IsAccepted};
 ghost use Rattle.template_machine.specs.TemplateRef.{entry_id, own_template};
 ghost use Rattle.tm_values.specs.Answer.{OkOrOutOfMemory};
 ghost use Rattle.tm_vm.specs.Answers.{NoFewer};
@@ -143,6 +145,14 @@ impl<'env, O: Drop> Rendering<'env, O> {
             .unwrap_or(own)
     }
 
+    /// All that it can run is accepted; this takes no step.
+    fn accepted(&self)
+        ensures { (stream : _) → IsAccepted (code self.now stream) }
+    {
+        self.environment.accepted();
+        self.own.compiled().accepted();
+    }
+
     /// What the template is in its environment. OutOfMemory where the owners of a name can't be counted.
     fn id(&self) -> Result<TemplateId, Error>
         ensures ok { IfOk result (λ id. id ≡ self.now.id) }
@@ -199,6 +209,9 @@ impl<O: Parties> Rendering<'_, O> {
         ensures ran { IsOfTrees self.now →
             Ran (meaning_from O.stated self.now state.old) result state.new captures
             (W.written writer.old) (W.written writer.new) (W.failures writer.old) (W.failures writer.new) }
+        ensures streams { SoundRecords self.now state.old →
+            StreamRan O.stated self.now state.old result state.new captures
+            (W.written writer.old) (W.written writer.new) (W.failures writer.old) (W.failures writer.new) }
         ensures closed { IfOk result (λ new. length new ≡ length captures) }
         ensures no_fewer { NoFewer state.old state.new }
         ensures kept { KeepsFixed state.old state.new }
@@ -208,6 +221,7 @@ impl<O: Parties> Rendering<'_, O> {
             Ok(stream) => stream,
             Err(_error) => return Err(Halt::Fault(Error::from(ErrorKind::OutOfMemory))),
         };
+        self.accepted();
         let mut machine = Machine::new(alloc, stream, captures, state.take(alloc));
         let result = machine.run(alloc, self, true, writer);
         let (captures, left) = machine.into_parts();

@@ -6,6 +6,7 @@ ghost use Rattle.tm_meaning.specs.World.{root_of};
 ghost use Rattle.template_machine.specs.TemplateRef.{entry_id, held_id, held_template, IsHeldOf};
 ghost use Rattle.template_machine.specs.Environment.{IsOfTrees, meant};
 ghost use Rattle.template_machine.specs.Renders.{first, greatest, idle, meaning, meaning_from};
+ghost use Rattle.template_machine.specs.Renders.{SoundRecords, StreamCaptured, StreamRan, StreamState, StreamText, Streamed};
 ghost use Rattle.template_machine.specs.Renders.{IsCapturedRun, IsFresh, Ran, Rendered, RenderedCaptured, RenderedText};
 
 use crate::environment::{BoxedObjects, EnvironmentOf};
@@ -161,6 +162,8 @@ impl<'env, 'source, O: Parties> TemplateOf<'env, 'source, O> {
         ensures next { ids.old < greatest → ids.new ≡ ids.old + 1 }
         ensures rendered { ids.old < greatest → IsOfTrees self.now →
             RenderedText (meaning O.stated self.now ids.old context) result }
+        ensures streams { ids.old < greatest →
+            StreamText O.stated self.now (first O.stated self.now ids.old context) result }
     {
         let mut state = self.first_state(ids, context)?;
         self.run_in_capture(&mut state)
@@ -177,6 +180,8 @@ impl<'env, 'source, O: Parties> TemplateOf<'env, 'source, O> {
         ensures next { ids.old < greatest → ids.new ≡ ids.old + 1 }
         ensures rendered { ids.old < greatest → IsOfTrees self.now →
             RenderedCaptured self.now (meaning O.stated self.now ids.old context) result }
+        ensures streams { ids.old < greatest →
+            StreamState O.stated self.now (first O.stated self.now ids.old context) result }
     {
         let mut state = self.first_state(ids, context)?;
         let text = self.run_in_capture(&mut state)?;
@@ -199,6 +204,9 @@ impl<'env, 'source, O: Parties> TemplateOf<'env, 'source, O> {
         ensures next { ids.old < greatest → ids.new ≡ ids.old + 1 }
         ensures rendered { ids.old < greatest → IsOfTrees self.now →
             Rendered self.now (meaning O.stated self.now ids.old context) result
+            (W.written writer.old) (W.written writer.new) (W.failures writer.old) (W.failures writer.new) }
+        ensures streams { ids.old < greatest →
+            Streamed O.stated self.now (first O.stated self.now ids.old context) result
             (W.written writer.old) (W.written writer.new) (W.failures writer.old) (W.failures writer.new) }
     {
         let mut first = self.first_state(ids, context)?;
@@ -236,8 +244,10 @@ impl<'env, 'source, O: Parties> TemplateOf<'env, 'source, O> {
 
     /// Runs the stream that a state names in a capture, and gives its text.
     fn run_in_capture(&self, state: &mut StateData) -> Result<String, Error>
-        ensures { IsOfTrees self.now →
+        ensures captured { IsOfTrees self.now →
             IsCapturedRun result (meaning_from O.stated self.now state.old) state.new }
+        ensures streams { SoundRecords self.now state.old →
+            StreamCaptured O.stated self.now state.old result state.new }
     {
         let alloc = self.environment.allocator();
         let mut captures = Captures::new(alloc);
@@ -259,6 +269,9 @@ impl<'env, 'source, O: Parties> TemplateOf<'env, 'source, O> {
         requires { IsFresh captures }
         ensures ran { IsOfTrees self.now →
             Ran (meaning_from O.stated self.now state.old) result state.new captures
+            (W.written writer.old) (W.written writer.new) (W.failures writer.old) (W.failures writer.new) }
+        ensures streams { SoundRecords self.now state.old →
+            StreamRan O.stated self.now state.old result state.new captures
             (W.written writer.old) (W.written writer.new) (W.failures writer.old) (W.failures writer.new) }
         ensures closed { IfOk result (λ new. length new ≡ length captures) }
     {

@@ -2,8 +2,9 @@ use Rattle.std.proofs.Common.{◌≡◌, ◌∙◌, ap, length, refl, sym}
 use Rattle.tm_meaning.specs.Machine.{Config, run_from, running}
 use Rattle.tm_meaning.specs.Memory.{is_want_of_memory}
 use Rattle.tm_output.specs.Pieces.{beginning_nothing}
-use Rattle.template_machine.specs.Renders.{run_by_memory}
+use Rattle.template_machine.specs.Renders.{run_by_memory, stream_by_memory}
 use Rattle.template_machine.proofs.Runs.{over_closed, over_done, over_halted}
+use Rattle.template_machine.proofs.StreamRuns.{streams_done, streams_halted}
 use Rattle.template_machine.proofs.rendering.Rendering.run.Goals as goal
 
 -- no memory for the stream's name
@@ -49,3 +50,35 @@ returns-in-Ok-result-clause-closed g c =
     ∙ over_closed g.O.Parties.stated c.args.self.now ks left.captures old left.world (g.W.Sink.written c.args.writer.now)
     (g.W.Sink.written c.run-result.new.writer) (g.W.Sink.failures c.args.writer.now) (g.W.Sink.failures c.run-result.new.writer)
     c.new-machine.result begins c.requires left.run.operands c.in-Ok-result.ensures.ended
+
+-- ---------------------------------------------------------------- of streams
+pub returns-in-Err-clause-streams : goal.returns-in-Err-clause-streams
+returns-in-Err-clause-streams g c = λ sound.
+    stream_by_memory c.from.result refl (ap is_want_of_memory c.from.ensures) (λ o leads. beginning_nothing _ _) refl
+
+pub returns-in-Ok-result-clause-streams : goal.returns-in-Ok-result-clause-streams
+returns-in-Ok-result-clause-streams g c = λ sound.
+    let old = c.args.state.now in
+    let ks = c.args.captures in
+    let begins : c.new-machine.result ≡ running (run_from old.stream (length ks)) ks old =
+    c.new-machine.ensures ∙ ap (λ s. running (run_from s (length ks)) ks c.take.result) (c.in-Ok.ensures ∙ c.stream.ensures)
+    ∙ ap (λ w. running (run_from old.stream (length ks)) ks w) c.take.ensures.taken in
+    let left : Config = c.run-result.new.self in
+    streams_done g.O.Parties.stated c.args.self.now c.accepted.ensures ks old left.world sound (g.W.Sink.written c.args.writer.now)
+    (g.W.Sink.written c.run-result.new.writer) (g.W.Sink.failures c.args.writer.now) (g.W.Sink.failures c.run-result.new.writer)
+    c.new-machine.result begins left.run.operands left.captures c.into_parts-captures.result.0 c.into_parts-captures.result.1
+    (sym c.into_parts-captures.ensures.captures) (sym c.into_parts-captures.ensures.state) c.in-Ok-result.ensures.ended
+    c.in-Ok-result.ensures.failures
+
+pub returns-in-Err-result-clause-streams : goal.returns-in-Err-result-clause-streams
+returns-in-Err-result-clause-streams g c = λ sound.
+    let old = c.args.state.now in
+    let ks = c.args.captures in
+    let begins : c.new-machine.result ≡ running (run_from old.stream (length ks)) ks old =
+    c.new-machine.ensures ∙ ap (λ s. running (run_from s (length ks)) ks c.take.result) (c.in-Ok.ensures ∙ c.stream.ensures)
+    ∙ ap (λ w. running (run_from old.stream (length ks)) ks w) c.take.ensures.taken in
+    let left : Config = c.run-result.new.self in
+    streams_halted g.O.Parties.stated c.args.self.now c.accepted.ensures ks old left.world sound (g.W.Sink.written c.args.writer.now)
+    (g.W.Sink.written c.run-result.new.writer) (g.W.Sink.failures c.args.writer.now) (g.W.Sink.failures c.run-result.new.writer)
+    c.new-machine.result begins c.in-Err-result.halt c.into_parts-captures.result.1 (sym c.into_parts-captures.ensures.state)
+    c.in-Err-result.ensures.ended c.in-Err-result.ensures.beginning c.in-Err-result.ensures.failures
