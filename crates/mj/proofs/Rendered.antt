@@ -28,7 +28,7 @@ use Rattle.mj.proofs.Added.{added_of_trees}
 use Rattle.template_machine.specs.Renders.{CapturedValue, StateValue, answer_by, greatest, meaning, Rendered, as_meant, by_writer}
 use Rattle.template_machine.specs.Renders.{by_memory}
 use Rattle.mj_words.specs.CommandLine.{Text, ArgumentsValue}
-use Rattle.mj.specs.Program.{Input, context_of, limit_of, Means, IsMeant, IsRendered, IsBegun, IsFault, no_memory, AreAdded, SpellNone}
+use Rattle.mj.specs.Program.{Input, context_of, limit_of, meaning_of, Means, IsMeant, IsRendered, IsBegun, IsFault, no_memory, AreAdded, SpellNone}
 use Rattle.mj.specs.Program.{own_objects, write_failed, flush_failed, no_tree, meant}
 
 -- Objects of which nothing but this is stated: a template means what it means where there are none.
@@ -107,16 +107,14 @@ module _ {C M F R J : Type 0} where
       subst (λ (e : EnvironmentValue (Parts C M F R J)). find a.file e.templates ≡ Some found.template) whole there in
       let of_trees : AreOfTrees templates = added_of_trees default_syntax escape_by_name i.sources [] templates added_all tt in
       let templates_are : found.environment.templates ≡ templates =
-      ap (λ (e : EnvironmentValue (Parts C M F R J)). e.templates) (same ∙ whole) in (
+      ap (λ (e : EnvironmentValue (Parts C M F R J)). e.templates) (same ∙ whole) in
+      let means : meaning (λ _. fs) found 0 context ≡ meaning_of i templates found.template =
+      ap (λ (v : TemplateValue (Parts C M F R J)). meaning (λ _. fs) v 0 context) alone
+      ∙ (ap (λ v. meaning (λ _. fs) (among a templates found.template) 0 v) given
+      ∙ means_same {O = Parts C M F R J} {P = StatedObjects} fs own_objects first_objects own_objects a.file
+      templates a.fuel (limit_of a.limit) found.template 0 (context_of i.members a.texts) (none objects)) in (
         (find_all IsOfTree a.file templates found.template of_trees found_there, subst AreOfTrees (sym templates_are) of_trees),
-        templates,
-        found.template,
-        added_all,
-        found_there,
-        ap (λ (v : TemplateValue (Parts C M F R J)). meaning (λ _. fs) v 0 context) alone
-            ∙ (ap (λ v. meaning (λ _. fs) (among a templates found.template) 0 v) given
-            ∙ means_same {O = Parts C M F R J} {P = StatedObjects} fs own_objects first_objects own_objects a.file
-            templates a.fuel (limit_of a.limit) found.template 0 (context_of i.members a.texts) (none objects)),
+        (templates, found.template, added_all, found_there, means),
       )
 
   -- The same of what the objects of the environment state.

@@ -43,7 +43,7 @@ value_none (fault chain) w left us is us_is many = absurd (cc is)
 
 -- ---------------------------------------------------------------- answers
 -- the answer of what makes maps
-mapped : (stated : Answer Val) (left : World) (result : Result Val (List ErrorKind)) → IsAnswer result stated →
+pub mapped : (stated : Answer Val) (left : World) (result : Result Val (List ErrorKind)) → IsAnswer result stated →
     Evaluated (answered stated left) result
 mapped stated left (Ok v) is = value_as_meant (left, ap (λ x. answered x left) is)
 mapped stated left (Err chain) is = by_kind (is_want_of_memory chain) refl

@@ -11,3 +11,4 @@ mod Walked
 mod Expected
 pub mod CallLists
 pub mod StreamRuns
+pub mod StreamValues

@@ -95,6 +95,14 @@ module _ {O : Type 0} (stated : O → StatedObjects) (t : TemplateValue O) (acce
       subst (λ ks. StreamRan stated t w (Ok ks) put captures told now failures count) is
       (subst (λ x. StreamRan stated t w (Ok new) x captures told now failures count) there (run_done us new comes counted))
 
+  ended_from : (us : List Val) (new : List Capture) → From (running (run_from w.stream (length captures)) captures w) (Finished us new left) →
+      (text : List ℕ) × StreamEnds stated t captures w text (Finished us new left)
+  ended_from us new (text, appended, leads) = (text, leads)
+
+  pub streams_end : (us : List Val) (new : List Capture) → From config (Finished us new left) →
+      (text : List ℕ) × StreamEnds stated t captures w text (Finished us new left)
+  streams_end us new comes = ended_from us new (from_start (Finished us new left) comes)
+
   begun_from : WroteBeginning p (base_of true config.captures config.world) (step p (base_of true config.captures config.world) config) told now →
       StreamBegins stated t captures w told now
   begun_from begun =

@@ -334,3 +334,18 @@ pub data Streamed {O : Type 0} (stated : O → StatedObjects) (t : TemplateValue
       Streamed stated t w result told now failures count
   streamed_by_memory : IsMemory result → StreamBegins stated t [] w told now → count ≡ failures →
       Streamed stated t w result told now failures count
+
+-- the one operand that an expression's stream leaves; where it leaves none or several, InvalidOperation
+abbrev pub value_at : List Val → World → Res Val
+value_at (v ∷ []) w = Good v w
+value_at vs w = Bad (InvalidOperation ∷ []) w
+
+-- The answer is the value at the end, with its namespaces as maps, or a fault.
+abbrev pub IsStreamValue : Result Val (List ErrorKind) → (End → Type 0) → Type 0
+IsStreamValue result Ends =
+    ((vs : List Val) × (new : List Capture) × (left : World) × Ends (Finished vs new left) × IsValue result (maps_in (value_at vs left)))
+    ⊎ ((chain : List ErrorKind) × (left : World) × Ends (Failed chain left) × (result ≡ Err chain))
+
+-- How the evaluation of a stream ended.
+abbrev pub StreamValue : {O : Type 0} → (O → StatedObjects) → TemplateValue O → World → Result Val (List ErrorKind) → Type 0
+StreamValue stated t w result = IsMemory result ⊎ ((text : List ℕ) × IsStreamValue result (StreamEnds stated t [] w text))

@@ -4,7 +4,7 @@ ghost use Rattle.std.specs.Prelude.{◌≡◌, ◌+◌, ◌<◌, [], ◌∷◌, 
 ghost use Rattle.tm_meaning.specs.declared.stream.TemplateId.TheVariants.{Own};
 ghost use Rattle.tm_templates.specs.Templates.{undeclared_by};
 ghost use Rattle.template_machine.specs.Environment.{IsOfTrees};
-ghost use Rattle.template_machine.specs.Renders.{first, greatest, value_meant, Evaluated};
+ghost use Rattle.template_machine.specs.Renders.{first, greatest, value_meant, Evaluated, StreamValue};
 
 use crate::environment::{BoxedObjects, EnvironmentOf};
 use crate::ids::StateIds;
@@ -93,6 +93,8 @@ impl<'env, 'source, O: Parties> ExpressionOf<'env, 'source, O> {
         ensures next { ids.old < greatest → ids.new ≡ ids.old + 1 }
         ensures evaluated { ids.old < greatest → IsOfTrees self.now →
             Evaluated (value_meant O.stated self.now (first O.stated self.now ids.old context)) result }
+        ensures streams { ids.old < greatest →
+            StreamValue O.stated self.now (first O.stated self.now ids.old context) result }
     {
         let id = ids.next()?;
         let own = OwnTemplate::Lent(&*self.compiled);

@@ -3,7 +3,7 @@ ghost use Rattle.std.specs.Prelude.{◌≡◌, [], ◌∷◌, IfErr, IfOk, lengt
 ghost use Rattle.tm_state.specs.Answers.{KeepsFixed};
 ghost use Rattle.template_machine.specs.Environment.{IsOfTrees, code, meant, unknown_template};
 ghost use Rattle.template_machine.specs.Renders.{first, meaning_from, value_meant, Evaluated, IsFresh, Ran};
-ghost use Rattle.template_machine.specs.Renders.{SoundRecords, StreamRan};
+ghost use Rattle.template_machine.specs.Renders.{SoundRecords, StreamRan, StreamValue};
 ghost use Rattle.tm_shapes.specs.Verified.{IsAccepted};
 ghost use Rattle.template_machine.specs.TemplateRef.{entry_id, own_template};
 ghost use Rattle.tm_values.specs.Answer.{OkOrOutOfMemory};
@@ -234,10 +234,14 @@ impl<O: Parties> Rendering<'_, O> {
 
     /// The value of the expression whose stream a state names, with its namespaces as maps. The state is left as the run leaves it.
     pub(crate) fn evaluate(&self, state: &mut StateData) -> Result<Value, Error>
-        ensures { IsOfTrees self.now → Evaluated (value_meant O.stated self.now state.old) result }
+        ensures evaluated { IsOfTrees self.now →
+            Evaluated (value_meant O.stated self.now state.old) result }
+        ensures streams { SoundRecords self.now state.old →
+            StreamValue O.stated self.now state.old result }
     {
         let alloc = self.allocator();
         let stream = state.stream().share()?;
+        self.accepted();
         let mut machine = Machine::new(alloc, stream, Captures::new(alloc), state.take(alloc));
         let result = machine.run(alloc, self, true, &mut NullWriter);
         let (value, left) = machine.into_value();

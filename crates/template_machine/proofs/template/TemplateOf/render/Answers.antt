@@ -24,6 +24,8 @@ returns-clause-streams g c = λ h.
 
 pub returns-in_err-state-clause-streams : goal.returns-in_err-state-clause-streams
 returns-in_err-state-clause-streams g c = λ h.
-    let w : World = first g.O.Parties.stated c.args.self.now c.args.ids.now c.args.context in
-    (w, passed c.from_residual.result (λ r. StreamCaptured g.O.Parties.stated c.args.self.now w r w) c.in_err-state.field-0.0
-    c.from_residual.ensures.1 (inl (ap is_want_of_memory (c.in_err-state.ensures.memory h))))
+    let w : World = first g.O.Parties.stated c.args.self.now c.args.ids.now c.args.context in (
+      w,
+      passed c.from_residual.result (λ r. StreamCaptured g.O.Parties.stated c.args.self.now w r w) c.in_err-state.field-0.0
+          c.from_residual.ensures.1 (inl (ap is_want_of_memory (c.in_err-state.ensures.memory h))),
+    )
