@@ -9,3 +9,5 @@ mod host_streams;
 mod library;
 #[cfg(test)]
 mod library_parts;
+#[cfg(test)]
+mod random_streams;
