@@ -180,7 +180,7 @@ fn accepted<P: Parties>(
     environment: &EnvironmentOf<'_, P>,
 ) -> Result<Option<usize>, Error> {
     let mut dice = Dice { seed: 20 };
-    let mut count = 0;
+    let mut count: usize = 0;
     for _ in 0..STREAMS {
         let form = if dice.roll(4) == 0 {
             Form::Expression
@@ -193,7 +193,7 @@ fn accepted<P: Parties>(
             if !runs(alloc, environment, verified, as_block)? {
                 return Ok(None);
             }
-            count += 1;
+            count = count.wrapping_add(1);
         }
     }
     Ok(Some(count))
