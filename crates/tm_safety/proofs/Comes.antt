@@ -282,6 +282,11 @@ further_comes (suc left) n host (further.Block b) w = deeper_block_comes (suc n)
 depths_come : (host : HostValue) (w : World) → MakesComes (by_depths host w)
 depths_come host w = further_comes (depths_left host w) 0 host
 
+-- what the value of a name is asked for, as a function
+pub function_named_comes : (host : HostValue) (x : List ℕ) (args : List Val) (w : World) →
+    Comes w (Rattle.tm_meaning.specs.Calls.named_call (by_depths host w) 0 host x args w)
+function_named_comes host x args w = named_call_comes (by_depths host w) 0 host (depths_come host w) x args w
+
 value_comes : (host : HostValue) (v : Val) (args : List Val) (w : World) → Comes w (call_value host v args w)
 value_comes host v args w = value_call_comes (by_depths host w) 0 host (depths_come host w) v args w
 
@@ -347,14 +352,18 @@ truth_comes w (refused chain w1) h = h
 truth_comes w (runs c w1) h = record { ids = h.ids; stream = h.stream; marks = h.marks; back = h.back }
 truth_comes w (recurs n items w1) h = h
 
-test_comes : (host : HostValue) (x : List ℕ) (args : List Val) (w : World) → Comes w (perform_test host x args w)
+pub test_comes : (host : HostValue) (x : List ℕ) (args : List Val) (w : World) → Comes w (perform_test host x args w)
 test_comes host x args w =
     truth_comes w _ (named_object_comes host (by_depths host w) (depths_come host w) (find x host.tests) UnknownTest args w)
 
+pub filter_comes : (host : HostValue) (x : List ℕ) (args : List Val) (w : World) →
+    Comes w (apply_filter host x args w)
+filter_comes host x args w =
+    named_object_comes host (by_depths host w) (depths_come host w) (find x host.filters) UnknownFilter args w
+
 pub applied_comes : (host : HostValue) (k : Application) (x : List ℕ) (vs : List Val) (w : World) → Comes w (applied host k x vs w)
 applied_comes host applications.Method x vs w = first_value_comes host x vs w
-applied_comes host applications.Filter x vs w =
-    named_object_comes host (by_depths host w) (depths_come host w) (find x host.filters) UnknownFilter vs w
+applied_comes host applications.Filter x vs w = filter_comes host x vs w
 applied_comes host applications.Test x vs w = test_comes host x vs w
 applied_comes host applications.NegatedTest x vs w = test_comes host x vs w
 

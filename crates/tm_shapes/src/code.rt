@@ -154,7 +154,8 @@ impl Verified {
         }
     }
 
-    /// These instructions, which are accepted: so by proof that nothing is tested. AllocError when out of memory.
+    /// These instructions. That they are accepted is proved where this is called, so nothing is tested here.
+    /// AllocError when out of memory.
     pub fn new(
         alloc: Global,
         instructions: Items<Instruction>,
@@ -185,6 +186,14 @@ impl Verified {
         ensures { result.now ≡ self.now }
     {
         self.instructions.as_slice()
+    }
+
+    /// The instructions, for one who changes them: what comes of that is verified anew.
+    pub fn into_instructions(self) -> Vec<Instruction>
+        ensures { result.items ≡ self }
+    {
+        let Verified { instructions, .. } = self;
+        instructions.into_vec()
     }
 
     /// How many loops begin before a place: the number of the loop that begins there.
