@@ -10,6 +10,7 @@ use crate::kind::Form;
 use std::alloc::{AllocError, Global};
 use std::collections::BTreeMap;
 use std::marker::Model;
+use std::mem;
 use tm_items::Items;
 use tm_syntax::{Instruction, LoopPlace};
 use tm_values::{Node, Value};
@@ -189,11 +190,13 @@ impl Verified {
     }
 
     /// The instructions, for one who changes them: what comes of that is verified anew.
-    pub fn into_instructions(self) -> Vec<Instruction>
+    pub fn into_instructions(mut self, alloc: Global) -> Vec<Instruction>
         ensures { result.items ≡ self }
     {
-        let Verified { instructions, .. } = self;
-        instructions.into_vec()
+        self.form = Form::Template;
+        self.loops.clear();
+        self.macros.clear();
+        mem::replace(&mut self.instructions, Items::new(alloc)).into_vec()
     }
 
     /// How many loops begin before a place: the number of the loop that begins there.
