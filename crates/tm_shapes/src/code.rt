@@ -10,7 +10,6 @@ use crate::kind::Form;
 use std::alloc::{AllocError, Global};
 use std::collections::BTreeMap;
 use std::marker::Model;
-use std::mem;
 use tm_items::Items;
 use tm_syntax::{Instruction, LoopPlace};
 use tm_values::{Node, Value};
@@ -190,13 +189,16 @@ impl Verified {
     }
 
     /// The instructions, for one who changes them: what comes of that is verified anew.
-    pub fn into_instructions(mut self, alloc: Global) -> Vec<Instruction>
+    pub fn into_instructions(self) -> Vec<Instruction>
         ensures { result.items ≡ self }
     {
-        self.form = Form::Template;
-        self.loops.clear();
-        self.macros.clear();
-        mem::replace(&mut self.instructions, Items::new(alloc)).into_vec()
+        let Verified {
+            form: _form,
+            instructions,
+            loops: _loops,
+            macros: _macros,
+        } = self;
+        instructions.into_vec()
     }
 
     /// How many loops begin before a place: the number of the loop that begins there.
