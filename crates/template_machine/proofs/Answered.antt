@@ -25,7 +25,7 @@ use Rattle.tm_vm.specs.Answers.{HaltsAs, ReachesEnd}
 use Rattle.tm_vm.specs.Nested.{WroteBeginning}
 use Rattle.template_machine.specs.Environment.{TemplateValue}
 use Rattle.template_machine.specs.Renders.{CapturedValue, StateValue, IsCapturedRun, RenderedCaptured, captured_as_meant, captured_by_memory}
-use Rattle.template_machine.specs.Renders.{answer_by, answer_of, IsFresh, Ran, run_as_meant, run_by_writer, run_by_memory}
+use Rattle.template_machine.specs.Renders.{answer_by, answer_of, is_cut, IsFresh, Ran, run_as_meant, run_by_writer, run_by_memory}
 use Rattle.template_machine.specs.Renders.{Rendered, as_meant, by_writer, by_memory, RenderedText, text_as_meant, text_by_memory}
 use Rattle.template_machine.specs.Renders.{BlockWritten, block_as_meant, block_by_writer, block_by_memory}
 
@@ -155,30 +155,32 @@ module _ (p : Program) (trees : Trees) (compiled : IsCompiled trees p) (captures
   run_leaves us fresh (text, appended, reaches) =
       operands_are m.ending us captures new text m.text left m.world (one_end reaches (reached fresh))
 
-  pub run_halted : (why : Halt) → IsFresh captures → HaltsAs why left ComesTo →
+  -- a run that was cut short may leave any world
+  pub run_halted : (why : Halt) (put : World) → (is_cut why ≡ false → left ≡ put) → IsFresh captures → HaltsAs why left ComesTo →
       WroteBeginning p (base_of true captures w)
       (step p (base_of true captures w) (running (run_from w.stream (length captures)) captures w)) told now →
-      count ≡ failures_after {A = Unit {0}} (Err why) failures → Ran m (Err why) left captures told now failures count
-  run_halted why fresh ends begun counted = by_halt why ends counted
+      count ≡ failures_after {A = Unit {0}} (Err why) failures → Ran m (Err why) put captures told now failures count
+  run_halted why put there fresh ends begun counted = by_halt why there ends counted
     where
       part : AppendsBeginning told now (put_out captures m.text)
       part = begun _ (reached fresh)
 
-      by_chain : (b : Bool) (chain : List ErrorKind) → is_want_of_memory chain ≡ b →
+      by_chain : (b : Bool) (chain : List ErrorKind) → is_want_of_memory chain ≡ b → (is_want_of_memory chain ≡ false → left ≡ put) →
           (is_want_of_memory chain ≡ false → ComesTo (Failed chain left)) → count ≡ failures →
-          Ran m (Err (halt.Fault chain)) left captures told now failures count
-      by_chain true chain memory ends counted = run_by_memory chain refl memory part counted
-      by_chain false chain own ends counted =
+          Ran m (Err (halt.Fault chain)) put captures told now failures count
+      by_chain true chain memory there ends counted = run_by_memory chain refl memory part counted
+      by_chain false chain own there ends counted =
           let came = ends own in
           let same = failed_is m.ending captures came.0 m.text left m.world chain (one_end came.2 (reached fresh)) in
-          run_as_meant same.1 (written came.0 same.0 came.1) counted
+          subst (λ x. Ran m (Err (halt.Fault chain)) x captures told now failures count) (there own)
+          (run_as_meant same.1 (written came.0 same.0 came.1) counted)
 
-      by_halt : (why : Halt) → HaltsAs why left ComesTo → count ≡ failures_after {A = Unit {0}} (Err why) failures →
-          Ran m (Err why) left captures told now failures count
-      by_halt halt.Writer ends counted = run_by_writer refl part counted
-      by_halt halt.Stuck (text, appended, reaches) counted = absurd
+      by_halt : (why : Halt) → (is_cut why ≡ false → left ≡ put) → HaltsAs why left ComesTo →
+          count ≡ failures_after {A = Unit {0}} (Err why) failures → Ran m (Err why) put captures told now failures count
+      by_halt halt.Writer there ends counted = run_by_writer refl part counted
+      by_halt halt.Stuck there (text, appended, reaches) counted = absurd
           (not_stuck m.ending captures text m.text left m.world (one_end reaches (reached fresh)))
-      by_halt (halt.Fault chain) ends counted = by_chain (is_want_of_memory chain) chain refl ends counted
+      by_halt (halt.Fault chain) there ends counted = by_chain (is_want_of_memory chain) chain refl there ends counted
 
 -- ---------------------------------------------------------------- what a run that failed is to its caller
 -- over no capture, into a writer

@@ -12,3 +12,5 @@ mod Expected
 pub mod CallLists
 pub mod StreamRuns
 pub mod StreamValues
+pub mod Sound
+pub mod StreamCalls

@@ -21,7 +21,7 @@ use Rattle.tm_safety.proofs.Ends.{run_ends_well}
 use Rattle.tm_templates.proofs.Streams.{of_source}
 use Rattle.template_machine.specs.Environment.{AreOfTrees, IsMadeIn, IsOfTrees, EnvironmentValue, TemplateValue, host_of, trees, code}
 use Rattle.template_machine.proofs.Meant.{trees_code}
-use Rattle.template_machine.specs.Renders.{answer_of, meaning, meaning_from, IsFresh, Ran, RenderedText, RenderedSource, source_rendered, IsUnnumbered}
+use Rattle.template_machine.specs.Renders.{answer_of, is_cut, meaning, meaning_from, IsFresh, Ran, RenderedText, RenderedSource, source_rendered, IsUnnumbered}
 use Rattle.template_machine.proofs.Answered.{run_answers, run_done, run_halted, run_leaves}
 
 module _ {O : Type 0} (stated : O → StatedObjects) (t : TemplateValue O) (captures new : List Capture) (w left : World)
@@ -54,16 +54,15 @@ module _ {O : Type 0} (stated : O → StatedObjects) (t : TemplateValue O) (capt
       run_answers p (trees t) (trees_code t of) captures new w left told now failures count us fresh
       (subst (λ (c : Config). ReachesEnd p (base_of true c.captures c.world) c told now (Finished us new left)) begins comes)
 
-  pub over_halted : IsOfTrees t → (why : Halt) (put : World) → left ≡ put →
+  pub over_halted : IsOfTrees t → (why : Halt) (put : World) → (is_cut why ≡ false → left ≡ put) →
       HaltsAs why left (ReachesEnd p (base_of true config.captures config.world) config told now) →
       WroteBeginning p (base_of true config.captures config.world) (step p (base_of true config.captures config.world) config) told now →
       count ≡ failures_after {A = Unit {0}} (Err why) failures → Ran m (Err why) put captures told now failures count
   over_halted of why put there ends begun counted =
-      subst (λ x. Ran m (Err why) x captures told now failures count) there
-      (run_halted p (trees t) (trees_code t of) captures new w left told now failures count why fresh
+      run_halted p (trees t) (trees_code t of) captures new w left told now failures count why put there fresh
       (subst (λ (c : Config). HaltsAs why left (ReachesEnd p (base_of true c.captures c.world) c told now)) begins ends)
       (subst (λ (c : Config). WroteBeginning p (base_of true c.captures c.world) (step p (base_of true c.captures c.world) c) told now)
-      begins begun) counted)
+      begins begun) counted
 
   -- it closed the captures that it opened
   pub over_closed : (us : List Val) →

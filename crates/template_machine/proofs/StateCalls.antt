@@ -32,7 +32,7 @@ use Rattle.tm_vm.proofs.Loop.{left_below, undone_is}
 use Rattle.tm_safety.proofs.Ends.{run_ends_well}
 use Rattle.template_machine.specs.Environment.{IsOfTrees, TemplateValue, code, host_of, trees}
 use Rattle.template_machine.proofs.Meant.{trees_code}
-use Rattle.template_machine.specs.Renders.{answer_by, answer_of, called_value, callee_run, IsMacroCall, IsCapturedRun, RanApart}
+use Rattle.template_machine.specs.Renders.{answer_by, answer_of, called_value, callee_run, is_cut, IsMacroCall, IsCapturedRun, RanApart}
 
 -- the captures of a run whose text is a value, and those after it
 abbrev one : List Capture
@@ -118,10 +118,10 @@ module _ {O : Type 0} (stated : O → StatedObjects) (t r : TemplateValue O) (sa
   abbrev Starts : TemplateValue O → List Capture → End → Type 0
   Starts v ks e = ComesTo (of v) (base_of true ks w) (begins (of v) (base_of true ks w) k ks w) told now e
 
-  of_first : (e : End) → Starts r captures e → Starts t one e
+  pub of_first : (e : End) → Starts r captures e → Starts t one e
   of_first e comes = subst (λ v. Starts v one e) same (subst (λ ks. Starts r ks e) fresh comes)
 
-  of_template : (config : Config) → config ≡ running config.run captures w → first_run (of r) k (length captures) ≡ Some config.run →
+  pub of_template : (config : Config) → config ≡ running config.run captures w → first_run (of r) k (length captures) ≡ Some config.run →
       (e : End) → Comes r config e → Starts t one e
   of_template config at there e comes =
       let p = of r in
@@ -138,11 +138,13 @@ module _ {O : Type 0} (stated : O → StatedObjects) (t r : TemplateValue O) (sa
       (subst (λ x. RanApart (Ok new) (callee_run stated t k w) x) there
       (run_done stated t by_trees k w left told now us new (of_template config at first (Finished us new left) comes)))
 
-  by_halt : IsOfTrees t → (why : Halt) → 0 ≡ failures_after {A = Unit {0}} (Err why) 0 → HaltsAs why left (Starts t one) →
-      RanApart (Err why) (callee_run stated t k w) left
-  by_halt by_trees halt.Writer counted ends = absurd (cc counted)
-  by_halt by_trees halt.Stuck counted ends = run_stuck stated t by_trees k w left told now ends
-  by_halt by_trees (halt.Fault chain) counted ends = λ m. run_failed stated t by_trees k w left told now chain (ends m)
+  by_halt : IsOfTrees t → (why : Halt) (put : World) → (is_cut why ≡ false → left ≡ put) → 0 ≡ failures_after {A = Unit {0}} (Err why) 0 →
+      HaltsAs why left (Starts t one) → RanApart (Err why) (callee_run stated t k w) put
+  by_halt by_trees halt.Writer put there counted ends = absurd (cc counted)
+  by_halt by_trees halt.Stuck put there counted ends = run_stuck stated t by_trees k w left told now ends
+  by_halt by_trees (halt.Fault chain) put there counted ends = λ own.
+      subst (λ x. ((callee_run stated t k w).ending ≡ fault chain) × ((callee_run stated t k w).world ≡ x)) (there own)
+      (run_failed stated t by_trees k w left told now chain (ends own))
 
   halted_there : (config : Config) → config ≡ running config.run captures w → first_run (of r) k (length captures) ≡ Some config.run →
       (why : Halt) → HaltsAs why left (Comes r config) → HaltsAs why left (Starts t one)
@@ -150,11 +152,12 @@ module _ {O : Type 0} (stated : O → StatedObjects) (t r : TemplateValue O) (sa
   halted_there config at first halt.Stuck ends = of_template config at first (Stuck left) ends
   halted_there config at first (halt.Fault chain) ends = λ own. of_template config at first (Failed chain left) (ends own)
 
+  -- a run that was cut short may leave any world
   pub over_halted : IsOfTrees t → (config : Config) → config ≡ running config.run captures w → first_run (of r) k (length captures) ≡ Some config.run →
-      (why : Halt) (put : World) → left ≡ put → 0 ≡ failures_after {A = Unit {0}} (Err why) 0 →
+      (why : Halt) (put : World) → (is_cut why ≡ false → left ≡ put) → 0 ≡ failures_after {A = Unit {0}} (Err why) 0 →
       HaltsAs why left (Comes r config) → RanApart (Err why) (callee_run stated t k w) put
   over_halted by_trees config at first why put there counted ends =
-      subst (λ x. RanApart (Err why) (callee_run stated t k w) x) there (by_halt by_trees why counted (halted_there config at first why ends))
+      by_halt by_trees why put there counted (halted_there config at first why ends)
 
   -- it closed the captures that it opened
   pub over_closed : (config : Config) → config ≡ running config.run captures w → first_run (of r) k (length captures) ≡ Some config.run →

@@ -18,20 +18,19 @@ use Rattle.tm_output.specs.Counts.{saturating_increment}
 use Rattle.tm_parts.specs.Halts.{error_of, failures_after}
 use Rattle.tm_parts.specs.declared.halt.Halt.{Halt}
 use Rattle.tm_parts.specs.declared.halt.Halt.TheVariants as halt
-use Rattle.tm_shapes.specs.Shaped.{IsShaped}
-use Rattle.tm_shapes.specs.Shapes.{Shapes}
 use Rattle.tm_shapes.specs.Verified.{IsAccepted}
-use Rattle.tm_accepted.proofs.Accepted.{shaped}
-use Rattle.tm_safety.proofs.Never.{never_stuck}
+use Rattle.tm_safety.specs.Runs.{EndsIn}
 use Rattle.tm_tables.specs.Stated.{StatedObjects}
 use Rattle.tm_templates.specs.Templates.{AreAccepted, Compiled, EachAccepted}
 use Rattle.tm_templates.proofs.Accepted.{find_all}
 use Rattle.tm_vm.specs.Answers.{HaltsAs, ReachesEnd}
 use Rattle.tm_vm.specs.Nested.{WroteBeginning}
 use Rattle.template_machine.specs.Environment.{TemplateValue, code, meant}
-use Rattle.template_machine.specs.Renders.{CapturedValue, StateValue, IsMemory, IsStreamRun, IsStreamText, SoundRecords, StreamBegins, StreamCaptured, StreamEnds}
+use Rattle.template_machine.specs.Renders.{CapturedValue, StateValue, IsMemory, IsStreamEnd, IsStreamRun, IsStreamText, SoundRecords, StreamBegins}
+use Rattle.template_machine.specs.Renders.{StreamCaptured, StreamEnds, forgetting, is_cut}
 use Rattle.template_machine.specs.Renders.{StreamRan, stream_ran, stream_by_writer, stream_by_memory, StreamState, StreamText, Streamed, streamed}
 use Rattle.template_machine.specs.Renders.{streamed_by_writer, streamed_by_memory, program_of}
+use Rattle.template_machine.proofs.Sound.{never, sound_end, sound_left}
 
 -- ---------------------------------------------------------------- what can be run
 module _ {O : Type 0} (t : TemplateValue O) (each : EachAccepted t.environment.templates) (own : AreAccepted t.template) where
@@ -54,18 +53,6 @@ module _ {O : Type 0} (stated : O → StatedObjects) (t : TemplateValue O) (acce
   abbrev p : Program
   p = program_of stated t
 
-  found : (s : StreamId) → (shapes : Shapes) × IsShaped (code t s) shapes
-  found s = shaped (accepted s).0 (code t s) (accepted s).1
-
-  abbrev shapes : StreamId → Shapes
-  shapes s = (found s).0
-
-  abbrev all : (s : StreamId) → IsShaped (code t s) (shapes s)
-  all s = (found s).1
-
-  never : {A : Type 0} (text : List ℕ) → StreamEnds stated t captures w text (Stuck left) → A
-  never text leads = absurd (never_stuck p shapes all (whole w.stream) true captures [] text w left refl (sound shapes all) leads)
-
   abbrev From : Config → End → Type 0
   From c e = ReachesEnd p (base_of true c.captures c.world) c told now e
 
@@ -87,7 +74,7 @@ module _ {O : Type 0} (stated : O → StatedObjects) (t : TemplateValue O) (acce
   failed_from chain (text, appended, leads) counted = stream_ran text leads appended counted
 
   stuck_from : {A : Type 0} → From (running (run_from w.stream (length captures)) captures w) (Stuck left) → A
-  stuck_from (text, appended, leads) = never text leads
+  stuck_from (text, appended, leads) = never stated t (whole w.stream) captures w refl sound accepted text left leads
 
   pub streams_done : (us : List Val) (new kept : List Capture) (put : World) → new ≡ kept → left ≡ put → From config (Finished us new left) →
       count ≡ failures → StreamRan stated t w (Ok kept) put captures told now failures count
@@ -108,24 +95,52 @@ module _ {O : Type 0} (stated : O → StatedObjects) (t : TemplateValue O) (acce
   begun_from begun =
       subst (λ (c : Config). WroteBeginning p (base_of true c.captures c.world) (step p (base_of true c.captures c.world) c) told now) at begun
 
-  by_chain : (b : Bool) (chain : List ErrorKind) → is_want_of_memory chain ≡ b → StreamBegins stated t captures w told now →
-      (is_want_of_memory chain ≡ false → From config (Failed chain left)) → count ≡ failures → Came (Err (halt.Fault chain))
-  by_chain true chain memory part ends counted = stream_by_memory chain refl memory part counted
-  by_chain false chain own part ends counted = failed_from chain (from_start (Failed chain left) (ends own)) counted
+  -- a run that was cut short may leave any world
+  module _ (put : World) where
+    abbrev Put : Result (List Capture) Halt → Type 0
+    Put result = StreamRan stated t w result put captures told now failures count
 
-  halted : (why : Halt) → HaltsAs why left (From config) → StreamBegins stated t captures w told now →
-      count ≡ failures_after {A = Unit {0}} (Err why) failures → Came (Err why)
-  halted halt.Writer ends part counted = stream_by_writer refl part counted
-  halted halt.Stuck ends part counted = stuck_from (from_start (Stuck left) ends)
-  halted (halt.Fault chain) ends part counted = by_chain (is_want_of_memory chain) chain refl part ends counted
+    by_chain : (b : Bool) (chain : List ErrorKind) → is_want_of_memory chain ≡ b → (is_want_of_memory chain ≡ false → left ≡ put) →
+        StreamBegins stated t captures w told now → (is_want_of_memory chain ≡ false → From config (Failed chain left)) → count ≡ failures →
+        Put (Err (halt.Fault chain))
+    by_chain true chain memory there part ends counted = stream_by_memory chain refl memory part counted
+    by_chain false chain own there part ends counted =
+        subst (λ x. StreamRan stated t w (Err (halt.Fault chain)) x captures told now failures count) (there own)
+        (failed_from chain (from_start (Failed chain left) (ends own)) counted)
 
-  pub streams_halted : (why : Halt) (put : World) → left ≡ put → HaltsAs why left (From config) →
-      WroteBeginning p (base_of true config.captures config.world) (step p (base_of true config.captures config.world) config) told now →
-      count ≡ failures_after {A = Unit {0}} (Err why) failures → StreamRan stated t w (Err why) put captures told now failures count
-  streams_halted why put there ends begun counted =
-      subst (λ x. StreamRan stated t w (Err why) x captures told now failures count) there (halted why ends (begun_from begun) counted)
+    halted : (why : Halt) → (is_cut why ≡ false → left ≡ put) → HaltsAs why left (From config) → StreamBegins stated t captures w told now →
+        count ≡ failures_after {A = Unit {0}} (Err why) failures → Put (Err why)
+    halted halt.Writer there ends part counted = stream_by_writer refl part counted
+    halted halt.Stuck there ends part counted = stuck_from (from_start (Stuck left) ends)
+    halted (halt.Fault chain) there ends part counted = by_chain (is_want_of_memory chain) chain refl there part ends counted
+
+    pub streams_halted : (why : Halt) → (is_cut why ≡ false → left ≡ put) → HaltsAs why left (From config) →
+        WroteBeginning p (base_of true config.captures config.world) (step p (base_of true config.captures config.world) config) told now →
+        count ≡ failures_after {A = Unit {0}} (Err why) failures → Put (Err why)
+    streams_halted why there ends begun counted = halted why there ends (begun_from begun) counted
+
+  -- ---------------------------------------------------------------- its records
+  sound_from : (e : End) → From (running (run_from w.stream (length captures)) captures w) e → EndsIn (SoundRecords t) e
+  sound_from e (text, appended, leads) = sound_end stated t (whole w.stream) captures w refl sound text e leads
+
+  pub sound_done : (us : List Val) (new : List Capture) (put : World) → left ≡ put → From config (Finished us new left) → SoundRecords t put
+  sound_done us new put there comes =
+      subst (SoundRecords t) there (sound_from (Finished us new left) (from_start (Finished us new left) comes))
+
+  sound_by : (why : Halt) → HaltsAs why left (From config) → is_cut why ≡ false → SoundRecords t left
+  sound_by halt.Writer ends own = absurd (cc own)
+  sound_by halt.Stuck ends own = stuck_from (from_start (Stuck left) ends)
+  sound_by (halt.Fault chain) ends own = sound_from (Failed chain left) (from_start (Failed chain left) (ends own))
+
+  pub sound_halted : (why : Halt) (put : World) → put ≡ forgetting (is_cut why) left → HaltsAs why left (From config) → SoundRecords t put
+  sound_halted why put is ends = sound_left t (is_cut why) left put is (sound_by why ends)
 
 -- ---------------------------------------------------------------- what it is to its caller
+pub only : (new rest : List Capture) (k : Capture) → length new ≡ 1 → new ≡ k ∷ rest → new ≡ k ∷ []
+only [] rest k one is = absurd (cc one)
+only (j ∷ []) rest k one is = let same : j ≡ k = cc is in ap (λ x. x ∷ []) same
+only (j ∷ i ∷ js) rest k one is = absurd (cc one)
+
 module _ {O : Type 0} (stated : O → StatedObjects) (t : TemplateValue O) (w left : World) where
   abbrev In : Result (List Capture) Halt → List Capture → Option (List ℕ) → Option (List ℕ) → Type 0
   In result captures told now = StreamRan stated t w result left captures told now 0 0
@@ -144,11 +159,6 @@ module _ {O : Type 0} (stated : O → StatedObjects) (t : TemplateValue O) (w le
   captured_failed old is told now (halt.Fault kinds) (stream_by_writer e part counted) = absurd (cc e)
   captured_failed old is told now (halt.Fault kinds) (stream_by_memory chain e memory part counted) =
       let kind : kinds ≡ chain = cc e in inl (ap is_want_of_memory kind ∙ memory)
-
-  only : (new rest : List Capture) (k : Capture) → length new ≡ 1 → new ≡ k ∷ rest → new ≡ k ∷ []
-  only [] rest k one is = absurd (cc one)
-  only (j ∷ []) rest k one is = let same : j ≡ k = cc is in ap (λ x. x ∷ []) same
-  only (j ∷ i ∷ js) rest k one is = absurd (cc one)
 
   pub captured_done : (old : List Capture) → old ≡ new_capture true ∷ [] → (told now : Option (List ℕ)) (new rest : List Capture) (heard : Bool)
       (text : String Global) → length new ≡ 1 → new ≡ record { heard = heard; text = string_bytes text } ∷ rest → In (Ok new) old told now →
@@ -181,42 +191,45 @@ module _ {O : Type 0} (stated : O → StatedObjects) (t : TemplateValue O) (w le
   state_failed chain (inr (out, ends)) = inr (out, (left, ends))
 
 -- over no capture, into a writer
-module _ {O : Type 0} (stated : O → StatedObjects) (t : TemplateValue O) (w left : World) (old : List Capture) (none : old ≡ [])
-    (told now : Option (List ℕ)) (failures count : ℕ) where
+module _ {O A : Type 0} (stated : O → StatedObjects) (t : TemplateValue O) (w left : World) (old : List Capture) (none : old ≡ [])
+    (told now : Option (List ℕ)) (failures count : ℕ) (Says : Result A (List ErrorKind) → (End → Type 0) → Type 0) where
   abbrev Comes : Result (List Capture) Halt → Type 0
   Comes result = StreamRan stated t w result left old told now failures count
 
-  abbrev Answers : Result (CapturedValue (StateValue O)) (List ErrorKind) → Type 0
-  Answers result = Streamed stated t w result told now failures count
+  abbrev Answers : Result A (List ErrorKind) → Type 0
+  Answers result = Streamed stated t w result (Says result) told now failures count
 
   part_of : StreamBegins stated t old w told now → StreamBegins stated t [] w told now
   part_of part = subst (λ ks. StreamBegins stated t ks w told now) none part
 
-  pub into_failed : (why : Halt) → Comes (Err why) → Answers (Err (error_of why))
-  into_failed halt.Writer (stream_ran text ends appended counted) = absurd ends
-  into_failed halt.Writer (stream_by_writer e part counted) = streamed_by_writer refl (part_of part) counted
-  into_failed halt.Writer (stream_by_memory chain e memory part counted) = absurd (cc e)
-  into_failed halt.Stuck (stream_ran text ends appended counted) = absurd ends
-  into_failed halt.Stuck (stream_by_writer e part counted) = absurd (cc e)
-  into_failed halt.Stuck (stream_by_memory chain e memory part counted) = absurd (cc e)
-  into_failed (halt.Fault kinds) (stream_ran text ends appended counted) =
-      streamed text (left, subst (λ ks. StreamEnds stated t ks w text (Failed kinds left)) none ends) appended counted
-  into_failed (halt.Fault kinds) (stream_by_writer e part counted) = absurd (cc e)
-  into_failed (halt.Fault kinds) (stream_by_memory chain e memory part counted) =
+  pub into_failed : ((chain : List ErrorKind) (Ends : End → Type 0) → Ends (Failed chain left) → Says (Err chain) Ends) → (why : Halt) →
+      Comes (Err why) → Answers (Err (error_of why))
+  into_failed says halt.Writer (stream_ran text ends appended counted) = absurd ends
+  into_failed says halt.Writer (stream_by_writer e part counted) = streamed_by_writer refl (part_of part) counted
+  into_failed says halt.Writer (stream_by_memory chain e memory part counted) = absurd (cc e)
+  into_failed says halt.Stuck (stream_ran text ends appended counted) = absurd ends
+  into_failed says halt.Stuck (stream_by_writer e part counted) = absurd (cc e)
+  into_failed says halt.Stuck (stream_by_memory chain e memory part counted) = absurd (cc e)
+  into_failed says (halt.Fault kinds) (stream_ran text ends appended counted) =
+      streamed text (says kinds (StreamEnds stated t [] w text) (subst (λ ks. StreamEnds stated t ks w text (Failed kinds left)) none ends))
+      appended counted
+  into_failed says (halt.Fault kinds) (stream_by_writer e part counted) = absurd (cc e)
+  into_failed says (halt.Fault kinds) (stream_by_memory chain e memory part counted) =
       let kind : kinds ≡ chain = cc e in streamed_by_memory (ap is_want_of_memory kind ∙ memory) (part_of part) counted
 
-  pub into_done : (new : List Capture) (r : TemplateValue O) (s : StateValue O) (c : CapturedValue (StateValue O)) → r ≡ t →
-      s ≡ record { template = r; world = left } → c.output ≡ [] → c.state ≡ s → Comes (Ok new) → Answers (Ok c)
-  into_done new r s c r_is s_is output state (stream_ran text (us, ends) appended counted) =
-      let world : left ≡ c.state.world = sym (ap (λ (x : StateValue O). x.world) (state ∙ s_is)) in
-      let template : c.state.template ≡ t = ap (λ (x : StateValue O). x.template) (state ∙ s_is) ∙ r_is in
-      streamed text (
-        us,
-        new,
-        output,
-        template,
-        subst (λ x. StreamEnds stated t [] w text (Finished us new x)) world
-            (subst (λ ks. StreamEnds stated t ks w text (Finished us new left)) none ends),
-      ) appended counted
-  into_done new r s c r_is s_is output state (stream_by_writer e part counted) = absurd (cc e)
-  into_done new r s c r_is s_is output state (stream_by_memory chain e memory part counted) = absurd (cc e)
+  pub into_done : (new : List Capture) (a : A) → ((us : List Val) (Ends : End → Type 0) → Ends (Finished us new left) → Says (Ok a) Ends) →
+      Comes (Ok new) → Answers (Ok a)
+  into_done new a says (stream_ran text (us, ends) appended counted) =
+      streamed text (says us (StreamEnds stated t [] w text) (subst (λ ks. StreamEnds stated t ks w text (Finished us new left)) none ends))
+      appended counted
+  into_done new a says (stream_by_writer e part counted) = absurd (cc e)
+  into_done new a says (stream_by_memory chain e memory part counted) = absurd (cc e)
+
+-- the state with its world, and no text
+pub state_ended : {O : Type 0} (t r : TemplateValue O) (left : World) (new : List Capture) (s : StateValue O) (c : CapturedValue (StateValue O)) →
+    r ≡ t → s ≡ record { template = r; world = left } → c.output ≡ [] → c.state ≡ s → (us : List Val) (Ends : End → Type 0) →
+    Ends (Finished us new left) → IsStreamEnd t (Ok c) Ends
+state_ended t r left new s c r_is s_is output state us Ends ends =
+    let world : left ≡ c.state.world = sym (ap (λ x. x.world) (state ∙ s_is)) in
+    let template : c.state.template ≡ t = ap (λ x. x.template) (state ∙ s_is) ∙ r_is in
+    (us, new, output, template, subst (λ x. Ends (Finished us new x)) world ends)

@@ -10,7 +10,8 @@ use Rattle.tm_values.specs.declared.error.ErrorKind.{ErrorKind}
 use Rattle.tm_values.specs.declared.error.ErrorKind.TheVariants.{InvalidOperation, WriteFailure}
 use Rattle.tm_syntax.specs.Named.{put}
 use Rattle.tm_meaning.specs.World.{World, Res, Good, Bad, answered}
-use Rattle.tm_meaning.specs.Calls.{Asked, has, refused, runs, Callee, Undo, of_block, whole}
+use Rattle.tm_meaning.specs.Calls.{Asked, has, refused, recurs, runs, Callee, NestedCall, Undo, of_block, run_value, undone, whole, wrapped}
+use Rattle.tm_meaning.specs.Calls.{apply_filter, enter_block, perform_test}
 use Rattle.tm_tables.specs.Stated.{StatedObjects}
 use Rattle.tm_meaning.specs.declared.stream.StreamId.{StreamId}
 use Rattle.tm_meaning.specs.declared.stream.TemplateId.TheVariants.{Own}
@@ -20,7 +21,7 @@ use Rattle.tm_meaning.specs.Meaning.{Ending, fault, Outcome}
 use Rattle.tm_meaning.specs.Runs.{evaluated, first_world, nests_of, rendered, rendered_block}
 pub use Rattle.tm_simulation.specs.Called.{as_text, call_by_name, called, maps_in}
 use Rattle.tm_state.specs.Answers.{HasOneMore}
-use Rattle.tm_state.specs.State.{runs_block, saved_of, saved_scopes}
+use Rattle.tm_state.specs.State.{callee_of, runs_block, saved_of, saved_scopes}
 use Rattle.tm_state.specs.declared.saved.Saved.TheVariants as saved
 use Rattle.tm_state.specs.declared.calls.CallResult.{CallResult}
 use Rattle.tm_state.specs.declared.calls.CallResult.TheVariants as outcome
@@ -32,6 +33,7 @@ use Rattle.tm_templates.specs.Templates.{Compiled, IsRefused}
 use Rattle.tm_shapes.specs.Shaped.{IsShaped}
 use Rattle.tm_shapes.specs.Shapes.{Shapes}
 use Rattle.tm_safety.specs.Fits.{AllEnter, ids_of}
+use Rattle.tm_safety.specs.Runs.{stream_of}
 use Rattle.tm_vm.specs.Answers.{program}
 use Rattle.tm_vm.specs.Nested.{WroteBeginning}
 use Rattle.template_machine.specs.Environment.{AreOfTrees, EnvironmentValue, TemplateValue, IsTemplateOf, code, host_of, trees}
@@ -155,6 +157,19 @@ IsUnnumbered stated e name source (Ok text) = ⊥
 IsUnnumbered stated e name source (Err chain) =
     IsRefused e.syntax source chain ⊎ ((t : Compiled) × IsTemplateOf stated e name source t × (chain ≡ InvalidOperation ∷ []))
 
+-- what a state is asked for by the name of a filter, of a test, of a function or of a block
+abbrev pub filter_asked : {O : Type 0} → (O → StatedObjects) → StateValue O → List ℕ → List Val → Asked
+filter_asked stated s x args = apply_filter (host_of stated s.template) x args s.world
+
+abbrev pub test_asked : {O : Type 0} → (O → StatedObjects) → StateValue O → List ℕ → List Val → Asked
+test_asked stated s x args = perform_test (host_of stated s.template) x args s.world
+
+abbrev pub name_asked : {O : Type 0} → (O → StatedObjects) → StateValue O → List ℕ → List Val → Asked
+name_asked stated s x args = call_by_name (host_of stated s.template) x args s.world
+
+abbrev pub block_asked : {O : Type 0} → (O → StatedObjects) → StateValue O → List ℕ → Asked
+block_asked stated s b = enter_block (host_of stated s.template) b s.world
+
 -- What a call of a state answered, apart from running out of memory: the value that was meant, or the fault, and the world after it.
 abbrev pub IsMacroCall : Result Val (List ErrorKind) → Res Val → World → Type 0
 IsMacroCall (Ok v) meant w = meant ≡ Good v w
@@ -266,11 +281,14 @@ program_of stated t = program (host_of stated t) (code t)
 abbrev pub SoundRecords : {O : Type 0} → TemplateValue O → World → Type 0
 SoundRecords t w = (shapes : StreamId → Shapes) → ((s : StreamId) → IsShaped (code t s) (shapes s)) → AllEnter (code t) shapes (ids_of w.loops)
 
--- The stream that a world names, heard and over these captures, comes to this end and writes this text: by the machine's steps, whoever
--- made the streams.
+-- A callee, heard and over these captures, comes to this end and writes this text: by the machine's steps, whoever made the streams.
+abbrev pub RunEnds : {O : Type 0} → (O → StatedObjects) → TemplateValue O → Callee → List Capture → World → List ℕ → End → Type 0
+RunEnds stated t k captures w text e =
+    let f = base_of true captures w in Leads (program_of stated t) f [] (begins (program_of stated t) f k captures w) (final text e)
+
+-- So does the stream that a world names.
 abbrev pub StreamEnds : {O : Type 0} → (O → StatedObjects) → TemplateValue O → List Capture → World → List ℕ → End → Type 0
-StreamEnds stated t captures w text e =
-    let f = base_of true captures w in Leads (program_of stated t) f [] (begins (program_of stated t) f (whole w.stream) captures w) (final text e)
+StreamEnds stated t captures w text e = RunEnds stated t (whole w.stream) captures w text e
 
 -- A writer got a beginning of what it writes.
 abbrev pub StreamBegins : {O : Type 0} → (O → StatedObjects) → TemplateValue O → List Capture → World → Option (List ℕ) → Option (List ℕ) → Type 0
@@ -299,10 +317,24 @@ IsStreamText (Ok text) left Ends =
     (vs : List Val) × (heard : Bool) × Ends (Finished vs (record { heard = heard; text = string_bytes text } ∷ []) left)
 IsStreamText (Err chain) left Ends = Ends (Failed chain left)
 
--- How the run of a stream in a capture ended, apart from running out of memory.
+-- How the run of a callee in a capture ended, apart from running out of memory.
+abbrev pub RunCaptured :
+    {O : Type 0} → (O → StatedObjects) → TemplateValue O → Callee → World → Result (String Global) (List ErrorKind) → World → Type 0
+RunCaptured stated t k w result left =
+    IsMemory result ⊎ ((text : List ℕ) × IsStreamText result left (RunEnds stated t k (new_capture true ∷ []) w text))
+
+-- How that of a stream did.
 abbrev pub StreamCaptured : {O : Type 0} → (O → StatedObjects) → TemplateValue O → World → Result (String Global) (List ErrorKind) → World → Type 0
-StreamCaptured stated t w result left =
-    IsMemory result ⊎ ((text : List ℕ) × IsStreamText result left (StreamEnds stated t (new_capture true ∷ []) w text))
+StreamCaptured stated t w result left = RunCaptured stated t (whole w.stream) w result left
+
+-- How the run of a callee over one capture ended, with the captures that are left, apart from running out of memory.
+abbrev pub CalleeRan : {O : Type 0} → (O → StatedObjects) → TemplateValue O → Callee → World → Result (List Capture) Halt → World → Type 0
+CalleeRan stated t k w (Ok new) left =
+    (text : List ℕ) × (vs : List Val) × RunEnds stated t k (new_capture true ∷ []) w text (Finished vs new left)
+CalleeRan stated t k w (Err halt.Writer) left = ⊥
+CalleeRan stated t k w (Err halt.Stuck) left = ⊥
+CalleeRan stated t k w (Err (halt.Fault chain)) left =
+    is_want_of_memory chain ≡ false → (text : List ℕ) × RunEnds stated t k (new_capture true ∷ []) w text (Failed chain left)
 
 -- How the render of a stream to a text ended.
 abbrev pub StreamText : {O : Type 0} → (O → StatedObjects) → TemplateValue O → World → Result (String Global) (List ErrorKind) → Type 0
@@ -325,15 +357,15 @@ IsStreamEnd t (Ok c) Ends =
     (vs : List Val) × (new : List Capture) × (c.output ≡ []) × (c.state.template ≡ t) × Ends (Finished vs new c.state.world)
 IsStreamEnd t (Err chain) Ends = (left : World) × Ends (Failed chain left)
 
--- How the render of a stream into a writer ended.
-pub data Streamed {O : Type 0} (stated : O → StatedObjects) (t : TemplateValue O) (w : World)
-    (result : Result (CapturedValue (StateValue O)) (List ErrorKind)) (told now : Option (List ℕ)) (failures count : ℕ) : Type 0 where
-  streamed : (text : List ℕ) → IsStreamEnd t result (StreamEnds stated t [] w text) → Appends told now text → count ≡ failures →
-      Streamed stated t w result told now failures count
+-- How the run of a stream into a writer ended, whose answer says this of an end: so, or since the writer failed or no memory was found.
+pub data Streamed {O A : Type 0} (stated : O → StatedObjects) (t : TemplateValue O) (w : World) (result : Result A (List ErrorKind))
+    (Says : (End → Type 0) → Type 0) (told now : Option (List ℕ)) (failures count : ℕ) : Type 0 where
+  streamed : (text : List ℕ) → Says (StreamEnds stated t [] w text) → Appends told now text → count ≡ failures →
+      Streamed stated t w result Says told now failures count
   streamed_by_writer : result ≡ Err (WriteFailure ∷ []) → StreamBegins stated t [] w told now → count ≡ saturating_increment failures →
-      Streamed stated t w result told now failures count
+      Streamed stated t w result Says told now failures count
   streamed_by_memory : IsMemory result → StreamBegins stated t [] w told now → count ≡ failures →
-      Streamed stated t w result told now failures count
+      Streamed stated t w result Says told now failures count
 
 -- the one operand that an expression's stream leaves; where it leaves none or several, InvalidOperation
 abbrev pub value_at : List Val → World → Res Val
@@ -349,3 +381,73 @@ IsStreamValue result Ends =
 -- How the evaluation of a stream ended.
 abbrev pub StreamValue : {O : Type 0} → (O → StatedObjects) → TemplateValue O → World → Result Val (List ErrorKind) → Type 0
 StreamValue stated t w result = IsMemory result ⊎ ((text : List ℕ) × IsStreamValue result (StreamEnds stated t [] w text))
+
+-- ---------------------------------------------------------------- calls over streams
+-- The run that a call needs is of the stream that its world names.
+abbrev pub IsStarted : CallResult → World → Type 0
+IsStarted (outcome.Run e) w = w.stream ≡ stream_of (callee_of e.value.run)
+IsStarted _ w = Unit {0}
+
+-- What the end of a call's run in a capture makes of it, when what it replaced is put back.
+abbrev pub IsAfterRun : NestedCall → End → Res Val → Type 0
+IsAfterRun c (Finished vs (k ∷ []) w) m = m ≡ Good (run_value c.text k.text (undone c.undo w)) (undone c.undo w)
+IsAfterRun c (Failed chain w) m = m ≡ Bad (wrapped c.wrap chain) (undone c.undo w)
+IsAfterRun c _ m = ⊥
+
+-- What a call comes to: its value, its fault, or what the end of the run that it needs makes of it. No loop is open that it could call.
+abbrev pub CallComes : {O : Type 0} → (O → StatedObjects) → TemplateValue O → Asked → Res Val → Type 0
+CallComes stated t (has v w) m = m ≡ Good v w
+CallComes stated t (refused chain w) m = m ≡ Bad chain w
+CallComes stated t (recurs n items w) m = m ≡ Bad (InvalidOperation ∷ []) w
+CallComes stated t (runs c w) m =
+    (text : List ℕ) × (e : End) × RunEnds stated t c.callee (new_capture true ∷ []) w text e × IsAfterRun c e m
+
+-- How a call of a state ended, whose answer says this of what it comes to: so, or since no memory was found.
+abbrev pub StreamCalled :
+    {O A : Type 0} → (O → StatedObjects) → TemplateValue O → Asked → Result A (List ErrorKind) → (Res Val → Type 0) → Type 0
+StreamCalled stated t asked result Says = IsMemory result ⊎ ((m : Res Val) × CallComes stated t asked m × Says m)
+
+-- How a block ended that a state is asked for. It was refused, or no memory was found, and all is as it was; or it ran from this world, and
+-- what it replaced was put back in the world that its run left.
+pub data BlockEnded (asked : Asked) (old new : World) (Fails : List ErrorKind → Type 0) (Ran : World → World → Type 0) : Type 0 where
+  block_refused : (chain : List ErrorKind) → Fails chain → (is_want_of_memory chain ≡ false → asked ≡ refused chain old) → new ≡ old →
+      BlockEnded asked old new Fails Ran
+  block_ran : (c : NestedCall) (w left : World) → asked ≡ runs c w → Ran w left → new ≡ undone c.undo left →
+      BlockEnded asked old new Fails Ran
+
+-- into captures and a writer
+abbrev pub BlockRan : {O : Type 0} → (O → StatedObjects) → StateValue O → List ℕ → Result (List Capture) Halt → World → List Capture →
+    Option (List ℕ) → Option (List ℕ) → ℕ → ℕ → Type 0
+BlockRan stated s b result new captures told now failures count =
+    BlockEnded (block_asked stated s b) s.world new
+    (λ chain. (result ≡ Err (halt.Fault chain)) × (now ≡ told) × (count ≡ failures))
+    (λ w left. StreamRan stated s.template w result left captures told now failures count)
+
+-- to a text
+abbrev pub BlockText : {O : Type 0} → (O → StatedObjects) → StateValue O → List ℕ → Result (String Global) (List ErrorKind) → World → Type 0
+BlockText stated s b result new =
+    BlockEnded (block_asked stated s b) s.world new (λ chain. result ≡ Err chain) (λ w left. StreamCaptured stated s.template w result left)
+
+-- The answer is the end of the run, or its fault.
+abbrev pub IsBlockDone : Result (Unit {0}) (List ErrorKind) → World → (End → Type 0) → Type 0
+IsBlockDone (Ok x) left Ends = (vs : List Val) × (new : List Capture) × Ends (Finished vs new left)
+IsBlockDone (Err chain) left Ends = Ends (Failed chain left)
+
+-- into a writer
+abbrev pub BlockStreamed : {O : Type 0} → (O → StatedObjects) → StateValue O → List ℕ → Result (Unit {0}) (List ErrorKind) → World →
+    Option (List ℕ) → Option (List ℕ) → ℕ → ℕ → Type 0
+BlockStreamed stated s b result new told now failures count =
+    BlockEnded (block_asked stated s b) s.world new (λ chain. (result ≡ Err chain) × (now ≡ told) × (count ≡ failures))
+    (λ w left. Streamed stated s.template w result (IsBlockDone result left) told now failures count)
+
+-- ---------------------------------------------------------------- runs that are cut short
+-- Its writer failed, or no memory was found.
+abbrev pub is_cut : Halt → Bool
+is_cut halt.Writer = true
+is_cut halt.Stuck = false
+is_cut (halt.Fault chain) = is_want_of_memory chain
+
+-- the world that is left, without its loops if it was so
+abbrev pub forgetting : Bool → World → World
+forgetting true w = record w { loops = [] }
+forgetting false w = w

@@ -1,6 +1,7 @@
 //! Templates in an environment, and their renders. All public names of the project come from here.
 #![tactic(auto)]
 
+mod cuts;
 mod entries;
 mod environment;
 mod expression;

@@ -9,6 +9,7 @@ ghost use Rattle.template_machine.specs.TemplateRef.{entry_id, own_template};
 ghost use Rattle.tm_values.specs.Answer.{OkOrOutOfMemory};
 ghost use Rattle.tm_vm.specs.Answers.{NoFewer};
 
+use crate::cuts::halted;
 use crate::environment::EnvironmentOf;
 use std::alloc::Global;
 use std::marker::Model;
@@ -146,7 +147,7 @@ impl<'env, O: Drop> Rendering<'env, O> {
     }
 
     /// All that it can run is accepted; this takes no step.
-    fn accepted(&self)
+    pub(crate) fn accepted(&self)
         ensures { (stream : _) → IsAccepted (code self.now stream) }
     {
         self.environment.accepted();
@@ -198,7 +199,8 @@ impl<O: Parties> Rendering<'_, O> {
         }
     }
 
-    /// Runs the stream that a state names, heard, over captures and a writer, and gives the captures that are left.
+    /// Runs the stream that a state names, heard, over captures and a writer, and gives the captures that are left. A run that is
+    /// cut short leaves no loops.
     pub(crate) fn run<W: Sink>(
         &self,
         state: &mut StateData,
@@ -212,6 +214,7 @@ impl<O: Parties> Rendering<'_, O> {
         ensures streams { SoundRecords self.now state.old →
             StreamRan O.stated self.now state.old result state.new captures
             (W.written writer.old) (W.written writer.new) (W.failures writer.old) (W.failures writer.new) }
+        ensures sound { SoundRecords self.now state.old → SoundRecords self.now state.new }
         ensures closed { IfOk result (λ new. length new ≡ length captures) }
         ensures no_fewer { NoFewer state.old state.new }
         ensures kept { KeepsFixed state.old state.new }
@@ -228,7 +231,7 @@ impl<O: Parties> Rendering<'_, O> {
         *state = left;
         match result {
             Ok(()) => Ok(captures),
-            Err(halt) => Err(halt),
+            Err(halt) => Err(halted(state, halt)),
         }
     }
 

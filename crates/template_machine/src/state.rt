@@ -6,12 +6,16 @@ ghost use Rattle.tm_syntax.specs.Named.{find, name_cmp, texts_of};
 ghost use Rattle.tm_values.specs.Answer.{IsAnswer, IsLent, OkOrOutOfMemory};
 ghost use Rattle.tm_meaning.specs.World.{emitted, find_name, fuel_levels, name_of, records_of, view_of};
 ghost use Rattle.tm_tables.specs.Known.{AreFound, NamingFails};
-ghost use Rattle.tm_meaning.specs.Calls.{apply_filter, enter_block, perform_test, refused};
+ghost use Rattle.tm_meaning.specs.Calls.{refused};
 ghost use Rattle.tm_meaning.specs.Memory.{is_want_of_memory};
 ghost use Rattle.tm_state.specs.Answers.{Becomes, CallDeeper, CallLies, IsEmitted, KeepsFixed, NeedsRun, StaysInPlace};
 ghost use Rattle.tm_state.specs.State.{callee_of, exported};
 ghost use Rattle.template_machine.specs.Environment.{IsOfTrees, host_of, named_template};
-ghost use Rattle.template_machine.specs.Renders.{as_text, block_meaning, call_by_name, called_value, callee_run, with_temp, with_world};
+ghost use Rattle.template_machine.specs.Renders.{as_text, block_meaning, called_value, callee_run, with_temp, with_world};
+ghost use Rattle.template_machine.specs.Renders.{block_asked, filter_asked, name_asked, test_asked};
+ghost use Rattle.template_machine.specs.Renders.{BlockRan, BlockStreamed, BlockText, CalleeRan, IsStarted, RunCaptured};
+ghost use Rattle.template_machine.specs.Renders.{SoundRecords, StreamCalled};
+ghost use Rattle.tm_safety.specs.Runs.{stream_of};
 ghost use Rattle.template_machine.specs.Renders.{KeepsLists, SameLists, runs_a_block};
 ghost use Rattle.tm_values.specs.Val.{macro};
 ghost use Rattle.tm_state.specs.State.{saved_scopes};
@@ -20,6 +24,7 @@ ghost use Rattle.template_machine.specs.Renders.{BlockWritten, IsMacroCall, IsCa
 ghost use Rattle.tm_meaning.specs.Machine.{new_capture};
 ghost use Rattle.tm_vm.specs.Answers.{NoFewer};
 
+use crate::cuts::{faulted, halted};
 use crate::environment::{BoxedObjects, EnvironmentOf};
 use crate::rendering::Rendering;
 use crate::template::TemplateOf;
@@ -32,7 +37,8 @@ use tm_tables::{Host, NO_PLACE, Parties};
 use tm_values::{AutoEscape, Error, ErrorKind, UndefinedBehavior, Value};
 use tm_vm::{Machine, run_value};
 
-/// The state of a render. A contract sees the template that was rendered, and a world of the definitions.
+/// The state of a render. A contract sees the template that was rendered, and a world of the definitions. The loops of
+/// which it has a record are of its streams, so that they can be called in each run of it.
 pub struct StateOf<'env, O: Drop> {
     rendering: Rendering<'env, O>,
     kept: StateData,
@@ -63,11 +69,16 @@ impl<'env, O: Drop> Model for StateOf<'env, O> {
     ghost coded = { Prim.hlevel (codes, coded_Val, expression.the_row.coded, statement.the_row.coded, O.code) };
 
     ghost view = { λ s. record { template = s.rendering; world = s.kept } };
+
+    ghost use Rattle.template_machine.specs.Renders.{SoundRecords};
+
+    ghost invariant = { λ s. SoundRecords s.rendering s.kept };
 }
 
 impl<'env, O: Drop> StateOf<'env, O> {
     /// A state of what a render ran under.
     pub(crate) fn new(rendering: Rendering<'env, O>, kept: StateData) -> StateOf<'env, O>
+        requires { SoundRecords rendering kept }
         ensures { result ≡ record { template = rendering.entry; world = kept } }
     {
         StateOf { rendering, kept }
@@ -165,19 +176,26 @@ impl<'env, O: Parties> StateOf<'env, O> {
     /// none, InvalidOperation for a further call beyond the limit, and the fault of what is called; OutOfMemory.
     /// However it ends, the state stands where it stood.
     pub fn apply_filter(&mut self, name: &str, args: &[Value]) -> Result<Value, Error>
-        ensures called { IsOfTrees self.old.template → IsMacroCall result (called_value O.stated self.old.template (apply_filter
-            (host_of O.stated self.old.template) name.now args.now self.old.world)) self.new.world }
+        ensures called { IsOfTrees self.old.template → IsMacroCall result
+            (called_value O.stated self.old.template
+            (filter_asked O.stated self.old name.now args.now)) self.new.world }
+        ensures streams { StreamCalled O.stated self.old.template
+            (filter_asked O.stated self.old name.now args.now) result
+            (λ m. IsMacroCall result m self.new.world) }
         ensures template { self.new.template ≡ self.old.template }
         ensures stays { StaysInPlace self.old.world self.new.world }
         ensures kept { KeepsFixed self.old.world self.new.world }
-        ensures lists { runs_a_block (apply_filter (host_of O.stated self.old.template)
-            name.now args.now self.old.world) ≡ false →
+        ensures lists { runs_a_block (filter_asked O.stated self.old name.now args.now) ≡ false →
             SameLists self.old.world self.new.world }
     {
         let alloc = self.rendering.allocator();
-        let called = self
+        let called = match self
             .kept
-            .apply_filter(alloc, &self.rendering, name, NO_PLACE, args)?;
+            .apply_filter(alloc, &self.rendering, name, NO_PLACE, args)
+        {
+            Ok(called) => called,
+            Err(error) => return Err(faulted(&mut self.kept, error)),
+        };
         self.value_of(called)
     }
 
@@ -186,19 +204,26 @@ impl<'env, O: Parties> StateOf<'env, O> {
     /// where there is none, InvalidOperation for a further call beyond the limit, and the fault of what is called;
     /// OutOfMemory. However it ends, the state stands where it stood.
     pub fn perform_test(&mut self, name: &str, args: &[Value]) -> Result<bool, Error>
-        ensures called { IsOfTrees self.old.template → IsTested result (called_value O.stated self.old.template (perform_test
-            (host_of O.stated self.old.template) name.now args.now self.old.world)) self.new.world }
+        ensures called { IsOfTrees self.old.template → IsTested result
+            (called_value O.stated self.old.template
+            (test_asked O.stated self.old name.now args.now)) self.new.world }
+        ensures streams { StreamCalled O.stated self.old.template
+            (test_asked O.stated self.old name.now args.now) result
+            (λ m. IsTested result m self.new.world) }
         ensures template { self.new.template ≡ self.old.template }
         ensures stays { StaysInPlace self.old.world self.new.world }
         ensures kept { KeepsFixed self.old.world self.new.world }
-        ensures lists { runs_a_block (perform_test (host_of O.stated self.old.template)
-            name.now args.now self.old.world) ≡ false →
+        ensures lists { runs_a_block (test_asked O.stated self.old name.now args.now) ≡ false →
             SameLists self.old.world self.new.world }
     {
         let alloc = self.rendering.allocator();
-        let called = self
+        let called = match self
             .kept
-            .perform_test(alloc, &self.rendering, name, NO_PLACE, args)?;
+            .perform_test(alloc, &self.rendering, name, NO_PLACE, args)
+        {
+            Ok(called) => called,
+            Err(error) => return Err(faulted(&mut self.kept, error)),
+        };
         let value = self.value_of(called)?;
         Ok(value.is_true())
     }
@@ -210,21 +235,26 @@ impl<'env, O: Parties> StateOf<'env, O> {
     /// it ends, the state stands where it stood, and what the call kept is kept.
     #[tactic(auto, using(crate::proofs::CallLists::macro_runs_none))]
     pub fn call_macro(&mut self, name: &str, args: &[Value]) -> Result<String, Error>
-        ensures called { IsOfTrees self.old.template → IsEmitted result (as_text (called_value O.stated self.old.template
-            (call_by_name (host_of O.stated self.old.template) name.now args.now self.old.world)))
-            self.new.world }
+        ensures called { IsOfTrees self.old.template → IsEmitted result
+            (as_text (called_value O.stated self.old.template
+            (name_asked O.stated self.old name.now args.now))) self.new.world }
+        ensures streams { StreamCalled O.stated self.old.template
+            (name_asked O.stated self.old name.now args.now) result
+            (λ m. IsEmitted result (as_text m) self.new.world) }
         ensures template { self.new.template ≡ self.old.template }
         ensures stays { StaysInPlace self.old.world self.new.world }
         ensures kept { KeepsFixed self.old.world self.new.world }
-        ensures lists { runs_a_block (call_by_name (host_of O.stated self.old.template)
-            name.now args.now self.old.world) ≡ false →
+        ensures lists { runs_a_block (name_asked O.stated self.old name.now args.now) ≡ false →
             SameLists self.old.world self.new.world }
         ensures of_macro { (m : _) → find_name (view_of (host_of O.stated self.old.template)
             self.old.world) name.now ≡ Ok (Some (macro m)) → SameLists self.old.world self.new.world }
     {
         let alloc = self.rendering.allocator();
         let hashed = Name::new(alloc, name)?;
-        let called = self.kept.call_named(alloc, &self.rendering, &hashed, args)?;
+        let called = match self.kept.call_named(alloc, &self.rendering, &hashed, args) {
+            Ok(called) => called,
+            Err(error) => return Err(faulted(&mut self.kept, error)),
+        };
         let value = self.value_of(called)?;
         to_text(alloc, &value, &self.kept)
     }
@@ -236,6 +266,7 @@ impl<'env, O: Parties> StateOf<'env, O> {
     pub fn render_block(&mut self, name: &str) -> Result<String, Error>
         ensures called { IsOfTrees self.old.template → IsCapturedRun result
             (block_meaning O.stated self.old.template name.now self.old.world) self.new.world }
+        ensures streams { BlockText O.stated self.old name.now result self.new.world }
         ensures template { self.new.template ≡ self.old.template }
         ensures stays { StaysInPlace self.old.world self.new.world }
         ensures kept { KeepsFixed self.old.world self.new.world }
@@ -260,6 +291,8 @@ impl<'env, O: Parties> StateOf<'env, O> {
         ensures rendered { IsOfTrees self.old.template → BlockWritten
             (block_meaning O.stated self.old.template name.now self.old.world) result self.new.world
             (W.written writer.old) (W.written writer.new) (W.failures writer.old) (W.failures writer.new) }
+        ensures streams { BlockStreamed O.stated self.old name.now result self.new.world
+            (W.written writer.old) (W.written writer.new) (W.failures writer.old) (W.failures writer.new) }
         ensures template { self.new.template ≡ self.old.template }
         ensures stays { StaysInPlace self.old.world self.new.world }
         ensures kept { KeepsFixed self.old.world self.new.world }
@@ -282,6 +315,8 @@ impl<'env, O: Parties> StateOf<'env, O> {
             Ran (block_meaning O.stated self.old.template name.now self.old.world)
             result self.new.world captures
             (W.written writer.old) (W.written writer.new) (W.failures writer.old) (W.failures writer.new) }
+        ensures streams { BlockRan O.stated self.old name.now result self.new.world captures
+            (W.written writer.old) (W.written writer.new) (W.failures writer.old) (W.failures writer.new) }
         ensures closed { IfOk result (λ new. length new ≡ length captures) }
         ensures template { self.new.template ≡ self.old.template }
         ensures stays { StaysInPlace self.old.world self.new.world }
@@ -295,12 +330,10 @@ impl<'env, O: Parties> StateOf<'env, O> {
 
     /// Enters the block of a name, and gives what is put back after it. As `render_block`, before its run.
     fn enter_block(&mut self, name: &str) -> Result<SavedBlock, Error>
-        ensures ok { IfOk result (λ saved. IsEntered
-            (enter_block (host_of O.stated self.old.template) name.now self.old.world)
+        ensures ok { IfOk result (λ saved. IsEntered (block_asked O.stated self.old name.now)
             saved self.old.world self.new.world) }
         ensures err { IfErr result (λ e. is_want_of_memory e ≡ false →
-            enter_block (host_of O.stated self.old.template) name.now self.old.world
-            ≡ refused e self.old.world) }
+            block_asked O.stated self.old name.now ≡ refused e self.old.world) }
         ensures unchanged { OnErr result (self.new ≡ self.old) }
         ensures template { self.new.template ≡ self.old.template }
         ensures kept { KeepsFixed self.old.world self.new.world }
@@ -321,9 +354,13 @@ impl<'env, O: Parties> StateOf<'env, O> {
     /// What a call came to, as a value: the run that it needs is run, and what that replaced is put back after it.
     /// The run's fault; InvalidOperation for a loop, since none is open; OutOfMemory.
     fn value_of(&mut self, called: CallResult) -> Result<Value, Error>
+        requires { IsStarted called self.old.world }
         ensures called { IsOfTrees self.old.template →
             (asked : _) → Becomes (Ok called) asked self.old.world →
             IsMacroCall result (called_value O.stated self.old.template asked) self.new.world }
+        ensures streams { (asked : _) → Becomes (Ok called) asked self.old.world →
+            StreamCalled O.stated self.old.template asked result
+            (λ m. IsMacroCall result m self.new.world) }
         ensures template { self.new.template ≡ self.old.template }
         ensures stays { (limit : _) (before : _) → CallLies limit (Ok called) before self.old.world →
             StaysInPlace before self.new.world }
@@ -340,9 +377,13 @@ impl<'env, O: Parties> StateOf<'env, O> {
 
     /// The text of a run as a value; what it replaced is put back. The run's fault; OutOfMemory.
     fn value_of_run(&mut self, run: NestedRun) -> Result<Value, Error>
+        requires { self.old.world.stream ≡ stream_of (callee_of run.run) }
         ensures called { IsOfTrees self.old.template →
             (asked : _) → NeedsRun run asked self.old.world →
             IsMacroCall result (called_value O.stated self.old.template asked) self.new.world }
+        ensures streams { (asked : _) → NeedsRun run asked self.old.world →
+            StreamCalled O.stated self.old.template asked result
+            (λ m. IsMacroCall result m self.new.world) }
         ensures template { self.new.template ≡ self.old.template }
         ensures stays { (limit : _) (before : _) → CallDeeper limit run.saved before self.old.world →
             StaysInPlace before self.new.world }
@@ -366,8 +407,11 @@ impl<'env, O: Parties> StateOf<'env, O> {
     /// Runs what is called from where the state stands, and gives its text. The run's fault, InvalidOperation where
     /// there is no such run; OutOfMemory.
     fn run_in_capture(&mut self, run: RunOf) -> Result<String, Error>
-        ensures captured { IsOfTrees self.old.template → IsCapturedRun result (callee_run O.stated self.old.template
-            (callee_of run) self.old.world) self.new.world }
+        requires { self.old.world.stream ≡ stream_of (callee_of run) }
+        ensures captured { IsOfTrees self.old.template → IsCapturedRun result
+            (callee_run O.stated self.old.template (callee_of run) self.old.world) self.new.world }
+        ensures streams { RunCaptured O.stated self.old.template (callee_of run) self.old.world
+            result self.new.world }
         ensures template { self.new.template ≡ self.old.template }
         ensures no_fewer { NoFewer self.old.world self.new.world }
         ensures kept { KeepsFixed self.old.world self.new.world }
@@ -386,14 +430,18 @@ impl<'env, O: Parties> StateOf<'env, O> {
     /// InvalidOperation where there is no such run.
     fn run_over(&mut self, run: RunOf, captures: Captures) -> Result<Captures, Halt>
         requires { captures ≡ new_capture true ∷ [] }
-        ensures ran { IsOfTrees self.old.template → RanApart result (callee_run O.stated self.old.template
-            (callee_of run) self.old.world) self.new.world }
+        requires { self.old.world.stream ≡ stream_of (callee_of run) }
+        ensures ran { IsOfTrees self.old.template → RanApart result
+            (callee_run O.stated self.old.template (callee_of run) self.old.world) self.new.world }
+        ensures streams { CalleeRan O.stated self.old.template (callee_of run) self.old.world
+            result self.new.world }
         ensures closed { IfOk result (λ new. length new ≡ 1) }
         ensures template { self.new.template ≡ self.old.template }
         ensures no_fewer { NoFewer self.old.world self.new.world }
         ensures kept { KeepsFixed self.old.world self.new.world }
     {
         let alloc = self.rendering.allocator();
+        self.rendering.accepted();
         let state = self.kept.take(alloc);
         let mut machine = match Machine::of_run(alloc, &self.rendering, run, captures, state) {
             Ok(machine) => machine,
@@ -403,16 +451,23 @@ impl<'env, O: Parties> StateOf<'env, O> {
             }
         };
         let result = machine.run(alloc, &self.rendering, true, &mut NullWriter);
-        let (captures, state) = machine.into_parts();
-        self.put(state);
+        let (captures, mut state) = machine.into_parts();
         match result {
-            Ok(()) => Ok(captures),
-            Err(halt) => Err(halt),
+            Ok(()) => {
+                self.put(state);
+                Ok(captures)
+            }
+            Err(halt) => {
+                let halt = halted(&mut state, halt);
+                self.put(state);
+                Err(halt)
+            }
         }
     }
 
     /// Puts data in the place of those that are there.
     fn put(&mut self, kept: StateData)
+        requires { SoundRecords self.old.template kept }
         ensures { self.new ≡ with_world kept self.old }
     {
         self.kept = kept;

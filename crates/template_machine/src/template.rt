@@ -6,7 +6,7 @@ ghost use Rattle.tm_meaning.specs.World.{root_of};
 ghost use Rattle.template_machine.specs.TemplateRef.{entry_id, held_id, held_template, IsHeldOf};
 ghost use Rattle.template_machine.specs.Environment.{IsOfTrees, meant};
 ghost use Rattle.template_machine.specs.Renders.{first, greatest, idle, meaning, meaning_from};
-ghost use Rattle.template_machine.specs.Renders.{SoundRecords, StreamCaptured, StreamRan, StreamState, StreamText, Streamed};
+ghost use Rattle.template_machine.specs.Renders.{IsStreamEnd, SoundRecords, StreamCaptured, StreamRan, StreamState, StreamText, Streamed};
 ghost use Rattle.template_machine.specs.Renders.{IsCapturedRun, IsFresh, Ran, Rendered, RenderedCaptured, RenderedText};
 
 use crate::environment::{BoxedObjects, EnvironmentOf};
@@ -207,6 +207,7 @@ impl<'env, 'source, O: Parties> TemplateOf<'env, 'source, O> {
             (W.written writer.old) (W.written writer.new) (W.failures writer.old) (W.failures writer.new) }
         ensures streams { ids.old < greatest →
             Streamed O.stated self.now (first O.stated self.now ids.old context) result
+            (IsStreamEnd self.now result)
             (W.written writer.old) (W.written writer.new) (W.failures writer.old) (W.failures writer.new) }
     {
         let mut first = self.first_state(ids, context)?;
@@ -248,6 +249,7 @@ impl<'env, 'source, O: Parties> TemplateOf<'env, 'source, O> {
             IsCapturedRun result (meaning_from O.stated self.now state.old) state.new }
         ensures streams { SoundRecords self.now state.old →
             StreamCaptured O.stated self.now state.old result state.new }
+        ensures sound { SoundRecords self.now state.old → SoundRecords self.now state.new }
     {
         let alloc = self.environment.allocator();
         let mut captures = Captures::new(alloc);
@@ -273,6 +275,7 @@ impl<'env, 'source, O: Parties> TemplateOf<'env, 'source, O> {
         ensures streams { SoundRecords self.now state.old →
             StreamRan O.stated self.now state.old result state.new captures
             (W.written writer.old) (W.written writer.new) (W.failures writer.old) (W.failures writer.new) }
+        ensures sound { SoundRecords self.now state.old → SoundRecords self.now state.new }
         ensures closed { IfOk result (λ new. length new ≡ length captures) }
     {
         self.rendering().run(state, captures, writer)

@@ -24,7 +24,7 @@ returns-in_err-result-clause-evaluated g c = λ of.
     ∙ ap (λ w. running (run_from old.stream (length ks)) ks w) world_is in
     passed c.from_residual-in_err-result.result (Evaluated (value_meant stated t old)) (error_of why) c.from_residual-in_err-result.ensures.1
     (evaluated_failed (meaning_from stated t old) left.world ks None None why
-    (over_halted stated t ks left.captures old left.world None None 0 0 c.new-machine.result begins (inl c.new.ensures) of why left.world refl
+    (over_halted stated t ks left.captures old left.world None None 0 0 c.new-machine.result begins (inl c.new.ensures) of why left.world (λ own. refl)
     c.in_err-result.ensures.ended c.in_err-result.ensures.beginning c.in_err-result.ensures.failures))
 
 pub returns-in-Some-clause-evaluated : goal.returns-in-Some-clause-evaluated
@@ -89,7 +89,7 @@ returns-in_err-result-clause-streams g c = λ sound.
     ∙ ap (λ w. running (run_from old.stream (length ks)) ks w) world_is in
     passed c.from_residual-in_err-result.result (StreamValue stated t old) (error_of why) c.from_residual-in_err-result.ensures.1
     (value_failed stated t old left.world ks c.new.ensures None None why
-    (streams_halted stated t c.accepted.ensures ks old left.world sound None None 0 0 c.new-machine.result begins why left.world refl
+    (streams_halted stated t c.accepted.ensures ks old left.world sound None None 0 0 c.new-machine.result begins left.world why (λ own. refl)
     c.in_err-result.ensures.ended c.in_err-result.ensures.beginning c.in_err-result.ensures.failures))
 
 pub returns-in-Some-clause-streams : goal.returns-in-Some-clause-streams

@@ -1,10 +1,11 @@
-use Rattle.std.proofs.Common.{◌≡◌, ◌∙◌, ap, length, refl, sym}
+use Rattle.std.proofs.Common.{◌≡◌, ◌∙◌, Err, ap, length, refl, subst, sym}
 use Rattle.tm_meaning.specs.Machine.{Config, run_from, running}
 use Rattle.tm_meaning.specs.Memory.{is_want_of_memory}
 use Rattle.tm_output.specs.Pieces.{beginning_nothing}
-use Rattle.template_machine.specs.Renders.{run_by_memory, stream_by_memory}
+use Rattle.template_machine.specs.Renders.{forgetting, is_cut, meaning_from, Ran, StreamRan, run_by_memory, stream_by_memory}
 use Rattle.template_machine.proofs.Runs.{over_closed, over_done, over_halted}
-use Rattle.template_machine.proofs.StreamRuns.{streams_done, streams_halted}
+use Rattle.template_machine.proofs.Sound.{left_as}
+use Rattle.template_machine.proofs.StreamRuns.{sound_done, sound_halted, streams_done, streams_halted}
 use Rattle.template_machine.proofs.rendering.Rendering.run.Goals as goal
 
 -- no memory for the stream's name
@@ -33,10 +34,17 @@ returns-in-Err-result-clause-ran g c = λ of.
     c.new-machine.ensures ∙ ap (λ s. running (run_from s (length ks)) ks c.take.result) (c.in-Ok.ensures ∙ c.stream.ensures)
     ∙ ap (λ w. running (run_from old.stream (length ks)) ks w) c.take.ensures.taken in
     let left : Config = c.run-result.new.self in
-    over_halted g.O.Parties.stated c.args.self.now ks left.captures old left.world (g.W.Sink.written c.args.writer.now)
+    let why = c.in-Err-result.halt in
+    let put = c.halted.new.state in
+    let is : put ≡ forgetting (is_cut why) left.world =
+    c.halted.ensures.state ∙ ap (forgetting (is_cut why)) c.into_parts-captures.ensures.state in
+    subst (λ x. Ran (meaning_from g.O.Parties.stated c.args.self.now old) (Err x) put ks (g.W.Sink.written c.args.writer.now)
+    (g.W.Sink.written c.run-result.new.writer) (g.W.Sink.failures c.args.writer.now) (g.W.Sink.failures c.run-result.new.writer))
+    (sym c.halted.ensures.same)
+    (over_halted g.O.Parties.stated c.args.self.now ks left.captures old left.world (g.W.Sink.written c.args.writer.now)
     (g.W.Sink.written c.run-result.new.writer) (g.W.Sink.failures c.args.writer.now) (g.W.Sink.failures c.run-result.new.writer)
-    c.new-machine.result begins c.requires of c.in-Err-result.halt c.into_parts-captures.result.1 (sym c.into_parts-captures.ensures.state)
-    c.in-Err-result.ensures.ended c.in-Err-result.ensures.beginning c.in-Err-result.ensures.failures
+    c.new-machine.result begins c.requires of why put (left_as (is_cut why) left.world put is)
+    c.in-Err-result.ensures.ended c.in-Err-result.ensures.beginning c.in-Err-result.ensures.failures)
 
 pub returns-in-Ok-result-clause-closed : goal.returns-in-Ok-result-clause-closed
 returns-in-Ok-result-clause-closed g c =
@@ -78,7 +86,42 @@ returns-in-Err-result-clause-streams g c = λ sound.
     c.new-machine.ensures ∙ ap (λ s. running (run_from s (length ks)) ks c.take.result) (c.in-Ok.ensures ∙ c.stream.ensures)
     ∙ ap (λ w. running (run_from old.stream (length ks)) ks w) c.take.ensures.taken in
     let left : Config = c.run-result.new.self in
-    streams_halted g.O.Parties.stated c.args.self.now c.accepted.ensures ks old left.world sound (g.W.Sink.written c.args.writer.now)
+    let why = c.in-Err-result.halt in
+    let put = c.halted.new.state in
+    let is : put ≡ forgetting (is_cut why) left.world =
+    c.halted.ensures.state ∙ ap (forgetting (is_cut why)) c.into_parts-captures.ensures.state in
+    subst (λ x. StreamRan g.O.Parties.stated c.args.self.now old (Err x) put ks (g.W.Sink.written c.args.writer.now)
+    (g.W.Sink.written c.run-result.new.writer) (g.W.Sink.failures c.args.writer.now) (g.W.Sink.failures c.run-result.new.writer))
+    (sym c.halted.ensures.same)
+    (streams_halted g.O.Parties.stated c.args.self.now c.accepted.ensures ks old left.world sound (g.W.Sink.written c.args.writer.now)
     (g.W.Sink.written c.run-result.new.writer) (g.W.Sink.failures c.args.writer.now) (g.W.Sink.failures c.run-result.new.writer)
-    c.new-machine.result begins c.in-Err-result.halt c.into_parts-captures.result.1 (sym c.into_parts-captures.ensures.state)
-    c.in-Err-result.ensures.ended c.in-Err-result.ensures.beginning c.in-Err-result.ensures.failures
+    c.new-machine.result begins put why (left_as (is_cut why) left.world put is)
+    c.in-Err-result.ensures.ended c.in-Err-result.ensures.beginning c.in-Err-result.ensures.failures)
+
+-- ---------------------------------------------------------------- of what it leaves
+pub returns-in-Ok-result-clause-sound : goal.returns-in-Ok-result-clause-sound
+returns-in-Ok-result-clause-sound g c = λ sound.
+    let old = c.args.state.now in
+    let ks = c.args.captures in
+    let begins : c.new-machine.result ≡ running (run_from old.stream (length ks)) ks old =
+    c.new-machine.ensures ∙ ap (λ s. running (run_from s (length ks)) ks c.take.result) (c.in-Ok.ensures ∙ c.stream.ensures)
+    ∙ ap (λ w. running (run_from old.stream (length ks)) ks w) c.take.ensures.taken in
+    let left : Config = c.run-result.new.self in
+    sound_done g.O.Parties.stated c.args.self.now c.accepted.ensures ks old left.world sound (g.W.Sink.written c.args.writer.now)
+    (g.W.Sink.written c.run-result.new.writer) (g.W.Sink.failures c.args.writer.now) (g.W.Sink.failures c.run-result.new.writer)
+    c.new-machine.result begins left.run.operands left.captures c.into_parts-captures.result.1 (sym c.into_parts-captures.ensures.state)
+    c.in-Ok-result.ensures.ended
+
+pub returns-in-Err-result-clause-sound : goal.returns-in-Err-result-clause-sound
+returns-in-Err-result-clause-sound g c = λ sound.
+    let old = c.args.state.now in
+    let ks = c.args.captures in
+    let begins : c.new-machine.result ≡ running (run_from old.stream (length ks)) ks old =
+    c.new-machine.ensures ∙ ap (λ s. running (run_from s (length ks)) ks c.take.result) (c.in-Ok.ensures ∙ c.stream.ensures)
+    ∙ ap (λ w. running (run_from old.stream (length ks)) ks w) c.take.ensures.taken in
+    let left : Config = c.run-result.new.self in
+    let why = c.in-Err-result.halt in
+    sound_halted g.O.Parties.stated c.args.self.now c.accepted.ensures ks old left.world sound (g.W.Sink.written c.args.writer.now)
+    (g.W.Sink.written c.run-result.new.writer) (g.W.Sink.failures c.args.writer.now) (g.W.Sink.failures c.run-result.new.writer)
+    c.new-machine.result begins why c.halted.new.state
+    (c.halted.ensures.state ∙ ap (forgetting (is_cut why)) c.into_parts-captures.ensures.state) c.in-Err-result.ensures.ended
