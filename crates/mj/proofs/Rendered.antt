@@ -113,7 +113,10 @@ module _ {C M F R J : Type 0} where
       ∙ (ap (λ v. meaning (λ _. fs) (among a templates found.template) 0 v) given
       ∙ means_same {O = Parts C M F R J} {P = StatedObjects} fs own_objects first_objects own_objects a.file
       templates a.fuel (limit_of a.limit) found.template 0 (context_of i.members a.texts) (none objects)) in (
-        (find_all IsOfTree a.file templates found.template of_trees found_there, subst AreOfTrees (sym templates_are) of_trees),
+        record {
+          own = find_all IsOfTree a.file templates found.template of_trees found_there;
+          others = subst AreOfTrees (sym templates_are) of_trees;
+        },
         (templates, found.template, added_all, found_there, means),
       )
 

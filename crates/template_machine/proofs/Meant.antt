@@ -58,13 +58,13 @@ module _ {O : Type 0} (stated : O → StatedObjects) (t : TemplateValue O) where
 -- ---------------------------------------------------------------- trees
 module _ {O : Type 0} (t : TemplateValue O) (of : IsOfTrees t) where
   or_own : (o : Option Compiled) → ((c : Compiled) → o ≡ Some c → IsOfTree c) → IsOfTree (or_is o t.template)
-  or_own None all = of.0
+  or_own None all = of.own
   or_own (Some c) all = all c refl
 
   meant_of_tree : (id : TemplateId) → IsOfTree (meant t id)
-  meant_of_tree Own = of.0
+  meant_of_tree Own = of.own
   meant_of_tree (Entry x) =
-      or_own (find x t.environment.templates) (λ c found. find_all IsOfTree x t.environment.templates c of.1 found)
+      or_own (find x t.environment.templates) (λ c found. find_all IsOfTree x t.environment.templates c of.others found)
 
   at_tree : (id : TemplateId) → tree_at (tree_of t.template) (trees_in t.environment.templates) id ≡ tree_of (meant t id)
   at_tree Own = refl

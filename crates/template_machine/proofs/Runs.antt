@@ -84,7 +84,10 @@ source_done stated e t name source old new context result made text counted =
     (subst (λ e. RenderedText (meaning stated (record { environment = e; id = Own; template = t.template }) old context) result)
     made.0
     (subst (λ id. RenderedText (meaning stated (record { environment = t.environment; id = id; template = t.template }) old context)
-    result) made.1 (text (of_source e.syntax ((stated e.objects).escapes name) name source t.template made.2, subst (λ e. AreOfTrees e.templates) (sym made.0) others))))) counted
+    result) made.1 (text (record {
+      own = of_source e.syntax ((stated e.objects).escapes name) name source t.template made.2;
+      others = subst (λ e. AreOfTrees e.templates) (sym made.0) others;
+    })))) counted
 
 -- one that spells a template, where the counter is full
 pub source_full : {O : Type 0} (stated : O → StatedObjects) (e : EnvironmentValue O) (t : TemplateValue O) (name source : List ℕ)

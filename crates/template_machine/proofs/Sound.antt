@@ -1,5 +1,5 @@
 -- Streams that are accepted are never stuck from a world whose records are sound, and leave one.
-use Rattle.std.proofs.Common.{◌≡◌, ◌∙◌, ℕ, List, [], ◌∷◌, Ok, Err, Bool, true, false, refl, sym, ap, subst}
+use Rattle.std.proofs.Common.{◌≡◌, ◌∙◌, ℕ, List, [], ◌∷◌, Result, Ok, Err, OnOk, OnErr, Bool, true, false, refl, sym, ap, subst}
 use Rattle.tm_values.specs.declared.error.ErrorKind.{ErrorKind}
 use Rattle.tm_meaning.specs.Calls.{Asked, has, refused, recurs, runs, Callee}
 use Rattle.tm_meaning.specs.Memory.{is_want_of_memory}
@@ -57,6 +57,12 @@ module _ {O : Type 0} (t : TemplateValue O) where
   sound_put (saved.Super s) w sound = sound
   sound_put (saved.Macro s) w sound = sound
   sound_put (saved.Include s) w sound = sound
+
+  -- what may be done, or not
+  pub sound_either : {A E : Type 0} (r : Result A E) (w done left : World) → OnOk r (left ≡ done) → OnErr r (left ≡ w) →
+      ids_of done.loops ≡ ids_of w.loops → SoundRecords t w → SoundRecords t left
+  sound_either (Ok a) w done left is same ids sound = sound_as w left (ap (λ x. ids_of x.loops) is ∙ ids) sound
+  sound_either (Err e) w done left is same ids sound = subst (SoundRecords t) (sym same) sound
 
   -- a world whose loops are forgotten is so, and else what it was
   pub sound_left : (cut : Bool) (w left : World) → left ≡ forgetting cut w → (cut ≡ false → SoundRecords t w) → SoundRecords t left

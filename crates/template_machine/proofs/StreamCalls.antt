@@ -26,7 +26,7 @@ use Rattle.tm_vm.specs.Answers.{ComesTo, HaltsAs, ReachesEnd, program}
 use Rattle.tm_vm.proofs.Loop.{undone_is}
 use Rattle.template_machine.specs.Environment.{TemplateValue, code, host_of}
 use Rattle.template_machine.specs.Renders.{BlockEnded, BlockRan, BlockStreamed, BlockText, IsBlockDone, StateValue, block_ran, block_refused}
-use Rattle.template_machine.specs.Renders.{CallComes, CalleeRan, IsMacroCall, IsMemory, IsTested, RunCaptured, RunEnds, SoundRecords, StreamCalled}
+use Rattle.template_machine.specs.Renders.{CallComes, CalleeRan, IsMacroCall, IsMemory, IsTested, RunCaptured, RunEnds, SoundRecords, StreamCalled, call_streamed, call_by_memory}
 use Rattle.template_machine.specs.Renders.{forgetting, is_cut, program_of}
 use Rattle.template_machine.proofs.Sound.{left_as, never, sound_end, sound_left}
 use Rattle.template_machine.proofs.StateCalls.{of_first, of_template}
@@ -131,15 +131,15 @@ module _ {O : Type 0} (stated : O → StatedObjects) (t : TemplateValue O) (e : 
       let m : Res Val = Good (run_value c.text (string_bytes text) (undone c.undo left)) (undone c.undo left) in
       let says : m ≡ Good v put =
       ap (λ x. Good (run_value e.text (string_bytes text) x) x) back ∙ ap (λ u. Good u put) (sym is) in
-      inr (m, (by_run m (out, (Finished us (record { heard = heard; text = string_bytes text } ∷ []) left, (ends, refl))), says))
+      call_streamed m (by_run m (out, (Finished us (record { heard = heard; text = string_bytes text } ∷ []) left, (ends, refl)))) says
 
   pub fault_streamed : (chain : List ErrorKind) → RunCaptured stated t (callee_of e.run) w (Err chain) left →
       StreamCalled {A = Val} stated t asked (Err chain) (λ m. IsMacroCall (Err chain) m put)
-  fault_streamed chain (inl memory) = inl memory
+  fault_streamed chain (inl memory) = call_by_memory memory
   fault_streamed chain (inr (out, ends)) =
       let m : Res Val = Bad (wrapped c.wrap chain) (undone c.undo left) in
       let says : m ≡ Bad chain put = ap (λ x. Bad (wrapped c.wrap chain) x) back ∙ ap (λ u. Bad (wrapped u chain) put) needs.2 in
-      inr (m, (by_run m (out, (Failed chain left, (ends, refl))), λ own. says))
+      call_streamed m (by_run m (out, (Failed chain left, (ends, refl)))) (λ own. says)
 
 module _ {O A : Type 0} (stated : O → StatedObjects) (t : TemplateValue O) where
   -- what is refused stays what it is
@@ -148,18 +148,18 @@ module _ {O A : Type 0} (stated : O → StatedObjects) (t : TemplateValue O) whe
   refused_streamed asked left put chain Says becomes is says = by_kind (is_want_of_memory chain) refl
     where
       by_kind : (b : Bool) → is_want_of_memory chain ≡ b → StreamCalled {A = A} stated t asked (Err chain) Says
-      by_kind true memory = inl memory
+      by_kind true memory = call_by_memory memory
       by_kind false own =
           let comes : CallComes stated t (refused chain left) (Bad chain put) =
           ap (λ x. Bad chain x) (sym (left_as (is_want_of_memory chain) left put is own)) in
-          inr (Bad chain put, (subst (λ q. CallComes stated t q (Bad chain put)) (sym (becomes own)) comes, says))
+          call_streamed (Bad chain put) (subst (λ q. CallComes stated t q (Bad chain put)) (sym (becomes own)) comes) says
 
   -- an answer that says more, of what is answered otherwise
   pub streamed_as : {B : Type 0} (asked : Asked) (result : Result A (List ErrorKind)) (other : Result B (List ErrorKind))
       (Says Other : Res Val → Type 0) → (IsMemory result → IsMemory other) →
       ((m : Res Val) → CallComes stated t asked m → Says m → Other m) → StreamCalled stated t asked result Says → StreamCalled stated t asked other Other
-  streamed_as asked result other Says Other memory says (inl none) = inl (memory none)
-  streamed_as asked result other Says Other memory says (inr (m, (comes, said))) = inr (m, (comes, says m comes said))
+  streamed_as asked result other Says Other memory says (call_streamed m comes said) = call_streamed m comes (says m comes said)
+  streamed_as asked result other Says Other memory says (call_by_memory none) = call_by_memory (memory none)
 
 -- a test's value is a truth value
 module _ {O : Type 0} (stated : O → StatedObjects) (t : TemplateValue O) where

@@ -28,7 +28,7 @@ use Rattle.tm_vm.specs.Nested.{WroteBeginning}
 use Rattle.template_machine.specs.Environment.{TemplateValue, code, meant}
 use Rattle.template_machine.specs.Renders.{CapturedValue, StateValue, IsMemory, IsStreamEnd, IsStreamRun, IsStreamText, SoundRecords, StreamBegins}
 use Rattle.template_machine.specs.Renders.{StreamCaptured, StreamEnds, forgetting, is_cut}
-use Rattle.template_machine.specs.Renders.{StreamRan, stream_ran, stream_by_writer, stream_by_memory, StreamState, StreamText, Streamed, streamed}
+use Rattle.template_machine.specs.Renders.{StreamRan, stream_ran, stream_by_writer, stream_by_memory, StreamState, state_by_memory, state_streamed, Streamed, streamed}
 use Rattle.template_machine.specs.Renders.{streamed_by_writer, streamed_by_memory, program_of}
 use Rattle.template_machine.proofs.Sound.{never, sound_end, sound_left}
 
@@ -184,11 +184,11 @@ module _ {O : Type 0} (stated : O → StatedObjects) (t : TemplateValue O) (w le
       let there =
       subst (λ x. StreamEnds stated t (new_capture true ∷ []) w out (Finished us (record { heard = heard; text = c.output } ∷ []) x)) world
       (subst (λ o. StreamEnds stated t (new_capture true ∷ []) w out (Finished us (record { heard = heard; text = o } ∷ []) left)) output ends) in
-      inr (out, (us, heard, template, there))
+      state_streamed out (us, heard, template, there)
 
   pub state_failed : (chain : List ErrorKind) → StreamCaptured stated t w (Err chain) left → StreamState stated t w (Err chain)
-  state_failed chain (inl memory) = inl memory
-  state_failed chain (inr (out, ends)) = inr (out, (left, ends))
+  state_failed chain (inl memory) = state_by_memory memory
+  state_failed chain (inr (out, ends)) = state_streamed out (left, ends)
 
 -- over no capture, into a writer
 module _ {O A : Type 0} (stated : O → StatedObjects) (t : TemplateValue O) (w left : World) (old : List Capture) (none : old ≡ [])

@@ -13,7 +13,8 @@ use Rattle.tm_parts.specs.declared.halt.Halt.{Halt}
 use Rattle.tm_parts.specs.declared.halt.Halt.TheVariants as halt
 use Rattle.tm_tables.specs.Stated.{StatedObjects}
 use Rattle.template_machine.specs.Environment.{TemplateValue}
-use Rattle.template_machine.specs.Renders.{Evaluated, IsValue, StreamEnds, StreamRan, StreamValue, maps_in, value_as_meant, value_at, value_by_memory}
+use Rattle.template_machine.specs.Renders.{Evaluated, IsValue, StreamEnds, StreamRan, maps_in, value_as_meant, value_at, value_by_memory}
+use Rattle.template_machine.specs.Renders.{StreamValue, value_streamed, value_without_memory}
 use Rattle.template_machine.specs.Renders.{stream_ran, stream_by_writer, stream_by_memory}
 use Rattle.template_machine.proofs.Evaluations.{mapped}
 
@@ -30,18 +31,18 @@ module _ {O : Type 0} (stated : O → StatedObjects) (t : TemplateValue O) (w le
   value_failed told now halt.Stuck (stream_by_writer e part counted) = absurd (cc e)
   value_failed told now halt.Stuck (stream_by_memory chain e memory part counted) = absurd (cc e)
   value_failed told now (halt.Fault kinds) (stream_ran text ends appended counted) =
-      inr (text, inr (kinds, left, subst (λ ks. StreamEnds stated t ks w text (Failed kinds left)) none ends, refl))
+      value_streamed text (inr (kinds, left, subst (λ ks. StreamEnds stated t ks w text (Failed kinds left)) none ends, refl))
   value_failed told now (halt.Fault kinds) (stream_by_writer e part counted) = absurd (cc e)
   value_failed told now (halt.Fault kinds) (stream_by_memory chain e memory part counted) =
-      let kind : kinds ≡ chain = cc e in inl (ap is_want_of_memory kind ∙ memory)
+      let kind : kinds ≡ chain = cc e in value_without_memory (ap is_want_of_memory kind ∙ memory)
 
   -- of one that left one value
   one_by : (us : List Val) (new : List Capture) (v : Val) (result : Result Val (List ErrorKind)) (text : List ℕ) → us ≡ v ∷ [] →
       StreamEnds stated t [] w text (Finished us new left) → Evaluated (answered (with_maps (records_of left) v) left) result →
       StreamValue stated t w result
   one_by us new v result text one ends (value_as_meant is) =
-      inr (text, inl (us, new, left, ends, subst (λ vs. IsValue result (maps_in (value_at vs left))) (sym one) is))
-  one_by us new v result text one ends (value_by_memory memory) = inl memory
+      value_streamed text (inl (us, new, left, ends, subst (λ vs. IsValue result (maps_in (value_at vs left))) (sym one) is))
+  one_by us new v result text one ends (value_by_memory memory) = value_without_memory memory
 
   abbrev Ended : List Val → List Capture → Type 0
   Ended us new = (text : List ℕ) × StreamEnds stated t old w text (Finished us new left)
@@ -64,4 +65,4 @@ module _ {O : Type 0} (stated : O → StatedObjects) (t : TemplateValue O) (w le
   pub value_none : (us : List Val) (new : List Capture) → (length us ≡ 1 → ⊥) → Ended us new →
       StreamValue stated t w (Err (InvalidOperation ∷ []))
   value_none us new many (text, ends) =
-      inr (text, inl (us, new, left, over_none us new text ends, (left, ap maps_in (none_at us many))))
+      value_streamed text (inl (us, new, left, over_none us new text ends, (left, ap maps_in (none_at us many))))

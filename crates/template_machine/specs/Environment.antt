@@ -147,8 +147,9 @@ abbrev pub AreOfTrees : Named Compiled → Type 0
 AreOfTrees ts = AllByRecursion (λ (t : List ℕ × Compiled). IsOfTree t.1) ts
 
 -- So are a template and all of its environment, so what it runs means what trees mean.
-abbrev pub IsOfTrees : {O : Type 0} → TemplateValue O → Type 0
-IsOfTrees t = IsOfTree t.template × AreOfTrees t.environment.templates
+pub record IsOfTrees {O : Type 0} (t : TemplateValue O) : Type 0 where
+  pub own : IsOfTree t.template
+  pub others : AreOfTrees t.environment.templates
 
 abbrev pub trees_in : Named Compiled → Named TemplateTree
 trees_in ts = each (λ (t : List ℕ × Compiled). (t.0, tree_of t.1)) ts

@@ -337,8 +337,9 @@ CalleeRan stated t k w (Err (halt.Fault chain)) left =
     is_want_of_memory chain ≡ false → (text : List ℕ) × RunEnds stated t k (new_capture true ∷ []) w text (Failed chain left)
 
 -- How the render of a stream to a text ended.
-abbrev pub StreamText : {O : Type 0} → (O → StatedObjects) → TemplateValue O → World → Result (String Global) (List ErrorKind) → Type 0
-StreamText stated t w result = (left : World) × StreamCaptured stated t w result left
+pub data StreamText {O : Type 0} (stated : O → StatedObjects) (t : TemplateValue O) (w : World)
+    (result : Result (String Global) (List ErrorKind)) : Type 0 where
+  text_streamed : (left : World) → StreamCaptured stated t w result left → StreamText stated t w result
 
 -- and to a text and a state
 abbrev pub IsStreamCaptured : {O : Type 0} → TemplateValue O → Result (CapturedValue (StateValue O)) (List ErrorKind) → (End → Type 0) → Type 0
@@ -347,9 +348,11 @@ IsStreamCaptured t (Ok c) Ends =
     × Ends (Finished vs (record { heard = heard; text = c.output } ∷ []) c.state.world)
 IsStreamCaptured t (Err chain) Ends = (left : World) × Ends (Failed chain left)
 
-abbrev pub StreamState : {O : Type 0} → (O → StatedObjects) → TemplateValue O → World → Result (CapturedValue (StateValue O)) (List ErrorKind) → Type 0
-StreamState stated t w result =
-    IsMemory result ⊎ ((text : List ℕ) × IsStreamCaptured t result (StreamEnds stated t (new_capture true ∷ []) w text))
+pub data StreamState {O : Type 0} (stated : O → StatedObjects) (t : TemplateValue O) (w : World)
+    (result : Result (CapturedValue (StateValue O)) (List ErrorKind)) : Type 0 where
+  state_streamed : (text : List ℕ) → IsStreamCaptured t result (StreamEnds stated t (new_capture true ∷ []) w text) →
+      StreamState stated t w result
+  state_by_memory : IsMemory result → StreamState stated t w result
 
 -- The answer is the state at the end, without a text of its own, or its fault.
 abbrev pub IsStreamEnd : {O : Type 0} → TemplateValue O → Result (CapturedValue (StateValue O)) (List ErrorKind) → (End → Type 0) → Type 0
@@ -379,8 +382,9 @@ IsStreamValue result Ends =
     ⊎ ((chain : List ErrorKind) × (left : World) × Ends (Failed chain left) × (result ≡ Err chain))
 
 -- How the evaluation of a stream ended.
-abbrev pub StreamValue : {O : Type 0} → (O → StatedObjects) → TemplateValue O → World → Result Val (List ErrorKind) → Type 0
-StreamValue stated t w result = IsMemory result ⊎ ((text : List ℕ) × IsStreamValue result (StreamEnds stated t [] w text))
+pub data StreamValue {O : Type 0} (stated : O → StatedObjects) (t : TemplateValue O) (w : World) (result : Result Val (List ErrorKind)) : Type 0 where
+  value_streamed : (text : List ℕ) → IsStreamValue result (StreamEnds stated t [] w text) → StreamValue stated t w result
+  value_without_memory : IsMemory result → StreamValue stated t w result
 
 -- ---------------------------------------------------------------- calls over streams
 -- The run that a call needs is of the stream that its world names.
@@ -403,9 +407,10 @@ CallComes stated t (runs c w) m =
     (text : List ℕ) × (e : End) × RunEnds stated t c.callee (new_capture true ∷ []) w text e × IsAfterRun c e m
 
 -- How a call of a state ended, whose answer says this of what it comes to: so, or since no memory was found.
-abbrev pub StreamCalled :
-    {O A : Type 0} → (O → StatedObjects) → TemplateValue O → Asked → Result A (List ErrorKind) → (Res Val → Type 0) → Type 0
-StreamCalled stated t asked result Says = IsMemory result ⊎ ((m : Res Val) × CallComes stated t asked m × Says m)
+pub data StreamCalled {O A : Type 0} (stated : O → StatedObjects) (t : TemplateValue O) (asked : Asked) (result : Result A (List ErrorKind))
+    (Says : Res Val → Type 0) : Type 0 where
+  call_streamed : (m : Res Val) → CallComes stated t asked m → Says m → StreamCalled stated t asked result Says
+  call_by_memory : IsMemory result → StreamCalled stated t asked result Says
 
 -- How a block ended that a state is asked for. It was refused, or no memory was found, and all is as it was; or it ran from this world, and
 -- what it replaced was put back in the world that its run left.
