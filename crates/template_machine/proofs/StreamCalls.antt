@@ -25,7 +25,7 @@ use Rattle.tm_tables.specs.Stated.{StatedObjects}
 use Rattle.tm_vm.specs.Answers.{ComesTo, HaltsAs, ReachesEnd, program}
 use Rattle.tm_vm.proofs.Loop.{undone_is}
 use Rattle.template_machine.specs.Environment.{TemplateValue, code, host_of}
-use Rattle.template_machine.specs.Renders.{BlockEnded, BlockRan, BlockStreamed, BlockText, IsBlockDone, StateValue, block_ran, block_refused}
+use Rattle.template_machine.specs.Renders.{BlockRan, BlockStreamed, BlockText, IsBlockDone, StateValue, block_ran, block_refused}
 use Rattle.template_machine.specs.Renders.{CallComes, CalleeRan, IsMacroCall, IsMemory, IsTested, RunCaptured, RunEnds, SoundRecords, StreamCalled, call_streamed, call_by_memory}
 use Rattle.template_machine.specs.Renders.{forgetting, is_cut, program_of}
 use Rattle.template_machine.proofs.Sound.{left_as, never, sound_end, sound_left}
@@ -165,14 +165,14 @@ module _ {O A : Type 0} (stated : O → StatedObjects) (t : TemplateValue O) whe
 module _ {O : Type 0} (stated : O → StatedObjects) (t : TemplateValue O) where
   a_truth : (asked : Asked) (m : Res Val) (v : Val) (w : World) → CallComes stated t (as_truth asked) m → m ≡ Good v w → v ≡ boolean (is_true v)
   a_truth (has u x) m v w comes is =
-      let same : boolean (is_true u) ≡ v = cc (comes, is) in subst (λ x. x ≡ boolean (is_true x)) same refl
-  a_truth (refused chain x) m v w comes is = absurd (cc (comes, is))
-  a_truth (recurs n items x) m v w comes is = absurd (cc (comes, is))
+      let same : boolean (is_true u) ≡ v = cc (sym comes ∙ is) in subst (λ x. x ≡ boolean (is_true x)) same refl
+  a_truth (refused chain x) m v w comes is = absurd (cc (sym comes ∙ is))
+  a_truth (recurs n items x) m v w comes is = absurd (cc (sym comes ∙ is))
   a_truth (runs call x) m v w (text, (Finished us [] y, (ends, none))) is = absurd none
   a_truth (runs call x) m v w (text, (Finished us (k ∷ []) y, (ends, comes))) is =
-      let same : boolean (is_true (as_val k.text false)) ≡ v = cc (comes, is) in subst (λ x. x ≡ boolean (is_true x)) same refl
+      let same : boolean (is_true (as_val k.text false)) ≡ v = cc (sym comes ∙ is) in subst (λ x. x ≡ boolean (is_true x)) same refl
   a_truth (runs call x) m v w (text, (Finished us (k ∷ j ∷ ks) y, (ends, none))) is = absurd none
-  a_truth (runs call x) m v w (text, (Failed chain y, (ends, comes))) is = absurd (cc (comes, is))
+  a_truth (runs call x) m v w (text, (Failed chain y, (ends, comes))) is = absurd (cc (sym comes ∙ is))
   a_truth (runs call x) m v w (text, (Stuck y, (ends, none))) is = absurd none
 
   pub tested_streamed : (asked : Asked) (v : Val) (b : Bool) (w : World) → b ≡ is_true v →
@@ -184,27 +184,20 @@ module _ {O : Type 0} (stated : O → StatedObjects) (t : TemplateValue O) where
 
 -- ---------------------------------------------------------------- blocks
 module _ {O : Type 0} (stated : O → StatedObjects) (s : StateValue O) (b : List ℕ) (new : World) where
-  block_with : {Fails Others : List ErrorKind → Type 0} {Ran Runs : World → World → Type 0} → ((chain : List ErrorKind) → Fails chain → Others chain) →
-      ((w left : World) → Ran w left → Runs w left) → BlockEnded _ s.world new Fails Ran → BlockEnded _ s.world new Others Runs
-  block_with fails ran (block_refused chain is own same) = block_refused chain (fails chain is) own same
-  block_with fails ran (block_ran call w left asked is undo) = block_ran call w left asked (ran w left is) undo
-
   -- to a text
   pub block_text_done : (old : List Capture) → old ≡ one → (told now : Option (List ℕ)) (captures rest : List Capture) (heard : Bool)
       (text : String Global) → length captures ≡ 1 → captures ≡ record { heard = heard; text = string_bytes text } ∷ rest →
       BlockRan stated s b (Ok captures) new old told now 0 0 → BlockText stated s b (Ok text) new
-  block_text_done old is told now captures rest heard text single top ran =
-      block_with (λ chain failed. absurd (cc failed.0))
-      (λ w left ran. captured_done stated s.template w left old is told now captures rest heard text single top ran) ran
+  block_text_done old is told now captures rest heard text single top (block_refused chain failed own same) = absurd (cc failed.0)
+  block_text_done old is told now captures rest heard text single top (block_ran c w left asked ran undo) =
+      block_ran c w left asked (captured_done stated s.template w left old is told now captures rest heard text single top ran) undo
 
   pub block_text_failed : (old : List Capture) → old ≡ one → (told now : Option (List ℕ)) (why : Halt) →
       BlockRan stated s b (Err why) new old told now 0 0 → BlockText stated s b (Err (error_of why)) new
-  block_text_failed old is told now why ran =
-      block_with (λ chain failed. ap (λ x. Err (error_of x)) (why_is chain failed.0))
-      (λ w left ran. captured_failed stated s.template w left old is told now why ran) ran
-    where
-      why_is : (chain : List ErrorKind) → Err why ≡ Err (halt.Fault chain) → why ≡ halt.Fault chain
-      why_is chain e = cc e
+  block_text_failed old is told now why (block_refused chain failed own same) =
+      let e : why ≡ halt.Fault chain = cc failed.0 in block_refused chain (ap (λ x. Err (error_of x)) e) own same
+  block_text_failed old is told now why (block_ran c w left asked ran undo) =
+      block_ran c w left asked (captured_failed stated s.template w left old is told now why ran) undo
 
   -- where there is no memory for its capture
   pub block_text_none : (chain : List ErrorKind) → is_want_of_memory chain ≡ true → new ≡ s.world → BlockText stated s b (Err chain) new
@@ -214,17 +207,16 @@ module _ {O : Type 0} (stated : O → StatedObjects) (s : StateValue O) (b : Lis
   module _ (old : List Capture) (none : old ≡ []) (told now : Option (List ℕ)) (failures count : ℕ) where
     pub block_done : (captures : List Capture) (x : Unit {0}) → BlockRan stated s b (Ok captures) new old told now failures count →
         BlockStreamed stated s b (Ok x) new told now failures count
-    block_done captures x ran =
-        block_with (λ chain failed. absurd (cc failed.0))
-        (λ w left ran. into_done stated s.template w left old none told now failures count (λ r. IsBlockDone r left) captures x
-        (λ us Ends ends. (us, (captures, ends))) ran) ran
+    block_done captures x (block_refused chain failed own same) = absurd (cc failed.0)
+    block_done captures x (block_ran c w left asked ran undo) =
+        block_ran c w left asked
+        (into_done stated s.template w left old none told now failures count (λ r. IsBlockDone r left) captures x
+        (λ us Ends ends. (us, (captures, ends))) ran) undo
 
     pub block_failed : (why : Halt) → BlockRan stated s b (Err why) new old told now failures count →
         BlockStreamed stated s b (Err (error_of why)) new told now failures count
-    block_failed why ran =
-        block_with (λ chain failed. (ap (λ x. Err (error_of x)) (why_is chain failed.0), failed.1))
-        (λ w left ran. into_failed stated s.template w left old none told now failures count (λ r. IsBlockDone r left)
-        (λ chain Ends ends. ends) why ran) ran
-      where
-        why_is : (chain : List ErrorKind) → Err why ≡ Err (halt.Fault chain) → why ≡ halt.Fault chain
-        why_is chain e = cc e
+    block_failed why (block_refused chain failed own same) =
+        let e : why ≡ halt.Fault chain = cc failed.0 in block_refused chain (ap (λ x. Err (error_of x)) e, failed.1) own same
+    block_failed why (block_ran c w left asked ran undo) =
+        block_ran c w left asked
+        (into_failed stated s.template w left old none told now failures count (λ r. IsBlockDone r left) (λ chain Ends ends. ends) why ran) undo
