@@ -429,8 +429,8 @@ impl<'env, O: Parties> StateOf<'env, O> {
     /// Runs what is called over a capture, from where the state stands, and gives the captures that are left.
     /// InvalidOperation where there is no such run.
     fn run_over(&mut self, run: RunOf, captures: Captures) -> Result<Captures, Halt>
-        requires { captures ≡ new_capture true ∷ [] }
-        requires { self.old.world.stream ≡ stream_of (callee_of run) }
+        requires fresh { captures ≡ new_capture true ∷ [] }
+        requires named { self.old.world.stream ≡ stream_of (callee_of run) }
         ensures ran { IsOfTrees self.old.template → RanApart result
             (callee_run O.stated self.old.template (callee_of run) self.old.world) self.new.world }
         ensures streams { CalleeRan O.stated self.old.template (callee_of run) self.old.world
