@@ -1,5 +1,5 @@
 -- What a run answered that was made of a template's rendering.
-use Rattle.std.proofs.Common.{◌≡◌, ◌+◌, ℕ, List, [], ◌∷◌, Option, Result, Ok, Err, String, true, inr, refl, sym, subst, length}
+use Rattle.std.proofs.Common.{◌≡◌, ◌+◌, ℕ, List, [], ◌∷◌, Option, Result, Ok, Err, String, true, false, inr, refl, sym, subst, length}
 use Rattle.std.specs.declared.alloc.Global.{Global}
 use Rattle.tm_values.specs.Val.{Val}
 use Rattle.tm_values.specs.declared.error.ErrorKind.{ErrorKind}
@@ -81,13 +81,13 @@ pub source_done : {O : Type 0} (stated : O → StatedObjects) (e : EnvironmentVa
     RenderedSource stated e name source old new context result
 source_done stated e t name source old new context result made text counted =
     source_rendered t.template made.2 (λ others.
-    (subst (λ e. RenderedText (meaning stated (record { environment = e; id = Own; template = t.template }) old context) result)
-    made.0
-    (subst (λ id. RenderedText (meaning stated (record { environment = t.environment; id = id; template = t.template }) old context)
-    result) made.1 (text (record {
+    let of : IsOfTrees t = record {
       own = of_source e.syntax ((stated e.objects).escapes name) name source t.template made.2;
       others = subst (λ e. AreOfTrees e.templates) (sym made.0) others;
-    })))) counted
+    } in
+    (subst (λ e. RenderedText (meaning stated (record { environment = e; id = Own; template = t.template }) old context) result) made.0
+    (subst (λ id. RenderedText (meaning stated (record { environment = t.environment; id = id; template = t.template }) old context) result)
+    made.1 (text of)))) counted
 
 -- one that spells a template, where the counter is full
 pub source_full : {O : Type 0} (stated : O → StatedObjects) (e : EnvironmentValue O) (t : TemplateValue O) (name source : List ℕ)

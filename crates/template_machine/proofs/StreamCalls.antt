@@ -1,12 +1,13 @@
 -- What calls of a state answer over streams, whoever made them.
 use Rattle.std.proofs.Common.{◌≡◌, ◌∙◌, ℕ, List, [], ◌∷◌, Option, Some, None, Result, Ok, Err, String, string_bytes, Bool, true, false}
-use Rattle.std.proofs.Common.{refl, sym, ap, subst, length, inl, inr}
+use Rattle.std.proofs.Common.{refl, sym, ap, subst, length, inl, inr, IfErr, IfOk}
 use Rattle.std.specs.declared.alloc.Global.{Global}
 use Rattle.tm_values.specs.Val.{Val, boolean, text as as_val}
 use Rattle.tm_values.specs.Truth.{is_true}
+use Rattle.tm_values.specs.declared.escape.AutoEscape.{AutoEscape}
 use Rattle.tm_values.specs.declared.error.ErrorKind.{ErrorKind}
 use Rattle.tm_values.specs.declared.error.ErrorKind.TheVariants.{InvalidOperation}
-use Rattle.tm_meaning.specs.Calls.{Asked, has, refused, recurs, runs, Callee, NestedCall, as_truth, run_value, undone, wrapped}
+use Rattle.tm_meaning.specs.Calls.{Asked, has, refused, recurs, runs, Callee, NestedCall, as_truth, block_call, run_value, undone, wrapped}
 use Rattle.tm_meaning.specs.Memory.{is_want_of_memory}
 use Rattle.tm_meaning.specs.Machine.{Capture, Config, End, Finished, Failed, Stuck, Over, Program, base_of, first_run, new_capture, running}
 use Rattle.tm_meaning.specs.Steps.{begins, begun, over}
@@ -19,13 +20,15 @@ use Rattle.tm_parts.specs.declared.halt.Halt.TheVariants as halt
 use Rattle.tm_shapes.specs.Verified.{IsAccepted}
 use Rattle.tm_safety.specs.Runs.{stream_of}
 use Rattle.tm_state.specs.Answers.{Becomes, NeedsRun, call_of}
-use Rattle.tm_state.specs.State.{callee_of, put_back}
+use Rattle.tm_state.specs.State.{after_block, callee_of, put_back}
+use Rattle.tm_state.specs.declared.saved.Saved.TheVariants as saved
+use Rattle.tm_state.specs.declared.saved.SavedBlock.{SavedBlock}
 use Rattle.tm_state.specs.declared.nested.NestedRun.{NestedRun}
 use Rattle.tm_tables.specs.Stated.{StatedObjects}
 use Rattle.tm_vm.specs.Answers.{ComesTo, HaltsAs, ReachesEnd, program}
 use Rattle.tm_vm.proofs.Loop.{undone_is}
 use Rattle.template_machine.specs.Environment.{TemplateValue, code, host_of}
-use Rattle.template_machine.specs.Renders.{BlockRan, BlockStreamed, BlockText, IsBlockDone, StateValue, block_ran, block_refused}
+use Rattle.template_machine.specs.Renders.{BlockRan, BlockStreamed, BlockText, IsBlockDone, IsEntered, StateValue, StreamRan, block_asked, block_ran, block_refused}
 use Rattle.template_machine.specs.Renders.{CallComes, CalleeRan, IsMacroCall, IsMemory, IsTested, RunCaptured, RunEnds, SoundRecords, StreamCalled, call_streamed, call_by_memory}
 use Rattle.template_machine.specs.Renders.{forgetting, is_cut, program_of}
 use Rattle.template_machine.proofs.Sound.{left_as, never, sound_end, sound_left}
@@ -52,7 +55,7 @@ module _ {O : Type 0} (stated : O → StatedObjects) (t r : TemplateValue O) (sa
       CalleeRan stated t k w (Ok kept) put
   callee_done us new kept put is there reaches =
       let s = ended (Finished us new left) reaches in
-      subst (λ ks. CalleeRan stated t k w (Ok ks) put) is (subst (λ x. CalleeRan stated t k w (Ok new) x) there (s.0, (us, s.1)))
+      subst (λ ks. CalleeRan stated t k w (Ok ks) put) is (subst (λ x. CalleeRan stated t k w (Ok new) x) there (s.0, us, s.1))
 
   pub callee_halted : ((s : StreamId) → IsAccepted (code r s)) → (why : Halt) (put : World) → (is_cut why ≡ false → left ≡ put) →
       0 ≡ failures_after {A = Unit {0}} (Err why) 0 → HaltsAs why left Reaches → CalleeRan stated t k w (Err why) put
@@ -95,7 +98,7 @@ module _ {O : Type 0} (stated : O → StatedObjects) (t : TemplateValue O) (k : 
   pub text_done : (new rest : List Capture) (heard : Bool) (text : String Global) → length new ≡ 1 →
       new ≡ record { heard = heard; text = string_bytes text } ∷ rest → CalleeRan stated t k w (Ok new) left →
       RunCaptured stated t k w (Ok text) left
-  text_done new rest heard text single top (out, (us, ends)) =
+  text_done new rest heard text single top (out, us, ends) =
       let c : Capture = record { heard = heard; text = string_bytes text } in
       inr (out, (us, heard, subst (λ ks. RunEnds stated t k one w out (Finished us ks left)) (only new rest c single top) ends))
 
@@ -131,7 +134,18 @@ module _ {O : Type 0} (stated : O → StatedObjects) (t : TemplateValue O) (e : 
       let m : Res Val = Good (run_value c.text (string_bytes text) (undone c.undo left)) (undone c.undo left) in
       let says : m ≡ Good v put =
       ap (λ x. Good (run_value e.text (string_bytes text) x) x) back ∙ ap (λ u. Good u put) (sym is) in
-      call_streamed m (by_run m (out, (Finished us (record { heard = heard; text = string_bytes text } ∷ []) left, (ends, refl)))) says
+      call_streamed m (by_run m (out, Finished us (record { heard = heard; text = string_bytes text } ∷ []) left, ends, refl)) says
+
+  -- or there is no memory for its value
+  pub run_streamed : (text : String Global) (bytes : List ℕ) (escape : AutoEscape) (r : Result Val (List ErrorKind)) (x : World) → x ≡ put →
+      bytes ≡ string_bytes text → escape ≡ x.escape → RunCaptured stated t (callee_of e.run) w (Ok text) left →
+      IfOk r (λ v. (y : World) → y.escape ≡ escape → v ≡ run_value e.text bytes y) → IfErr r (λ chain. is_want_of_memory chain ≡ true) →
+      StreamCalled stated t asked r (λ m. IsMacroCall r m x)
+  run_streamed text bytes escape (Ok v) x same spelled escaped captured ok kind =
+      let is : v ≡ run_value e.text (string_bytes text) put =
+      ok put (sym (escaped ∙ ap (λ y. y.escape) same)) ∙ ap (λ b. run_value e.text b put) spelled in
+      subst (λ y. StreamCalled stated t asked (Ok v) (λ m. IsMacroCall (Ok v) m y)) (sym same) (value_streamed text v captured is)
+  run_streamed text bytes escape (Err chain) x same spelled escaped captured ok kind = call_by_memory kind
 
   pub fault_streamed : (chain : List ErrorKind) → RunCaptured stated t (callee_of e.run) w (Err chain) left →
       StreamCalled {A = Val} stated t asked (Err chain) (λ m. IsMacroCall (Err chain) m put)
@@ -139,7 +153,7 @@ module _ {O : Type 0} (stated : O → StatedObjects) (t : TemplateValue O) (e : 
   fault_streamed chain (inr (out, ends)) =
       let m : Res Val = Bad (wrapped c.wrap chain) (undone c.undo left) in
       let says : m ≡ Bad chain put = ap (λ x. Bad (wrapped c.wrap chain) x) back ∙ ap (λ u. Bad (wrapped u chain) put) needs.2 in
-      call_streamed m (by_run m (out, (Failed chain left, (ends, refl)))) (λ own. says)
+      call_streamed m (by_run m (out, Failed chain left, ends, refl)) (λ own. says)
 
 module _ {O A : Type 0} (stated : O → StatedObjects) (t : TemplateValue O) where
   -- what is refused stays what it is
@@ -168,12 +182,12 @@ module _ {O : Type 0} (stated : O → StatedObjects) (t : TemplateValue O) where
       let same : boolean (is_true u) ≡ v = cc (sym comes ∙ is) in subst (λ x. x ≡ boolean (is_true x)) same refl
   a_truth (refused chain x) m v w comes is = absurd (cc (sym comes ∙ is))
   a_truth (recurs n items x) m v w comes is = absurd (cc (sym comes ∙ is))
-  a_truth (runs call x) m v w (text, (Finished us [] y, (ends, none))) is = absurd none
-  a_truth (runs call x) m v w (text, (Finished us (k ∷ []) y, (ends, comes))) is =
+  a_truth (runs call x) m v w (text, Finished us [] y, ends, none) is = absurd none
+  a_truth (runs call x) m v w (text, Finished us (k ∷ []) y, ends, comes) is =
       let same : boolean (is_true (as_val k.text false)) ≡ v = cc (sym comes ∙ is) in subst (λ x. x ≡ boolean (is_true x)) same refl
-  a_truth (runs call x) m v w (text, (Finished us (k ∷ j ∷ ks) y, (ends, none))) is = absurd none
-  a_truth (runs call x) m v w (text, (Failed chain y, (ends, comes))) is = absurd (cc (sym comes ∙ is))
-  a_truth (runs call x) m v w (text, (Stuck y, (ends, none))) is = absurd none
+  a_truth (runs call x) m v w (text, Finished us (k ∷ j ∷ ks) y, ends, none) is = absurd none
+  a_truth (runs call x) m v w (text, Failed chain y, ends, comes) is = absurd (cc (sym comes ∙ is))
+  a_truth (runs call x) m v w (text, Stuck y, ends, none) is = absurd none
 
   pub tested_streamed : (asked : Asked) (v : Val) (b : Bool) (w : World) → b ≡ is_true v →
       StreamCalled stated t (as_truth asked) (Ok v) (λ m. IsMacroCall (Ok v) m w) →
@@ -184,6 +198,13 @@ module _ {O : Type 0} (stated : O → StatedObjects) (t : TemplateValue O) where
 
 -- ---------------------------------------------------------------- blocks
 module _ {O : Type 0} (stated : O → StatedObjects) (s : StateValue O) (b : List ℕ) (new : World) where
+  pub block_streamed : (left : World) (old : List Capture) (told now : Option (List ℕ)) (failures count : ℕ) (kept : SavedBlock) (mid : World)
+      (result : Result (List Capture) Halt) → IsEntered (block_asked stated s b) kept s.world mid →
+      StreamRan stated s.template mid result left old told now failures count → new ≡ after_block kept left →
+      BlockRan stated s b result new old told now failures count
+  block_streamed left old told now failures count kept mid result (same, (stream, asked), more, places) ran is =
+      block_ran (block_call stream s.world) mid left asked ran (is ∙ sym (undone_is (saved.Block kept) s.world left same))
+
   -- to a text
   pub block_text_done : (old : List Capture) → old ≡ one → (told now : Option (List ℕ)) (captures rest : List Capture) (heard : Bool)
       (text : String Global) → length captures ≡ 1 → captures ≡ record { heard = heard; text = string_bytes text } ∷ rest →
@@ -211,12 +232,12 @@ module _ {O : Type 0} (stated : O → StatedObjects) (s : StateValue O) (b : Lis
     block_done captures x (block_ran c w left asked ran undo) =
         block_ran c w left asked
         (into_done stated s.template w left old none told now failures count (λ r. IsBlockDone r left) captures x
-        (λ us Ends ends. (us, (captures, ends))) ran) undo
+        (λ us Ends ends. (us, captures, ends)) ran) undo
 
     pub block_failed : (why : Halt) → BlockRan stated s b (Err why) new old told now failures count →
         BlockStreamed stated s b (Err (error_of why)) new told now failures count
     block_failed why (block_refused chain failed own same) =
-        let e : why ≡ halt.Fault chain = cc failed.0 in block_refused chain (ap (λ x. Err (error_of x)) e, failed.1) own same
+        let e : why ≡ halt.Fault chain = cc failed.0 in block_refused chain (ap (λ x. Err (error_of x)) e, failed.1, failed.2) own same
     block_failed why (block_ran c w left asked ran undo) =
         block_ran c w left asked
         (into_failed stated s.template w left old none told now failures count (λ r. IsBlockDone r left) (λ chain Ends ends. ends) why ran) undo

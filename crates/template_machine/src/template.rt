@@ -21,7 +21,6 @@ use tm_syntax::{CaptureMode, Name};
 use tm_tables::Parties;
 use tm_templates::CompiledTemplate;
 use tm_values::{Error, ErrorKind, Value};
-use tm_vm::Machine;
 
 /// A compiled template: the environment's, or one of its own.
 pub(crate) enum TemplateRef<'env, 'source> {

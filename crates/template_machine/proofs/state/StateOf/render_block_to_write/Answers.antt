@@ -1,8 +1,9 @@
 use Rattle.std.proofs.Common.{List, Result}
 use Rattle.tm_values.specs.declared.error.ErrorKind.{ErrorKind}
 use Rattle.tm_parts.specs.Halts.{error_of}
-use Rattle.template_machine.specs.Renders.{BlockWritten, block_meaning}
+use Rattle.template_machine.specs.Renders.{BlockWritten, block_meaning, BlockStreamed}
 use Rattle.template_machine.proofs.Answered.{passed, written_done, written_failed}
+use Rattle.template_machine.proofs.StreamCalls.{block_done, block_failed}
 use Rattle.template_machine.proofs.state.StateOf.render_block_to_write.Goals as goal
 
 pub returns-in_err-_captures-clause-rendered : goal.returns-in_err-_captures-clause-rendered
@@ -25,3 +26,23 @@ returns-clause-rendered g c = λ of.
     written_done (block_meaning g.O.Parties.stated s.template c.args.name.now s.world) c.run_block.new.self.world c.new-captures.result
     c.new-captures.ensures (g.W.Sink.written c.args.writer.now) (g.W.Sink.written c.run_block.new.writer)
     (g.W.Sink.failures c.args.writer.now) (g.W.Sink.failures c.run_block.new.writer) c.in_ok-_captures._captures (c.in_ok-_captures.ensures.ran of)
+
+pub returns-in_err-_captures-clause-streams : goal.returns-in_err-_captures-clause-streams
+returns-in_err-_captures-clause-streams g c =
+    let s = c.args.self.now in
+    let new = c.run_block.new.self.world in
+    let why = c.in_err-_captures.field-0.0 in
+    let told = g.W.Sink.written c.args.writer.now in
+    let now = g.W.Sink.written c.run_block.new.writer in
+    let failures = g.W.Sink.failures c.args.writer.now in
+    let count = g.W.Sink.failures c.run_block.new.writer in
+    passed c.from_residual.result (λ r. BlockStreamed g.O.Parties.stated s c.args.name.now r new told now failures count) (error_of why)
+    c.from_residual.ensures.1
+    (block_failed g.O.Parties.stated s c.args.name.now new c.new-captures.result c.new-captures.ensures told now failures count why
+    c.in_err-_captures.ensures.streams)
+
+pub returns-clause-streams : goal.returns-clause-streams
+returns-clause-streams g c =
+    block_done g.O.Parties.stated c.args.self.now c.args.name.now c.run_block.new.self.world c.new-captures.result c.new-captures.ensures
+    (g.W.Sink.written c.args.writer.now) (g.W.Sink.written c.run_block.new.writer) (g.W.Sink.failures c.args.writer.now)
+    (g.W.Sink.failures c.run_block.new.writer) c.in_ok-_captures._captures tt c.in_ok-_captures.ensures.streams

@@ -3,6 +3,7 @@ use Rattle.tm_meaning.specs.World.{World}
 use Rattle.template_machine.specs.Renders.{SoundRecords, StreamCaptured, StreamState, first}
 use Rattle.template_machine.proofs.Answered.{passed}
 use Rattle.template_machine.proofs.StreamRuns.{state_done, state_failed}
+use Rattle.template_machine.specs.Environment.{TemplateValue}
 use Rattle.template_machine.proofs.template.TemplateOf.render_captured.Goals as goal
 
 pub returns-in_err-text-clause-streams : goal.returns-in_err-text-clause-streams
@@ -28,3 +29,11 @@ returns-clause-streams g c = λ h.
     c.new.ensures c.new-2.ensures
     (subst (λ (w : World). StreamCaptured g.O.Parties.stated t w (Ok c.in_ok-text.text) left) c.in_ok-state.ensures.state
     (c.in_ok-text.ensures.streams sound))
+
+pub new-requires : goal.new-requires
+new-requires g c =
+    let t = c.args.self.now in
+    let sound : SoundRecords t c.in_ok-state.state =
+    subst (λ (w : World). SoundRecords t w) (sym c.in_ok-state.ensures.state) (λ shapes all. tt) in
+    subst (λ (r : TemplateValue g.row.O.Denot). SoundRecords r c.run_in_capture.new.state) (sym c.rendering.ensures.same)
+    (c.in_ok-text.ensures.sound sound)

@@ -5,6 +5,7 @@ use Rattle.tm_parts.specs.Halts.{error_of}
 use Rattle.template_machine.specs.Renders.{CapturedValue, IsStreamEnd, StateValue, meaning_from, Rendered, SoundRecords, Streamed}
 use Rattle.template_machine.proofs.Answered.{passed, rendered_failed}
 use Rattle.template_machine.proofs.StreamRuns.{into_done, into_failed, state_ended}
+use Rattle.template_machine.specs.Environment.{TemplateValue}
 use Rattle.template_machine.proofs.template.TemplateOf.render_captured_to.Goals as goal
 
 pub returns-in_err-_captures-clause-rendered : goal.returns-in_err-_captures-clause-rendered
@@ -58,3 +59,11 @@ returns-clause-streams g c = λ h.
     (state_ended t c.rendering.result c.run_over.new.state c.in_ok-_captures._captures c.new-3.result c.new-4.result c.rendering.ensures.same
     c.new-3.ensures (ap (λ (x : Captured). x.output) c.new-4.ensures ∙ c.new-2.ensures.bytes) (ap (λ (x : Captured). x.state) c.new-4.ensures))
     (c.in_ok-_captures.ensures.streams sound))
+
+pub new-requires-3 : goal.new-requires-3
+new-requires-3 g c =
+    let t = c.args.self.now in
+    let sound : SoundRecords t c.in_ok-first.first =
+    subst (λ (w : World). SoundRecords t w) (sym c.in_ok-first.ensures.state) (λ shapes all. tt) in
+    subst (λ (r : TemplateValue g.row.O.Denot). SoundRecords r c.run_over.new.state) (sym c.rendering.ensures.same)
+    (c.in_ok-_captures.ensures.sound sound)

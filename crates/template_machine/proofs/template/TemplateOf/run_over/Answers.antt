@@ -17,3 +17,8 @@ returns-clause-streams g c = λ sound.
     (g.W.Sink.failures c.run-2.new.writer)) c.rendering.ensures.same
     (c.run-2.ensures.streams
     (subst (λ (t : TemplateValue g.row.O.Denot). SoundRecords t c.args.state.now) (sym c.rendering.ensures.same) sound))
+
+pub returns-clause-sound : goal.returns-clause-sound
+returns-clause-sound g c = λ sound.
+    subst (λ (t : TemplateValue g.row.O.Denot). SoundRecords t c.run-2.new.state) c.rendering.ensures.same
+    (c.run-2.ensures.sound (subst (λ (t : TemplateValue g.row.O.Denot). SoundRecords t c.args.state.now) (sym c.rendering.ensures.same) sound))
