@@ -4,6 +4,10 @@
 #[cfg(test)]
 mod calls;
 #[cfg(test)]
+mod changed_streams;
+#[cfg(test)]
+mod drawn;
+#[cfg(test)]
 mod host_streams;
 #[cfg(test)]
 mod library;
@@ -11,3 +15,5 @@ mod library;
 mod library_parts;
 #[cfg(test)]
 mod random_streams;
+#[cfg(test)]
+mod trials;
