@@ -180,7 +180,7 @@ fn is_rendered<'source, P: Parties>(
     setup: &Setup<'_>,
     row: &Row<'source>,
 ) -> Result<bool, Error> {
-    let template = template_of(environment, setup.name, row.source)?;
+    let template = template_of(alloc, environment, setup.name, row.source)?;
     let mut ids = StateIds::new();
     let captured = template.render_captured_to(&mut ids, Value::undefined(), &mut NullWriter)?;
     let (_output, mut state) = captured.into_parts();
@@ -195,7 +195,7 @@ fn is_unrun<'source, P: Parties>(
     source: &'source str,
     row: &Row<'_>,
 ) -> Result<bool, Error> {
-    let template = template_of(environment, setup.name, source)?;
+    let template = template_of(alloc, environment, setup.name, source)?;
     let mut state = template.new_state(&mut StateIds::new())?;
     Ok(are_answered(alloc, &mut state, row, setup.times))
 }

@@ -1,5 +1,6 @@
 //! Rows of blocks and of templates that extend others, and blocks that a state is asked for.
 use crate::renders::fault_of;
+use crate::verifying::verify_source;
 use std::alloc::Global;
 use std::test::Fail;
 use template_machine::*;
@@ -13,10 +14,14 @@ static LAYOUTS: [&str; 5] = [
     "hidden {% if false %}{% block a %}2{{ y.z }}{% endblock %}{% endif %}",
 ];
 
-/// Adds them.
-pub(crate) fn add_layouts<P: Parties>(environment: &mut EnvironmentOf<'_, P>) -> Result<(), Error> {
+/// Adds them. BadStream where a stream of one is refused.
+pub(crate) fn add_layouts<P: Parties>(
+    alloc: Global,
+    environment: &mut EnvironmentOf<'_, P>,
+) -> Result<(), Error> {
     for layout in &LAYOUTS {
         let (name, source) = layout.split_once(' ').unwrap_or((layout, ""));
+        verify_source(alloc, source, environment.syntax())?;
         environment.add_template(name, source)?;
     }
     Ok(())

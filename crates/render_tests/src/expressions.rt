@@ -2,6 +2,7 @@
 
 use crate::blocks::expect;
 use crate::renders::{Row, is_chain, row_of};
+use crate::verifying::verify_tree;
 use std::alloc::Global;
 use std::test::Fail;
 use template_machine::*;
@@ -30,11 +31,13 @@ fn context(alloc: Global) -> Result<Value, Error> {
     Value::from_map(alloc, map)
 }
 
+/// The value of an expression. BadStream where its stream is refused.
 fn value_of<P: Parties>(
     alloc: Global,
     environment: &EnvironmentOf<'_, P>,
     source: &'static str,
 ) -> Result<Value, Error> {
+    verify_tree(alloc, &parse_expr(alloc, source)?, Form::Expression)?;
     let expression = environment.compile_expression(source)?;
     expression.eval(&mut StateIds::new(), context(alloc)?)
 }

@@ -39,3 +39,5 @@ mod states;
 mod tables;
 #[cfg(test)]
 mod values;
+#[cfg(test)]
+mod verifying;

@@ -1,6 +1,7 @@
 //! What rows are: renders of sources, and settings between them.
 
 use crate::party::context;
+use crate::verifying::verify_source;
 use std::alloc::Global;
 use std::io::{self, Write};
 use std::test::Fail;
@@ -232,19 +233,24 @@ fn end_of<P: Parties>(
     }
 }
 
-/// The template of a source under a name, or the one that is kept.
+/// The template of a source under a name, or the one that is kept. BadStream where a stream of the source is refused.
 pub(crate) fn template_of<'env, 'source, P: Parties>(
+    alloc: Global,
     environment: &'env EnvironmentOf<'source, P>,
     name: &'env str,
     source: &'source str,
 ) -> Result<TemplateOf<'env, 'source, P>, Error> {
     match source.strip_prefix('&') {
         Some(kept) => environment.get_template(kept),
-        None => environment.template_from_named_str(name, source),
+        None => {
+            verify_source(alloc, source, environment.syntax())?;
+            environment.template_from_named_str(name, source)
+        }
     }
 }
 
 fn ended<'source, P: Parties>(
+    alloc: Global,
     environment: &EnvironmentOf<'source, P>,
     setup: &Setup<'_>,
     source: &'source str,
@@ -252,7 +258,7 @@ fn ended<'source, P: Parties>(
     given: Value,
     writer: &mut Counted<Narrow>,
 ) -> End {
-    match template_of(environment, setup.name, source) {
+    match template_of(alloc, environment, setup.name, source) {
         Ok(template) => end_of(&template, given, writer, left),
         Err(error) => Err(error),
     }
@@ -291,7 +297,15 @@ pub(crate) fn expect_row<P: Parties>(
         room: setup.room,
     });
     let given = made(alloc, setup.given)?;
-    let end = ended(environment, setup, row.source, row.left, given, &mut writer);
+    let end = ended(
+        alloc,
+        environment,
+        setup,
+        row.source,
+        row.left,
+        given,
+        &mut writer,
+    );
     let is_ended = is_end(&end, wanted(row.end, environment.undefined_behavior()));
     let written = writer.inner().bytes.as_slice();
     // What stands before a use that is refused under some behaviors alone is none of the row's.

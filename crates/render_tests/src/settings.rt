@@ -4,6 +4,7 @@ use crate::asking::expect_state;
 use crate::callbacks::{folder_of, method_of, rule_of, style_of};
 use crate::party::{Party, Rows, add_objects};
 use crate::renders::{Given, Setup, are, expect_row, fault_of, row_of, template_of, usual};
+use crate::verifying::verify_source;
 use crate::{blocks, bounds, loops, macros, rows, values};
 use std::alloc::Global;
 use std::test::Fail;
@@ -76,6 +77,7 @@ fn is_refused<'source, P: Parties>(
 /// Whether a source, or the template that is kept after `&`, runs out of each fuel up to the number
 /// before it. That fuel is set after it.
 fn is_short<'source, P: Parties>(
+    alloc: Global,
     environment: &mut EnvironmentOf<'source, P>,
     rest: &'source str,
 ) -> bool {
@@ -83,7 +85,7 @@ fn is_short<'source, P: Parties>(
     let most: u64 = most.parse().unwrap_or(0);
     for fuel in 0..=most {
         environment.set_fuel(Some(fuel));
-        if !runs_out(environment, source) {
+        if !runs_out(alloc, environment, source) {
             return false;
         }
     }
@@ -91,19 +93,21 @@ fn is_short<'source, P: Parties>(
 }
 
 fn rendered<'source, P: Parties>(
+    alloc: Global,
     environment: &EnvironmentOf<'source, P>,
     source: &'source str,
 ) -> Result<String, Error> {
-    let template = template_of(environment, "<string>", source)?;
+    let template = template_of(alloc, environment, "<string>", source)?;
     template.render(&mut StateIds::new(), Value::undefined())
 }
 
 /// Whether it does, be it in a block or a template that another one runs.
 fn runs_out<'source, P: Parties>(
+    alloc: Global,
     environment: &EnvironmentOf<'source, P>,
     source: &'source str,
 ) -> bool {
-    match rendered(environment, source) {
+    match rendered(alloc, environment, source) {
         Ok(_) => false,
         Err(error) => fault_of(&error).1.kind() == ErrorKind::OutOfFuel,
     }
@@ -135,7 +139,8 @@ fn set_object(environment: &mut Rows<'_>, word: &str, rest: &str) -> bool {
     true
 }
 
-/// Adds what is named first in the rest to an environment, or sets other delimiters.
+/// Adds what is named first in the rest to an environment, or sets other delimiters. BadStream where a stream of a
+/// template's source is refused.
 fn add<'source, P: Parties>(
     alloc: Global,
     environment: &mut EnvironmentOf<'source, P>,
@@ -146,8 +151,14 @@ fn add<'source, P: Parties>(
     match word {
         "global" => environment.add_global(name, Value::number(source.parse().unwrap_or(0))),
         "text" => environment.add_global(name, Value::text(alloc, source)?),
-        "template" => environment.add_template(name, source),
-        "owned" => environment.add_template_owned(name, String::from_str(alloc, source)?),
+        "template" => {
+            verify_source(alloc, source, environment.syntax())?;
+            environment.add_template(name, source)
+        }
+        "owned" => {
+            verify_source(alloc, source, environment.syntax())?;
+            environment.add_template_owned(name, String::from_str(alloc, source)?)
+        }
         _ => Ok(environment.set_syntax(angles(alloc)?)),
     }
 }
@@ -169,7 +180,7 @@ fn change<'source>(
             Ok(true)
         }
         "refused" => Ok(is_refused(environment, rest)),
-        "short" => Ok(is_short(environment, rest)),
+        "short" => Ok(is_short(alloc, environment, rest)),
         "globals" => has_globals(alloc, environment, rest),
         _ => Ok(set_object(environment, word, rest) || set(environment, word, rest)),
     }
@@ -257,7 +268,7 @@ static TABLES: [&str; 26] = [
 /// Renders all tables. A setting holds until the next one, also in the tables after its own.
 pub(crate) fn expect_tables(alloc: Global, environment: &mut Rows<'_>) -> Result<(), Fail> {
     add_objects(environment)?;
-    blocks::add_layouts(environment)?;
+    blocks::add_layouts(alloc, environment)?;
     expect_table(alloc, environment, blocks::STATES)?;
     blocks::expect_chains(alloc, environment)?;
     for table in &TABLES {
