@@ -7,6 +7,7 @@ pub(crate) const LOOPS: &str = r#"Loops.
 - {% for x in [1] %}{% break %}{% else %}E{% endfor %} =>  => 6
 - {% for x in [1] %}{% set y %}a{% break %}{% endset %}{% endfor %}[{{ y }}] => [] => 11
 - {% for x in [1,2] %}{% with %}{{ x }}{% continue %}{% endwith %}{% endfor %} => 12 => 14
+- {% for x in range(1000) %}{% set y = x %}{% endfor %}[{{ y }}] => [] => 5007
 - {% for x in "ab" %}{{ loop.previtem }}{{ loop.revindex }}{{ loop.nextitem }}{% endfor %} => 2ba1 => 26
 - {% for x in ["a","b","c"] %}{{ loop.previtem }}{{ loop.revindex }}{{ loop.nextitem }}{{ loop.cycle("x","y") }} {% endfor %} => 3bx a2cy b1x  => 59
 - {% for x in [1,2] %}{% for y in [3] %}{{ x }}{{ y }}{{ loop.length }}{% endfor %}{% endfor %} => 131231 => 36

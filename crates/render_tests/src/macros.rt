@@ -26,6 +26,7 @@ pub(crate) const MACROS: &str = r#"Macros and call tags.
 - {% macro m(a=b, b=1) %}{{ a }}{% endmacro %}{{ m() }} => 1 => 17
 - {% macro m(a=1, b) %}{{ a }}{{ b }}{% endmacro %}{{ m(b=2) }} => 12 => 18
 - {% macro m(a=1) %}{{ a }}{% endmacro %}{{ m(x) }}{{ m(none) }} => 1none => 21
+- {% macro m(a) %}{% if a %}{% set z = a %}{% endif %}{{ z }}{% endmacro %}[{{ m(1) }}][{{ m() }}] => [1][] => 24
 - {% macro m(caller) %}{{ caller }}{% endmacro %}{{ m(caller=1) }} => 1 => 12
 - @short 5 {% macro m() %}{{ caller() }}{% endmacro %}{{ m() }}
 - @fuel 6
@@ -39,11 +40,14 @@ pub(crate) const MACROS: &str = r#"Macros and call tags.
 - {% set x = 1 %}{% macro m() %}{{ x }}{% endmacro %}{% with x = 3 %}{{ m() }}{% endwith %} => 1 => 13
 - {% macro m(n) %}{{ n }}{% if n > 0 %}{{ m(n - 1) }}{% endif %}{% endmacro %}{{ m(3) }} => 3210 => 51
 - {% macro a() %}{{ b() }}{% endmacro %}{% macro b() %}B{% endmacro %}{{ a() }} => B => 14
+- {% macro n(a, b) %}<{{ a }}{{ b }}{% set a = 9 %}{{ a }}>{% endmacro %}{% macro m(a, b) %}{{ a }}{{ b }}{{ n(b, a) }}{{ a }}{{ b }}{% endmacro %}{{ m(1, 2) }} => 12<219>12 => 39
 - {% macro o() %}{% macro i() %}{{ z }}{% endmacro %}{% set z = 5 %}{{ i() }}{% endmacro %}{{ o() }} => 5 => 18
 - @short 88 {% macro m() %}{{ m() }}{% endmacro %}{{ m() }}
 - @fuel 89
 - {% macro m() %}{{ m() }}{% endmacro %}{{ m() }} =>  => InvalidOperation
 - @fuel 10000
+- a{% macro m(n) %}{% set k = n %}{% if n %}{{ m(n - 1) }}{% endif %}{% if k % 20 == 0 %}{{ k }} {% endif %}{% endmacro %}{{ m(82) }}b => a0 20 40 60 80 b => ok
+- a{% macro m(n) %}{% set k = n %}{% if n %}{{ m(n - 1) }}{% endif %}{% if k % 20 == 0 %}{{ k }} {% endif %}{% endmacro %}{{ m(20) }}{{ m(83) }}b => a0 20  => InvalidOperation
 - {% macro m(a) %}{% endmacro %}{{ m }} {{ m.arguments }} {{ m.caller }} {{ m.name }} {{ m.x }} => <macro m> ["a"] false m  => 22
 - {% macro m() %}x{% endmacro %}{% set n = {"f": m} %}{{ n.f() }} {{ n["f"]() }} => x x => 19
 - {% macro m() %}x{% endmacro %}{{ m.name() }} =>  => InvalidOperation

@@ -1,5 +1,5 @@
-//! Tests of parts by themselves: errors, writers and what stands around them, fuel, and the way from
-//! a source to its tree and its streams.
+//! Tests of parts by themselves: errors, writers and what stands around them, fuel, scopes, and the way
+//! from a source to its tree and its streams.
 #![tactic(auto)]
 
 #[cfg(test)]
@@ -10,6 +10,8 @@ mod blocks;
 mod caches;
 #[cfg(test)]
 mod code;
+#[cfg(test)]
+mod contexts;
 #[cfg(test)]
 mod errors;
 #[cfg(test)]
