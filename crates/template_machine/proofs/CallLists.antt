@@ -10,7 +10,7 @@ use Rattle.tm_definitions.specs.Maps.{dict_of, namespace_of}
 use Rattle.tm_definitions.specs.Ranges.{range_of}
 use Rattle.tm_meaning.specs.World.{World, HostValue, Function, Object, callers, languages, Res, Good, bind, check, need, answered, depth, find, find_name}
 use Rattle.tm_meaning.specs.World.{make_namespace, put_each, records_of, view_of}
-use Rattle.tm_meaning.specs.Calls.{Asked, has, refused, runs, recurs, ask, NestedCall, MakesFurther, Undo, of_block, of_super, of_macro, of_include}
+use Rattle.tm_meaning.specs.Calls.{Asked, has, refused, runs, recurs, ask, MakesFurther, of_macro}
 use Rattle.tm_meaning.specs.Calls.{replied, object_call, found_call, given_by, function_call, value_call, named_call, as_printed, as_truth, from_deeper}
 use Rattle.tm_meaning.specs.Calls.{deeper, enter_block, further_calls, by_depths, depths_left, apply_filter, perform_test}
 use Rattle.tm_meaning.specs.Calls.{enter_macro, macro_call, bound_to, known_stream, macro_scopes, macro_depth}
@@ -22,7 +22,7 @@ use Rattle.tm_meaning.specs.declared.reply.Reply.TheVariants.{Value as gives, Fa
 use Rattle.tm_meaning.specs.declared.reply.Call.{Call}
 use Rattle.tm_meaning.specs.declared.reply.Call.TheVariants as further
 use Rattle.tm_state.specs.State.{IsSaved, undo_of, saved_scopes}
-use Rattle.tm_state.specs.Answers.{Becomes, NeedsRun, call_of}
+use Rattle.tm_state.specs.Answers.{Becomes, call_of}
 use Rattle.tm_state.specs.declared.saved.Saved.{Saved}
 use Rattle.tm_state.specs.declared.saved.Saved.TheVariants as saved
 use Rattle.tm_state.specs.declared.saved.SavedMacro.{SavedMacro}

@@ -1,5 +1,5 @@
 -- Streams that are accepted are never stuck from a world whose records are sound, and leave one.
-use Rattle.std.proofs.Common.{◌≡◌, ◌∙◌, ℕ, List, [], ◌∷◌, Result, Ok, Err, OnOk, OnErr, Bool, true, false, refl, sym, ap, subst}
+use Rattle.std.proofs.Common.{◌≡◌, ◌∙◌, ℕ, List, [], Result, Ok, Err, OnOk, OnErr, Bool, true, false, refl, sym, ap, subst}
 use Rattle.tm_values.specs.declared.error.ErrorKind.{ErrorKind}
 use Rattle.tm_meaning.specs.Calls.{Asked, has, refused, recurs, runs, Callee}
 use Rattle.tm_meaning.specs.Memory.{is_want_of_memory}
@@ -16,7 +16,7 @@ use Rattle.tm_safety.specs.Runs.{EndsIn, stream_of}
 use Rattle.tm_safety.proofs.Comes.{Comes}
 use Rattle.tm_safety.proofs.Never.{leaves_records, never_stuck}
 use Rattle.tm_state.specs.Answers.{Becomes, call_of}
-use Rattle.tm_state.specs.State.{callee_of, put_back}
+use Rattle.tm_state.specs.State.{put_back}
 use Rattle.tm_state.specs.declared.calls.CallResult.{CallResult}
 use Rattle.tm_state.specs.declared.calls.CallResult.TheVariants as outcome
 use Rattle.tm_state.specs.declared.saved.Saved.{Saved}

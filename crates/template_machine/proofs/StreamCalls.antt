@@ -9,7 +9,7 @@ use Rattle.tm_values.specs.declared.error.ErrorKind.{ErrorKind}
 use Rattle.tm_values.specs.declared.error.ErrorKind.TheVariants.{InvalidOperation}
 use Rattle.tm_meaning.specs.Calls.{Asked, has, refused, recurs, runs, Callee, NestedCall, as_truth, block_call, run_value, undone, wrapped}
 use Rattle.tm_meaning.specs.Memory.{is_want_of_memory}
-use Rattle.tm_meaning.specs.Machine.{Capture, Config, End, Finished, Failed, Stuck, Over, Program, base_of, first_run, new_capture, running}
+use Rattle.tm_meaning.specs.Machine.{Capture, Config, End, Finished, Failed, Stuck, Over, base_of, first_run, new_capture, running}
 use Rattle.tm_meaning.specs.Steps.{begins, begun, over}
 use Rattle.tm_meaning.specs.World.{World, Res, Good, Bad}
 use Rattle.tm_meaning.specs.declared.stream.StreamId.{StreamId}
@@ -25,9 +25,9 @@ use Rattle.tm_state.specs.declared.saved.Saved.TheVariants as saved
 use Rattle.tm_state.specs.declared.saved.SavedBlock.{SavedBlock}
 use Rattle.tm_state.specs.declared.nested.NestedRun.{NestedRun}
 use Rattle.tm_tables.specs.Stated.{StatedObjects}
-use Rattle.tm_vm.specs.Answers.{ComesTo, HaltsAs, ReachesEnd, program}
+use Rattle.tm_vm.specs.Answers.{HaltsAs, ReachesEnd}
 use Rattle.tm_vm.proofs.Loop.{undone_is}
-use Rattle.template_machine.specs.Environment.{TemplateValue, code, host_of}
+use Rattle.template_machine.specs.Environment.{TemplateValue, code}
 use Rattle.template_machine.specs.Renders.{BlockRan, BlockStreamed, BlockText, IsBlockDone, IsEntered, StateValue, StreamRan, block_asked, block_ran, block_refused}
 use Rattle.template_machine.specs.Renders.{CallComes, CalleeRan, IsMacroCall, IsMemory, IsTested, RunCaptured, RunEnds, SoundRecords, StreamCalled, call_streamed, call_by_memory}
 use Rattle.template_machine.specs.Renders.{forgetting, is_cut, program_of}

@@ -1,20 +1,17 @@
 -- What a run of streams answered.
 use Rattle.std.proofs.Common.{◌≡◌, ℕ, List, [], ◌∷◌, Option, Some, None, Result, Ok, Err, Bool, true, false, String, string_bytes, length, refl, sym, ap, subst, ◌∙◌, inl, inr}
 use Rattle.std.specs.declared.alloc.Global.{Global}
-use Rattle.std.specs.Io.KnownBytes.{Appends}
 use Rattle.tm_values.specs.Val.{Val}
 use Rattle.tm_values.specs.declared.error.ErrorKind.{ErrorKind}
-use Rattle.tm_values.specs.declared.error.ErrorKind.TheVariants.{WriteFailure}
 use Rattle.tm_syntax.specs.Named.{find}
 use Rattle.tm_meaning.specs.Calls.{whole}
 use Rattle.tm_meaning.specs.Memory.{is_want_of_memory}
 use Rattle.tm_meaning.specs.Machine.{Capture, Config, End, Finished, Failed, Stuck, Program, base_of, new_capture, run_from, running}
-use Rattle.tm_meaning.specs.Steps.{Leads, begins, final, step}
+use Rattle.tm_meaning.specs.Steps.{step}
 use Rattle.tm_meaning.specs.World.{World, or_is}
 use Rattle.tm_meaning.specs.declared.stream.StreamId.{StreamId}
 use Rattle.tm_meaning.specs.declared.stream.TemplateId.{TemplateId}
 use Rattle.tm_meaning.specs.declared.stream.TemplateId.TheVariants.{Own, Entry}
-use Rattle.tm_output.specs.Counts.{saturating_increment}
 use Rattle.tm_parts.specs.Halts.{error_of, failures_after}
 use Rattle.tm_parts.specs.declared.halt.Halt.{Halt}
 use Rattle.tm_parts.specs.declared.halt.Halt.TheVariants as halt
@@ -26,7 +23,7 @@ use Rattle.tm_templates.proofs.Accepted.{find_all}
 use Rattle.tm_vm.specs.Answers.{HaltsAs, ReachesEnd}
 use Rattle.tm_vm.specs.Nested.{WroteBeginning}
 use Rattle.template_machine.specs.Environment.{TemplateValue, code, meant}
-use Rattle.template_machine.specs.Renders.{CapturedValue, StateValue, IsMemory, IsStreamEnd, IsStreamRun, IsStreamText, SoundRecords, StreamBegins}
+use Rattle.template_machine.specs.Renders.{CapturedValue, StateValue, IsStreamEnd, SoundRecords, StreamBegins}
 use Rattle.template_machine.specs.Renders.{StreamCaptured, StreamEnds, forgetting, is_cut}
 use Rattle.template_machine.specs.Renders.{StreamRan, stream_ran, stream_by_writer, stream_by_memory, StreamState, state_by_memory, state_streamed, Streamed, streamed}
 use Rattle.template_machine.specs.Renders.{streamed_by_writer, streamed_by_memory, program_of}

@@ -1,5 +1,5 @@
 -- What the evaluation of a stream answered.
-use Rattle.std.proofs.Common.{◌≡◌, ℕ, List, [], ◌∷◌, Option, Result, Ok, Err, length, refl, sym, ap, subst, ◌∙◌, inl, inr}
+use Rattle.std.proofs.Common.{◌≡◌, ℕ, List, [], ◌∷◌, Option, Result, Err, length, refl, sym, ap, subst, ◌∙◌, inl, inr}
 use Rattle.tm_values.specs.Answer.{IsAnswer}
 use Rattle.tm_values.specs.Val.{Val}
 use Rattle.tm_values.specs.declared.error.ErrorKind.{ErrorKind}

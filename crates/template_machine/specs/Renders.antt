@@ -9,7 +9,7 @@ use Rattle.tm_values.specs.Val.{Val, boolean, undefined}
 use Rattle.tm_values.specs.declared.error.ErrorKind.{ErrorKind}
 use Rattle.tm_values.specs.declared.error.ErrorKind.TheVariants.{InvalidOperation, WriteFailure}
 use Rattle.tm_syntax.specs.Named.{put}
-use Rattle.tm_meaning.specs.World.{World, Res, Good, Bad, answered}
+use Rattle.tm_meaning.specs.World.{World, Res, Good, Bad}
 use Rattle.tm_meaning.specs.Calls.{Asked, has, refused, recurs, runs, Callee, NestedCall, Undo, of_block, run_value, undone, whole, wrapped}
 use Rattle.tm_meaning.specs.Calls.{apply_filter, enter_block, perform_test}
 use Rattle.tm_tables.specs.Stated.{StatedObjects}
