@@ -123,7 +123,7 @@ fn code_of(alloc: Global, block: Option<BlockCode>) -> Option<Verified> {
 }
 
 /// Takes out the root's stream, or that of block `b` at times, where there is one.
-fn loose(alloc: Global, tree: &Tree, dice: &mut Dice) -> Result<Loose, Error> {
+fn take_out(alloc: Global, tree: &Tree, dice: &mut Dice) -> Result<Loose, Error> {
     let Streams { root, mut blocks } = generate(alloc, tree)?;
     let mut beside = BTreeMap::new(alloc);
     if let Some(code) = code_of(alloc, blocks.remove("a")) {
@@ -147,8 +147,8 @@ fn loose(alloc: Global, tree: &Tree, dice: &mut Dice) -> Result<Loose, Error> {
     })
 }
 
-/// Changes one instruction of a stream, if it has any: turns it round with another, takes it out, where no jump is
-/// mended, or puts a random one there.
+/// Changes one instruction of a stream, if it has any: swaps it with another, takes it out and mends no jump, or puts a
+/// random one there.
 fn change(alloc: Global, stream: &mut Vec<Instruction>, dice: &mut Dice) -> Result<(), Error> {
     let size = stream.len();
     let place = dice.roll(size);
@@ -187,7 +187,7 @@ fn as_placed<P: Parties>(
 }
 
 /// What a changed stream of a tree comes to, where it runs in one of the ways.
-fn outcome<P: Parties>(
+fn comes_to<P: Parties>(
     alloc: Global,
     environment: &EnvironmentOf<'_, P>,
     origin: &Origin,
@@ -198,7 +198,7 @@ fn outcome<P: Parties>(
         mut stream,
         root,
         blocks,
-    } = loose(alloc, &origin.tree, dice)?;
+    } = take_out(alloc, &origin.tree, dice)?;
     change(alloc, &mut stream, dice)?;
     let Ok(verified) = verify(alloc, stream, origin.form) else {
         return Ok(Outcome::Refused);
@@ -220,7 +220,7 @@ fn outcome_in_all<P: Parties>(
     let start = *dice;
     for way in &WAYS {
         *dice = start;
-        match outcome(alloc, environment, origin, dice, *way)? {
+        match comes_to(alloc, environment, origin, dice, *way)? {
             Outcome::Sound => {}
             other => return Ok(other),
         }
