@@ -148,6 +148,13 @@ fn renders_sources<P: Parties>(environment: &EnvironmentOf<'_, P>) -> Result<boo
     Ok(sum.as_str() == "2" && page.as_str() == "&lt;" && is_unnamed && ids.next()? == 2)
 }
 
+fn resumes_numbers<P: Parties>(environment: &EnvironmentOf<'_, P>) -> Result<bool, Error> {
+    let mut ids = StateIds::resume(u64::MAX - 1);
+    let last = environment.render_str(&mut ids, "x", Value::undefined())?;
+    let none = environment.render_str(&mut ids, "x", Value::undefined());
+    Ok(last.as_str() == "x" && is_fault(none, ErrorKind::InvalidOperation))
+}
+
 fn tells_names<P: Parties>(environment: &EnvironmentOf<'_, P>) -> Result<bool, Error> {
     let source = "{% set a = b %}{{ a }}{{ user.name }}";
     let template = environment.template_from_named_str("a.html", source)?;
@@ -523,6 +530,7 @@ fn sources_serve(rt: HostRuntime) -> Result<(), Fail> {
     let alloc = rt.alloc();
     let environment = Environment::new(alloc)?;
     assert!(rt; renders_sources(&environment)?);
+    assert!(rt; resumes_numbers(&environment)?);
     assert!(rt; tells_names(&environment)?);
     assert!(rt; evaluates(alloc, &environment)?);
     assert!(rt; evaluates_owned(alloc, &environment)?);

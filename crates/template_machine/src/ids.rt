@@ -37,6 +37,13 @@ impl StateIds {
         StateIds { next: 0 }
     }
 
+    /// A counter whose next number is this, as of one that was kept. With the greatest u64 it is full.
+    pub fn resume(next: u64) -> StateIds
+        ensures { result ≡ next }
+    {
+        StateIds { next }
+    }
+
     /// The next number, which is never given again. InvalidOperation, and nothing changes, where it is the greatest u64.
     pub fn next(&mut self) -> Result<u64, Error>
         ensures { MatchResult result

@@ -7,11 +7,13 @@ use Rattle.std.specs.Ordering.{nat_cmp}
 use Rattle.std.specs.declared.cmp.Ordering.{Ordering}
 use Rattle.std.specs.Prelude.{◌≡◌, ℕ, Vec, List, [], ◌∷◌, ◌++◌, Option, None, Some, Result, Ok, Err, false}
 use Rattle.tm_definitions.specs.Members.{or_undefined}
-use Rattle.tm_values.specs.Val.{Val, entries_in}
+use Rattle.tm_syntax.specs.Named.{put}
+use Rattle.tm_values.specs.Val.{Val, entries_in, undefined}
 use Rattle.tm_values.specs.declared.error.ErrorKind.{ErrorKind}
 use Rattle.tm_values.specs.declared.error.ErrorKind.TheVariants.{TooManyArguments}
 use Rattle.tm_meaning.specs.Memory.{is_want_of_memory}
 use Rattle.tm_meaning.specs.Calls.{after_first, is_argument}
+use Rattle.tm_meaning.specs.World.{Bindings, Scopes, plain_scope}
 
 -- the pairs of a keyword map that is given, or none
 abbrev pub given_in : Option (Bor Val) → List (Val × Val)
@@ -43,6 +45,22 @@ IsBound (Err chain) stated = is_want_of_memory chain ≡ false → (chain ≡ To
 abbrev pub BindsTo : Result (Vec Val Global) (List ErrorKind) → Option (List Val) → Type 0
 BindsTo (Ok vs) stated = stated ≡ Some vs.items
 BindsTo (Err chain) stated = is_want_of_memory chain ≡ false → (chain ≡ TooManyArguments ∷ []) × (stated ≡ None)
+
+-- ---------------------------------------------------------------- scopes of calls
+abbrev pub no_scopes : Scopes
+no_scopes = record { frames = []; outer = 0 }
+
+-- a caller's name with its value, if these are given
+abbrev pub called_locals : Option (List ℕ × Val) → Bindings
+called_locals None = []
+called_locals (Some p) = put p.0 p.1 []
+
+-- the scopes of a macro's call: one over a context value, and over it one that may read a closure; they stand at a depth
+abbrev pub called_scopes : Val → Option ℕ → ℕ → Option (List ℕ × Val) → Scopes
+called_scopes root reads outer caller = record {
+  frames = record (plain_scope (undefined false)) { locals = called_locals caller; reads = reads } ∷ plain_scope root ∷ [];
+  outer = outer;
+}
 
 -- ---------------------------------------------------------------- sets of names
 -- the order of names after references

@@ -11,6 +11,7 @@ mod includes;
 mod inheritance;
 mod macros;
 mod nested;
+mod pool;
 mod records;
 mod rooms;
 mod runs;

@@ -1,10 +1,11 @@
 //! Macros: closures, values and the arguments that calls give.
 ghost use Rattle.std.specs.Prelude.{◌≡◌, ◌+◌, ◌≤◌, ◌<◌, ◌∷◌, [], IfErr, IfOk, IfSome, None, Ok, OnErr, OnOk, Some, false, length, map as each};
 ghost use Rattle.std.specs.Rc.{rc_str_bytes};
-ghost use Rattle.tm_meaning.specs.Calls.{enter_macro, known_stream, macro_scopes, refused};
+ghost use Rattle.tm_meaning.specs.Calls.{enter_macro, first_locals, known_stream, macro_scopes, refused};
 ghost use Rattle.tm_meaning.specs.Memory.{is_want_of_memory};
 ghost use Rattle.tm_meaning.specs.World.{Bad, Good, HostValue, closing_over, depth, enclose, find_name, make_macro, own_closure, put_enclosed, view_of};
 ghost use Rattle.tm_state.specs.Answers.{CallDeeper, KeepsFixedAndNames, NeedsMacro};
+ghost use Rattle.tm_state.specs.Macros.{called_locals};
 ghost use Rattle.tm_state.specs.State.{in_macro, runs_macro, saved_scopes};
 ghost use Rattle.tm_values.specs.Val.{macro};
 ghost use Rattle.tm_values.specs.Answer.{IsLent, OkOrOutOfMemory};
@@ -190,9 +191,9 @@ impl StateData {
         if outer.saturating_add(1) >= host.recursion_limit() {
             return Err(Error::from(ErrorKind::InvalidOperation));
         }
-        let context = self.macro_scopes(alloc, declared, args, outer)?;
         let running = stream.share()?;
         let lists = self.lists.copy(alloc)?;
+        let context = self.macro_scopes(alloc, declared, args, outer)?;
         let run = RunOf::Macro(stream, declared.entry(), given);
         let saved = self.run_macro(running, context, lists);
         entry.refill(run, text, saved);
@@ -211,12 +212,15 @@ impl StateData {
         self.streams.get(declared.stream())
     }
 
-    /// The macro that a name stands for in the scopes, where it stands for one.
+    /// The macro that a name stands for in the scopes, where it stands for one and this state made macros, since others'
+    /// can't be called here.
     #[inline(always)]
     pub fn macro_named(&self, name: &Name) -> Option<&Macro>
         ensures { IfSome result (λ m. (host : HostValue) →
             find_name (view_of host self.now) name.now ≡ Ok (Some (macro m.now))) }
     {
+        // Most calls are of functions, in states without macros.
+        let _made = self.streams.get(0)?;
         match self.context.find(name, &self.closures, self) {
             Ok(Some(Found::Value(value))) => match &value.node {
                 Node::Macro(declared) => Some(declared.as_ref()),
@@ -267,11 +271,25 @@ impl StateData {
         ensures unchanged { self.new ≡ self.old }
     {
         let root = self.context.root_context()?;
-        let room = self.rooms.take_scopes(alloc);
-        let mut context = room.into_macro(alloc, root, declared.closure(), outer)?;
-        if takes_caller(declared) {
-            context.store(Name::new(alloc, "caller")?, given_caller(args)?)?;
-        }
-        Ok(context)
+        let caller = caller_of(alloc, declared, args)?;
+        self.rooms
+            .contexts
+            .lend(alloc, root, declared.closure(), outer, caller)
     }
+}
+
+/// The name `caller` with its value, if the macro takes it and has no argument of that name. Fails by OutOfMemory alone.
+fn caller_of(
+    alloc: Global,
+    declared: &Macro,
+    args: &[Value],
+) -> Result<Option<(Name, Value)>, Error>
+    ensures { OkOrOutOfMemory result
+        (λ caller. called_locals caller ≡ first_locals declared.now args.now) }
+{
+    if !takes_caller(declared) {
+        return Ok(None);
+    }
+    let name = Name::new(alloc, "caller")?;
+    Ok(Some((name, given_caller(args)?)))
 }

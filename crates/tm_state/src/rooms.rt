@@ -2,13 +2,13 @@
 ghost use Rattle.std.specs.Prelude.{◌≡◌, []};
 
 use crate::nested::NestedRun;
+use crate::pool::ContextPool;
 use std::alloc::Global;
-use tm_tables::Context;
 use tm_values::Value;
 
-/// Rooms of what is over, which hold no values. No contract sees them.
+/// Rooms of what is over, which hold no values. No contract on a state sees them.
 pub(crate) struct Rooms {
-    scopes: Vec<Context>,
+    pub(crate) contexts: ContextPool,
     operands: Vec<Vec<Value>>,
     runs: Vec<Box<NestedRun>>,
 }
@@ -17,7 +17,7 @@ pub(crate) struct Rooms {
 impl Drop for Rooms {
     fn drop(self) {
         let Rooms {
-            scopes: _scopes,
+            contexts: _contexts,
             operands: _operands,
             runs: _runs,
         } = self;
@@ -28,7 +28,7 @@ impl Rooms {
     /// No rooms.
     pub(crate) fn new(alloc: Global) -> Rooms {
         Rooms {
-            scopes: Vec::new(alloc),
+            contexts: ContextPool::new(alloc),
             operands: Vec::new(alloc),
             runs: Vec::new(alloc),
         }
@@ -37,19 +37,6 @@ impl Rooms {
     /// The allocator of the rooms.
     pub(crate) fn allocator(&self) -> Global {
         *self.runs.allocator()
-    }
-
-    /// The room of a macro's scopes, where one is there.
-    pub(crate) fn take_scopes(&mut self, alloc: Global) -> Context {
-        match self.scopes.pop() {
-            Some(room) => room,
-            None => Context::new(alloc),
-        }
-    }
-
-    /// Keeps the room of these scopes, where there is memory for that.
-    pub(crate) fn keep_scopes(&mut self, scopes: &mut Context) {
-        let _kept = self.scopes.push(scopes.take_room());
     }
 
     /// Room for values, in which there are none.

@@ -1,5 +1,5 @@
 //! What runs: blocks that are entered, and what is put back after a run.
-ghost use Rattle.std.specs.Prelude.{◌≡◌, ◌+◌, ◌≤◌, ◌∷◌, [], IfErr, IfOk, None, OnErr, OnOk, Some, false};
+ghost use Rattle.std.specs.Prelude.{◌≡◌, ◌+◌, ◌-◌, ◌≤◌, ◌∷◌, [], IfErr, IfOk, None, OnErr, OnOk, Some, false};
 ghost use Rattle.tm_meaning.specs.Calls.{deeper, enter_block, refused};
 ghost use Rattle.tm_meaning.specs.Memory.{is_want_of_memory};
 ghost use Rattle.tm_meaning.specs.World.{depth};
@@ -10,6 +10,7 @@ ghost use Rattle.tm_values.specs.Answer.{IsLent};
 
 use crate::calls::CallResult;
 use crate::nested::{NestedRun, RunOf};
+use crate::pool::ContextPool;
 use crate::saved::{Saved, SavedBlock, SavedInclude, SavedMacro, SavedSuper};
 use crate::state::StateData;
 use std::alloc::Global;
@@ -251,8 +252,7 @@ impl StateData {
             escape,
             lists,
         } = saved;
-        mem::swap(&mut self.context, context);
-        self.rooms.keep_scopes(context);
+        swap_back(&mut self.context, context, &mut self.rooms.contexts);
         mem::swap(&mut self.stream, stream);
         mem::swap(&mut self.block, block);
         self.escape = *escape;
@@ -284,4 +284,14 @@ impl StateData {
     {
         self.rooms.keep_operands(operands);
     }
+}
+
+/// Puts back the scopes that a macro's replaced, and gives the macro's own back to the pool.
+#[inline(always)]
+fn swap_back(own: &mut Context, saved: &mut Context, pool: &mut ContextPool)
+    ensures back { own.new ≡ saved.old }
+    ensures given { pool.new ≡ pool.old - 1 }
+{
+    mem::swap(own, saved);
+    pool.take_back(saved);
 }

@@ -121,7 +121,7 @@ impl StateData {
         ensures { OkOrOutOfMemory result
             (λ s. s ≡ started id template names.now.value escape fuel context) }
     {
-        let context = Context::new_with_frame(alloc, Frame::new(alloc, context))?;
+        let context = Context::new_with_frame(alloc, Frame::new(context))?;
         let mut lists = Lists::new(alloc);
         lists.append(alloc, &template, names)?;
         Ok(StateData {
@@ -374,7 +374,7 @@ impl StateData {
         ensures err { OnErr result (self.new ≡ self.old) }
     {
         self.context
-            .push_frame(Frame::new(alloc, Value::undefined()), limit)
+            .push_frame(Frame::new(Value::undefined()), limit)
     }
 
     /// A loop of a number over items in a scope of its own, with a record after all others. InvalidOperation
@@ -398,7 +398,7 @@ impl StateData {
             number: self.loops.len(),
             variable: flags.variable,
         };
-        self.context.push_frame(Frame::of_loop(alloc, mark), limit)?;
+        self.context.push_frame(Frame::of_loop(mark), limit)?;
         let added = match depth {
             Some(depth) => add_loop(
                 &mut self.loops,
@@ -493,6 +493,7 @@ impl StateData {
     }
 
     /// The innermost scope loses its names.
+    #[inline(always)]
     pub fn clear_locals(&mut self)
         ensures { self.new ≡ cleared self.old }
     {

@@ -13,7 +13,7 @@ use Rattle.tm_syntax.specs.Named.{name_cmp, put}
 use Rattle.tm_values.specs.Map as maps
 use Rattle.tm_values.specs.Val.{Val, text}
 use Rattle.tm_meaning.specs.World.{Bindings, choose, exported, is_exported}
-use Rattle.tm_tables.specs.Locals.{in_order}
+use Rattle.tm_tables.specs.Pairs.{in_order}
 use Rattle.tm_tables.proofs.Ordered.{at_same, sorted-in_order}
 
 -- ---------------------------------------------------------------- pairs one after the other

@@ -15,7 +15,7 @@ use Rattle.tm_syntax.specs.HashedLaws.{hashed_total}
 use Rattle.tm_syntax.specs.Named.{Named, name_cmp, put}
 use Rattle.tm_tables.specs.BlockNames.{by_text, names_alone}
 use Rattle.tm_tables.specs.Known.{is_among}
-use Rattle.tm_tables.specs.Locals.{in_order}
+use Rattle.tm_tables.specs.Pairs.{in_order}
 use Rattle.tm_tables.specs.Places.{AreOrdered}
 use Rattle.tm_tables.proofs.Ordered.{among-keys, either_way, is_at-hashed, names_in_order}
 use Rattle.tm_tables.proofs.Places.{ordered-none, ordered-put}

@@ -1,10 +1,9 @@
 -- Names that stand among others, and what look-ups find of them.
-use Rattle.std.proofs.Common.{◌≡◌, ◌<◌, ◌+◌, ◌||◌, ◌&&◌, ℕ, List, [], ◌∷◌, ◌++◌, length, get_or, take, reverse, Bool, true, false, cond}
-use Rattle.std.proofs.Common.{Bor, Ordering, Option, Some, None, Ok, Err, is_ok, is_some, option_map, true≢false, inl, inr, Result, refl}
+use Rattle.std.proofs.Common.{◌≡◌, ◌||◌, ◌&&◌, ℕ, List, [], ◌∷◌, ◌++◌, Bool, true, false, cond}
+use Rattle.std.proofs.Common.{Bor, Ordering, Option, Some, None, Ok, Err, is_some, option_map, true≢false, Result, refl}
 use Rattle.std.proofs.Common.{sym, ap, subst, ◌∙◌}
-use Rattle.std.proofs.lemmas.List.{reverse-append, take_more}
-use Rattle.std.proofs.lemmas.List.Folds.{list_any-append, list_any_at}
-use Rattle.std.proofs.lemmas.List.Sorted.{list_any-IsPermutation, IsPermutation-reverse}
+use Rattle.std.proofs.lemmas.List.Folds.{list_any-append}
+use Rattle.std.proofs.lemmas.List.Sorted.{list_any-IsPermutation}
 use Rattle.std.proofs.lemmas.Map.Made.{is_some-lookup}
 use Rattle.std.proofs.lemmas.Map.Text.{is_eq-slice_cmp}
 use Rattle.std.proofs.lemmas.Slice.Eq.{bytes_eq-Decides}
@@ -22,15 +21,13 @@ use Rattle.tm_values.proofs.Maps.{above}
 use Rattle.tm_values.specs.Answer.{Answer}
 use Rattle.tm_values.specs.Map.{IsAbove, IsMap, find}
 use Rattle.tm_values.specs.Order.{val_cmp}
-use Rattle.tm_values.specs.Records.{RecordData}
 use Rattle.tm_values.specs.Val.{Val, undefined, none, boolean, number, text, list, map as maps, keywords, exports, function, macro, loop}
 use Rattle.tm_values.specs.Val.{namespace, text_in}
-use Rattle.tm_values.specs.declared.error.ErrorKind.{ErrorKind}
 use Rattle.tm_meaning.specs.World.{Bindings, Scope, View, context_member, find_name, in_frames, in_scope, marked_loop, or_else, or_on}
 use Rattle.tm_meaning.specs.World.{or_on_answer, read_closure}
 use Rattle.tm_meaning.specs.declared.mark.LoopMark.{LoopMark}
-use Rattle.tm_tables.specs.Known.{AddsFound, AreFound, AreFoundIn, AreKnownIn, NamingFails, has_text, one_lacks_record, is_among, is_found}
-use Rattle.tm_tables.specs.Known.{lacks_record, or_else_found}
+use Rattle.tm_tables.specs.Known.{AreFound, AreKnownIn, has_text, is_among, is_found}
+use Rattle.tm_tables.specs.Known.{or_else_found}
 use Rattle.tm_tables.specs.Closures.{names_of, names_read}
 
 -- ---------------------------------------------------------------- names in order, each once
@@ -202,59 +199,11 @@ scope-adds view s x pairs before member m =
     ∙ ap (λ b. Ok ((is_among x (keys_of s.locals) || (loop || enclosed)) || b)) (sym (texts-found x pairs m)))
     ∙ ap (λ b. Ok b) (regrouped before (is_among x (keys_of s.locals)) loop enclosed (has_text x pairs))
 
--- ---------------------------------------------------------------- scopes, one by one
-or-true : (a : Bool) → (a || true) ≡ true
-or-true true = refl
-or-true false = refl
-
-one-more : (own : Option Val) (member rest : Answer (Option Val)) (before after : Bool) → is_found rest ≡ Ok before →
-    or_else_found before (is_found (or_on own (λ _. or_on_answer member (λ _. Ok None)))) ≡ Ok after →
-    is_found (or_on own (λ _. or_on_answer member (λ _. rest))) ≡ Ok after
-one-more (Some v) member rest before after outer h = ap (λ b. Ok b) (sym (or-true before)) ∙ h
-one-more None (Ok (Some v)) rest before after outer h = ap (λ b. Ok b) (sym (or-true before)) ∙ h
-one-more None (Ok None) rest before after outer h = outer ∙ ap (λ b. Ok b) (sym (or-false before)) ∙ h
-one-more None (Err chain) rest before after outer h = absurd (true≢false (ap is_ok (sym h)))
-
--- an inner scope's names stand after those of the outer ones
-pub scopes-more : (r : RecordData) (cs : List Bindings) (s : Scope) (ss : List Scope) (before after : List (List ℕ)) →
-    AreFoundIn r cs ss before → AddsFound r cs (s ∷ []) before after → AreFoundIn r cs (s ∷ ss) after
-scopes-more r cs s ss before after outer adds view e f x =
-    one-more (in_scope view x s) (context_member view.records x s.context) (in_frames view x ss) (is_among x before) (is_among x after)
-    (outer view e f x) (adds view e f x)
-
--- the scopes that were entered up to one
-entered : (ss : List Scope) (i : ℕ) (s : Scope) → i < length ss → s ≡ get_or ss i s → s ∷ reverse (take i ss) ≡ reverse (take (i + 1) ss)
-entered ss i s lt is = sym (reverse-append (take i ss) (s ∷ [])) ∙ ap (λ t. reverse (take i ss ++ t ∷ [])) is
-    ∙ ap reverse (sym (take_more ss i s lt))
-
-pub entered-more : (r : RecordData) (cs : List Bindings) (ss : List Scope) (i : ℕ) (s : Scope) (before after : List (List ℕ)) →
-    i < length ss → s ≡ get_or ss i s → AreFoundIn r cs (reverse (take i ss)) before → AddsFound r cs (s ∷ []) before after →
-    AreFoundIn r cs (reverse (take (i + 1) ss)) after
-entered-more r cs ss i s before after lt is outer adds =
-    subst (λ scopes. AreFoundIn r cs scopes after) (entered ss i s lt is)
-    (scopes-more r cs s (reverse (take i ss)) before after outer adds)
-
--- a scope over a namespace without a record is among the scopes
-pub lacks-among : (r : RecordData) (ss : List Scope) (i : ℕ) (s : Scope) → i < length ss → s ≡ get_or ss i s →
-    one_lacks_record r (s ∷ []) ≡ true → one_lacks_record r (reverse ss) ≡ true
-lacks-among r ss i s lt is h =
-    let test : Scope → Bool = λ (t : Scope). lacks_record r t.context in
-    sym (list_any-IsPermutation test ss (reverse ss) (IsPermutation-reverse ss))
-    ∙ list_any_at test ss i s lt (ap test (sym is) ∙ sym (or-false (test s)) ∙ h)
-
+-- ---------------------------------------------------------------- errors
 -- an error that is passed on
 pub passed : {T E : Type 0} (result : Result T E) (Q : E → Type 0) (e : E) → IsErrAnd result (λ x. x ≡ e) → Q e → IfErr result Q
 passed (Ok x) Q e p q = tt
 passed (Err y) Q e p q = subst Q (sym p) q
-
-pub fails-among : (r : RecordData) (ss frames : List Scope) (i : ℕ) (s : Scope) (chain : List ErrorKind) → i < length ss →
-    s ≡ get_or ss i s → reverse ss ≡ frames → NamingFails r (s ∷ []) chain → NamingFails r frames chain
-fails-among r ss frames i s chain lt is all (inl memory) = inl memory
-fails-among r ss frames i s chain lt is all (inr (kind, unknown)) = inr (
-  kind,
-  ap (one_lacks_record r) (sym all)
-      ∙ lacks-among r ss i s lt is unknown,
-)
 
 -- ---------------------------------------------------------------- the globals after the scopes
 abbrev found_or : Answer Bool → Bool → Answer Bool

@@ -1,16 +1,14 @@
 -- Names in no order, seen in the order of the names.
-use Rattle.std.proofs.Common.{◌≡◌, ◌≢◌, ◌∙◌, ℕ, zero, suc, List, [], ◌∷◌, ◌++◌, ◌+◌, ◌<◌, ◌≤◌, length, arith, refl, sym, ap, subst, Bool}
+use Rattle.std.proofs.Common.{◌≡◌, ◌≢◌, ◌∙◌, ℕ, zero, suc, List, [], ◌∷◌, ◌++◌, ◌+◌, ◌<◌, length, arith, refl, sym, ap, subst, Bool}
 use Rattle.std.proofs.Common.{true, false, true≢false, cond, Option, Some, None, option_map, slice_get, slice_set, take, is_some, unwrap_or}
 use Rattle.std.proofs.Common.{nat_eq, T, get_or, map, ◌||◌, ◌&&◌}
 use Rattle.std.proofs.lemmas.Map.Lookups.{exact_bytes}
 use Rattle.std.specs.FinMap.Entries.{is_sorted, is_sorted-put, same_entries, by_order, below_all, find-put as find_put, find as find_by}
 use Rattle.std.specs.FinMap.Entries.{put as put_by, where_key, is_sorted-where_key, find-where_key}
-use Rattle.std.specs.List.{remove}
 use Rattle.std.specs.Prelude.{not}
 use Rattle.std.proofs.Common.{Result, Ok, Err, OnOk, OnErr, is_ok}
 use Rattle.tm_values.specs.Val.{Val}
 use Rattle.tm_tables.specs.Closures.{is_other, IsReplaced}
-use Rattle.std.proofs.lemmas.List.{append-nil, append_assoc}
 use Rattle.std.specs.BTreeMap.{is_at, insert_entry}
 use Rattle.std.specs.Cmp.Lexicographic.{bytes_decides, nat_list_cmp_total, nat_list_eq_equiv, other_text, pointwise, same_text, texts_ties}
 use Rattle.std.specs.Map.{keys_of, lookup}
@@ -24,7 +22,7 @@ use Rattle.tm_syntax.specs.Hashed.{hashed_cmp}
 use Rattle.tm_syntax.specs.HashedLaws.{hashed_ties}
 use Rattle.tm_syntax.specs.Named.{Named, find, name_cmp, put}
 use Rattle.tm_tables.specs.Known.{is_among}
-use Rattle.tm_tables.specs.Locals.{in_order, IsPlace}
+use Rattle.tm_tables.specs.Pairs.{in_order, IsPlace}
 
 -- two that are the same compare as equal
 pub at_itself : (x y : List ℕ) → x ≡ y → is_at (name_cmp x) y ≡ true
@@ -62,7 +60,7 @@ turned false false u v w h = refl
 
 module _ {A : Type 0} where
   -- what a name stands for once another pair counts before all
-  abbrev With : List ℕ → A → Named A → Named A → Type 0
+  abbrev pub With : List ℕ → A → Named A → Named A → Type 0
   With x a ps qs = (z : List ℕ) → find z qs ≡ cond (is_at (name_cmp z) x) (Some a) (find z ps)
 
   over_same : (z x : List ℕ) (a : A) (p : List ℕ × A) (ps : Named A) → x ≡ p.0 →
@@ -120,28 +118,26 @@ module _ {A : Type 0} where
       (λ z. find-is z (in_order qs) ∙ find-in_order z qs ∙ h z ∙ ap (cond (is_at (name_cmp z) x) (Some a)) (sym (find-in_order z ps))
       ∙ sym (find-put x a (in_order ps) z) ∙ sym (find-is z (put x a (in_order ps))))
 
-  found_first : (b : Bool) (u : A) (rest : Option A) → cond b (Some u) rest ≡ None → (b ≡ false) × (rest ≡ None)
+  pub found_first : (b : Bool) (u : A) (rest : Option A) → cond b (Some u) rest ≡ None → (b ≡ false) × (rest ≡ None)
   found_first true u rest h = absurd (true≢false (ap is_some h))
   found_first false u rest h = (refl, h)
 
   -- after pairs with other names
-  after : (x : List ℕ) (a : A) (before ps qs : Named A) → find x before ≡ None → With x a ps qs → With x a (before ++ ps) (before ++ qs)
-  after x a [] ps qs h more z = more z
-  after x a (p ∷ before) ps qs h more z =
-      let first = found_first (is_at (name_cmp x) p.0) p.1 (find x before) h in
-      ap (cond (is_at (name_cmp z) p.0) (Some p.1)) (after x a before ps qs first.1 more z) ∙ over_other z x a p (before ++ ps) first.0
+  pub find-snoc : (x : List ℕ) (a : A) (ps : Named A) → find x ps ≡ None → With x a ps (ps ++ (x, a) ∷ [])
+  find-snoc x a [] h z = refl
+  find-snoc x a (p ∷ ps) h z =
+      let first = found_first (is_at (name_cmp x) p.0) p.1 (find x ps) h in
+      ap (cond (is_at (name_cmp z) p.0) (Some p.1)) (find-snoc x a ps first.1 z) ∙ over_other z x a p ps first.0
 
-  pub put_after : (x : List ℕ) (a : A) (ps qs : Named A) → find x ps ≡ None →
-      in_order ((ps ++ (x, a) ∷ []) ++ qs) ≡ put x a (in_order (ps ++ qs))
-  put_after x a ps qs h = ap in_order (append_assoc ps ((x, a) ∷ []) qs)
-      ∙ in_order-with x a (ps ++ qs) (ps ++ (x, a) ∷ qs) (after x a ps qs ((x, a) ∷ qs) h (λ z. refl))
+  pub put_after : (x : List ℕ) (a : A) (ps : Named A) → find x ps ≡ None → in_order (ps ++ (x, a) ∷ []) ≡ put x a (in_order ps)
+  put_after x a ps h = in_order-with x a ps (ps ++ (x, a) ∷ []) (find-snoc x a ps h)
 
   pub find-hashed : (z : List ℕ) (ps : Named A) → lookup (is_at (hashed_cmp z)) ps ≡ find z ps
   find-hashed z [] = refl
   find-hashed z (p ∷ ps) = ap (λ b. cond b (Some p.1) (lookup (is_at (hashed_cmp z)) ps)) (is_at-hashed z p.0)
       ∙ ap (cond (is_at (name_cmp z) p.0) (Some p.1)) (find-hashed z ps)
 
-  hashed-put : (x : List ℕ) (a : A) (ps : Named A) → With x a ps (insert_entry hashed_cmp ps x a)
+  pub hashed-put : (x : List ℕ) (a : A) (ps : Named A) → With x a ps (insert_entry hashed_cmp ps x a)
   hashed-put x a [] z = refl
   hashed-put x a (p ∷ ps) z = by (hashed_cmp x p.0) refl (hashed-put x a ps z)
     where
@@ -153,24 +149,22 @@ module _ {A : Type 0} where
       by Equal e h = over_same z x a p ps (at_same x p.0 (sym (is_at-hashed x p.0) ∙ ap is_eq e))
       by Greater e h = ap (cond (is_at (name_cmp z) p.0) (Some p.1)) h ∙ over_other z x a p ps (sym (is_at-hashed x p.0) ∙ ap is_eq e)
 
-  pub put_among : (x : List ℕ) (a : A) (ps qs : Named A) → find x ps ≡ None →
-      in_order (ps ++ insert_entry hashed_cmp qs x a) ≡ put x a (in_order (ps ++ qs))
-  put_among x a ps qs h = in_order-with x a (ps ++ qs) (ps ++ insert_entry hashed_cmp qs x a)
-      (after x a ps qs (insert_entry hashed_cmp qs x a) h (hashed-put x a qs))
+  pub put_among : (x : List ℕ) (a : A) (ps : Named A) → in_order (insert_entry hashed_cmp ps x a) ≡ put x a (in_order ps)
+  put_among x a ps = in_order-with x a ps (insert_entry hashed_cmp ps x a) (hashed-put x a ps)
 
-  replaced : (x : List ℕ) (a : A) (k : List ℕ) (ps qs : Named A) (n : ℕ) → k ≡ x → IsPlace x ps (Some n) →
-      With x a (ps ++ qs) (slice_set ps n (k, a) ++ qs)
-  replaced x a k [] qs n e h z = absurd (true≢false (sym (ap is_some h.1)))
-  replaced x a k (p ∷ ps) qs zero e h z =
+  replaced : (x : List ℕ) (a : A) (k : List ℕ) (ps : Named A) (n : ℕ) → k ≡ x → IsPlace x ps (Some n) →
+      With x a ps (slice_set ps n (k, a))
+  replaced x a k [] n e h z = absurd (true≢false (sym (ap is_some h.1)))
+  replaced x a k (p ∷ ps) zero e h z =
       let same : p.0 ≡ x = ap (λ o. unwrap_or o x) h.1 in
-      ap (λ y. cond (is_at (name_cmp z) y) (Some a) (find z (ps ++ qs))) (e ∙ sym same) ∙ over_same z x a p (ps ++ qs) (sym same)
-  replaced x a k (p ∷ ps) qs (suc n) e h z =
+      ap (λ y. cond (is_at (name_cmp z) y) (Some a) (find z ps)) (e ∙ sym same) ∙ over_same z x a p ps (sym same)
+  replaced x a k (p ∷ ps) (suc n) e h z =
       let first = found_first (is_at (name_cmp x) p.0) p.1 (find x (take n ps)) h.0 in
-      ap (cond (is_at (name_cmp z) p.0) (Some p.1)) (replaced x a k ps qs n e (first.1, h.1) z) ∙ over_other z x a p (ps ++ qs) first.0
+      ap (cond (is_at (name_cmp z) p.0) (Some p.1)) (replaced x a k ps n e (first.1, h.1) z) ∙ over_other z x a p ps first.0
 
-  pub put_at : (x : List ℕ) (a : A) (k : List ℕ) (ps qs : Named A) (n : ℕ) → k ≡ x → IsPlace x ps (Some n) →
-      in_order (slice_set ps n (k, a) ++ qs) ≡ put x a (in_order (ps ++ qs))
-  put_at x a k ps qs n e h = in_order-with x a (ps ++ qs) (slice_set ps n (k, a) ++ qs) (replaced x a k ps qs n e h)
+  pub put_at : (x : List ℕ) (a : A) (k : List ℕ) (ps : Named A) (n : ℕ) → k ≡ x → IsPlace x ps (Some n) →
+      in_order (slice_set ps n (k, a)) ≡ put x a (in_order ps)
+  put_at x a k ps n e h = in_order-with x a ps (slice_set ps n (k, a)) (replaced x a k ps n e h)
 
   -- what names stand for once this one stands for nothing
   abbrev Lacks : List ℕ → Named A → Named A → Type 0
@@ -189,62 +183,22 @@ module _ {A : Type 0} where
       ∙ by_other (is_at (name_cmp z) x) (is_at (name_cmp x) z) _ (either_way z x _ refl)
       ∙ sym (find-where_key name_cmp (is_other x) z (λ y e. ap (is_other x) (sym (exact_bytes z y e))) (in_order ps)))
 
-  abbrev or_found : Option A → Option A → Option A
-  or_found None o = o
-  or_found (Some a) o = Some a
-
-  found_one : (b : Bool) (a : A) (u v : Option A) → cond b (Some a) (or_found u v) ≡ or_found (cond b (Some a) u) v
-  found_one true a u v = refl
-  found_one false a u v = refl
-
-  find-both : (z : List ℕ) (ps qs : Named A) → find z (ps ++ qs) ≡ or_found (find z ps) (find z qs)
-  find-both z [] qs = refl
-  find-both z (p ∷ ps) qs =
-      ap (cond (is_at (name_cmp z) p.0) (Some p.1)) (find-both z ps qs) ∙ found_one (is_at (name_cmp z) p.0) p.1 (find z ps) (find z qs)
-
-  -- both parts lack a name, and have the others
-  pub both_lack : (x : List ℕ) (ps qs less fewer : Named A) → find x less ≡ None → find x fewer ≡ None →
-      ((z : List ℕ) → is_at (name_cmp z) x ≡ false → find z less ≡ find z ps) →
-      ((z : List ℕ) → is_at (name_cmp z) x ≡ false → find z fewer ≡ find z qs) →
-      in_order (less ++ fewer) ≡ where_key name_cmp (is_other x) (in_order (ps ++ qs))
-  both_lack x ps qs less fewer none no_more first others =
-      in_order-lacks x (ps ++ qs) (less ++ fewer) (λ z. find-both z less fewer ∙ by z (is_at (name_cmp z) x) refl
-      ∙ ap (cond (is_at (name_cmp z) x) None) (sym (find-both z ps qs)))
+  -- it stands for nothing, and the others for what they did
+  pub forgotten_of : (x : List ℕ) (ps qs : Named A) → find x qs ≡ None →
+      ((z : List ℕ) → is_at (name_cmp z) x ≡ false → find z qs ≡ find z ps) →
+      in_order qs ≡ where_key name_cmp (is_other x) (in_order ps)
+  forgotten_of x ps qs none others = in_order-lacks x ps qs (λ z. by z (is_at (name_cmp z) x) refl)
     where
-      by : (z : List ℕ) (b : Bool) → is_at (name_cmp z) x ≡ b →
-          or_found (find z less) (find z fewer) ≡ cond b None (or_found (find z ps) (find z qs))
-      by z true e =
-          let same = at_same z x e in
-          ap (λ y. or_found (find y less) (find y fewer)) same ∙ ap (λ o. or_found o (find x fewer)) none ∙ no_more
-      by z false e = ap (λ o. or_found o (find z fewer)) (first z e) ∙ ap (or_found (find z ps)) (others z e)
-
-  -- the other names stay when a pair goes
-  pub pair_gone : (z x : List ℕ) (ps : Named A) (n : ℕ) → is_at (name_cmp z) x ≡ false → option_map (λ p. p.0) (slice_get ps n) ≡ Some x →
-      find z (remove ps n) ≡ find z ps
-  pair_gone z x [] n apart h = absurd (true≢false (sym (ap is_some h)))
-  pair_gone z x (p ∷ ps) zero apart h =
-      let same : p.0 ≡ x = ap (λ o. unwrap_or o x) h in
-      sym (ap (λ b. cond b (Some p.1) (find z ps)) (ap (is_at (name_cmp z)) same ∙ apart))
-  pair_gone z x (p ∷ ps) (suc n) apart h = ap (cond (is_at (name_cmp z) p.0) (Some p.1)) (pair_gone z x ps n apart h)
+      by : (z : List ℕ) (b : Bool) → is_at (name_cmp z) x ≡ b → find z qs ≡ cond b None (find z ps)
+      by z true e = ap (λ y. find y qs) (at_same z x e) ∙ none
+      by z false e = others z e
 
   -- what is found
-  pub found_after : (x : List ℕ) (ps qs : Named A) → find x ps ≡ None → find x (in_order (ps ++ qs)) ≡ find x qs
-  found_after x ps qs h = find-in_order x (ps ++ qs) ∙ by ps h
-    where
-      by : (ps : Named A) → find x ps ≡ None → find x (ps ++ qs) ≡ find x qs
-      by [] h = refl
-      by (p ∷ ps) h = let first = found_first (is_at (name_cmp x) p.0) p.1 (find x ps) h in ap
-          (λ b. cond b (Some p.1) (find x (ps ++ qs))) first.0 ∙ by ps first.1
-
-  pub found_at : (x : List ℕ) (ps qs : Named A) (n : ℕ) → IsPlace x ps (Some n) →
-      find x (in_order (ps ++ qs)) ≡ option_map (λ p. p.1) (slice_get ps n)
-  found_at x ps qs n h = find-in_order x (ps ++ qs) ∙ by ps n h
-    where
-      by : (ps : Named A) (n : ℕ) → IsPlace x ps (Some n) → find x (ps ++ qs) ≡ option_map (λ p. p.1) (slice_get ps n)
-      by [] n h = absurd (true≢false (sym (ap is_some h.1)))
-      by (p ∷ ps) zero h = ap (λ b. cond b (Some p.1) (find x (ps ++ qs))) (at_itself x p.0 (sym (ap (λ o. unwrap_or o x) h.1)))
-      by (p ∷ ps) (suc n) h = let first = found_first (is_at (name_cmp x) p.0) p.1 (find x (take n ps)) h.0 in ap
-          (λ b. cond b (Some p.1) (find x (ps ++ qs))) first.0 ∙ by ps n (first.1, h.1)
+  pub found_at : (x : List ℕ) (ps : Named A) (n : ℕ) → IsPlace x ps (Some n) → find x ps ≡ option_map (λ p. p.1) (slice_get ps n)
+  found_at x [] n h = absurd (true≢false (sym (ap is_some h.1)))
+  found_at x (p ∷ ps) zero h = ap (λ b. cond b (Some p.1) (find x ps)) (at_itself x p.0 (sym (ap (λ o. unwrap_or o x) h.1)))
+  found_at x (p ∷ ps) (suc n) h = let first = found_first (is_at (name_cmp x) p.0) p.1 (find x (take n ps)) h.0 in ap
+      (λ b. cond b (Some p.1) (find x ps)) first.0 ∙ found_at x ps n (first.1, h.1)
 
   -- one place more without the name
   pub none_yet : (x : List ℕ) (ps : Named A) (n : ℕ) (p : List ℕ × A) → find x (take n ps) ≡ None → slice_get ps n ≡ Some p →
@@ -270,6 +224,17 @@ module _ {A : Type 0} where
   at_place (q ∷ ps) zero p h = refl
   at_place (q ∷ ps) (suc n) p h = at_place ps n p (omega (arith, h))
 
+  pub place_within : (x : List ℕ) (ps : Named A) (n : ℕ) → IsPlace x ps (Some n) → n < length ps
+  place_within x [] n h = absurd (true≢false (sym (ap is_some h.1)))
+  place_within x (p ∷ ps) zero h = omega arith
+  place_within x (p ∷ ps) (suc n) h =
+      let more = place_within x ps n ((found_first (is_at (name_cmp x) p.0) p.1 (find x (take n ps)) h.0).1, h.1) in
+      omega (arith, more)
+
+  -- what stands at the place of a name, whatever is read where there is none
+  pub found_value : (x : List ℕ) (ps : Named A) (n : ℕ) (d : List ℕ × A) → IsPlace x ps (Some n) → find x ps ≡ Some (get_or ps n d).1
+  found_value x ps n d h = found_at x ps n h ∙ ap (option_map (λ p. p.1)) (at_place ps n d (place_within x ps n h))
+
   pub is_place : (x : List ℕ) (ps : Named A) (n : ℕ) (p : List ℕ × A) → n < length ps → true ≡ pointwise nat_eq (get_or ps n p).0 x →
       option_map (λ q. q.0) (slice_get ps n) ≡ Some x
   is_place x ps n p h e = ap (option_map (λ q. q.0)) (at_place ps n p h) ∙ ap Some (same_text (get_or ps n p).0 x e)
@@ -286,14 +251,12 @@ pub none_of : {A : Type 0} (o : Option A) → is_some o ≡ false → o ≡ None
 none_of None e = refl
 none_of (Some a) e = absurd (true≢false e)
 
-pub replaced_after : {T E : Type 0} (r : Result T E) (done : Bool) (x : List ℕ) (v : Val) (ps qs more : Named Val) → done ≡ is_ok r →
-    OnErr r (lookup (is_at (hashed_cmp x)) qs ≡ None) → is_some (lookup (is_at (hashed_cmp x)) qs) ≡ true →
-    OnOk r (more ≡ insert_entry hashed_cmp qs x v) → find x ps ≡ None →
-    IsReplaced done x v (in_order (ps ++ qs)) (in_order (ps ++ more))
-replaced_after (Ok t) done x v ps qs more is absent there put_in none =
-    subst (λ b. IsReplaced b x v (in_order (ps ++ qs)) (in_order (ps ++ more))) (sym is)
-    (ap (λ l. in_order (ps ++ l)) put_in ∙ put_among x v ps qs none)
-replaced_after (Err e) done x v ps qs more is absent there put_in none = absurd (true≢false (sym there ∙ ap is_some absent))
+pub replaced_by : {T E : Type 0} (r : Result T E) (done : Bool) (x : List ℕ) (v : Val) (ps more : Named Val) → done ≡ is_ok r →
+    OnErr r (lookup (is_at (hashed_cmp x)) ps ≡ None) → is_some (lookup (is_at (hashed_cmp x)) ps) ≡ true →
+    OnOk r (more ≡ insert_entry hashed_cmp ps x v) → IsReplaced done x v (in_order ps) (in_order more)
+replaced_by (Ok t) done x v ps more is absent there put_in =
+    subst (λ b. IsReplaced b x v (in_order ps) (in_order more)) (sym is) (ap in_order put_in ∙ put_among x v ps)
+replaced_by (Err e) done x v ps more is absent there put_in = absurd (true≢false (sym there ∙ ap is_some absent))
 
 -- ---------------------------------------------------------------- the names alone
 abbrev units : List (List ℕ) → Named ℕ
@@ -356,20 +319,3 @@ module _ {A : Type 0} where
       (subst T (sym (sorted-keys (in_order ps))) (sorted-in_order ps))
       (λ z. find-units z ks ∙ ap (λ b. cond b (Some zero) None) (same z ∙ sym (among-keys z ps)) ∙ sym (find-units z others)))
       ∙ keys-units others
-
-  keys-append : (ps qs : Named A) → keys_of (ps ++ qs) ≡ keys_of ps ++ keys_of qs
-  keys-append [] qs = refl
-  keys-append (p ∷ ps) qs = ap (λ l. p.0 ∷ l) (keys-append ps qs)
-
-  take_all : (ps : Named A) (n : ℕ) → length ps ≤ n → take n ps ≡ ps
-  take_all [] zero h = refl
-  take_all [] (suc n) h = refl
-  take_all (p ∷ ps) zero h = absurd (omega (arith, h))
-  take_all (p ∷ ps) (suc n) h = ap (λ l. p ∷ l) (take_all ps n (omega (arith, h)))
-
-  -- the names of both parts, read one after the other
-  pub both_parts : (read mid others : List (List ℕ)) (ps qs : Named A) (n : ℕ) → mid ≡ keys_of (take n ps) → length ps ≤ n →
-      others ≡ keys_of qs → read ++ [] ≡ mid ++ others → read ≡ keys_of (ps ++ qs)
-  both_parts read mid others ps qs n is fits rest e =
-      sym (append-nil read) ∙ e ∙ ap (λ l. l ++ others) (is ∙ ap keys_of (take_all ps n fits)) ∙ ap (λ l. keys_of ps ++ l) rest
-      ∙ sym (keys-append ps qs)

@@ -2,7 +2,7 @@
 use Rattle.std.specs.Map.{keys_of}
 use Rattle.std.specs.Prelude.{ℕ, List, map}
 use Rattle.tm_syntax.specs.Named.{Named}
-use Rattle.tm_tables.specs.Locals.{in_order}
+use Rattle.tm_tables.specs.Pairs.{in_order}
 
 -- names that stand for nothing
 abbrev pub names_alone : List (List ℕ) → Named (Unit {0})

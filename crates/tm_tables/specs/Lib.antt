@@ -5,7 +5,8 @@ pub mod Known
 pub mod Language
 pub mod Layers
 pub mod Lists
-pub mod Locals
+pub mod Marks
+pub mod Pairs
 pub mod Places
 pub mod Scopes
 pub mod Stated

@@ -1,22 +1,99 @@
 //! The closures of a state.
+ghost use Rattle.std.specs.Map.{keys_of};
 ghost use Rattle.std.specs.Prelude.{◌≡◌, ◌∷◌, ◌++◌, [], IfErr, IfOk, None, OnErr, OnOk, Some, length};
 ghost use Rattle.tm_meaning.specs.World.{put_at, read_closure};
-ghost use Rattle.tm_syntax.specs.Named.{texts_of};
-ghost use Rattle.tm_tables.specs.Closures.{names_read, others_at, IsReplacedAt};
+ghost use Rattle.tm_syntax.specs.Named.{find, put, texts_of};
+ghost use Rattle.tm_tables.specs.Closures.{names_read, others_at, others_than, IsReplaced, IsReplacedAt};
 ghost use Rattle.tm_values.specs.Answer.{IsLent};
 ghost use Rattle.tm_values.specs.declared.error.ErrorKind.TheVariants.{OutOfMemory};
 
-use crate::locals::Locals;
+use crate::pairs::in_order;
 use std::alloc::{AllocError, Global};
+use std::collections::BTreeMap;
 use std::marker::Model;
 use tm_syntax::Name;
 use tm_values::{Error, Value};
+
+/// A closure: names with what they stand for. A contract sees the pairs, in the order of the names.
+#[derive(Drop)]
+struct Closure {
+    names: BTreeMap<Name, Value>,
+}
+
+impl Model for Closure {
+    ghost use Rattle.std.specs.Coded.{codes};
+    ghost use Rattle.tm_meaning.specs.World.{Bindings};
+    ghost use Rattle.tm_values.specs.Code.{coded_Val};
+    ghost use Rattle.tm_tables.specs.Pairs.{in_order};
+
+    ghost Value = { Bindings };
+
+    ghost coded = { Prim.hlevel (codes, coded_Val) };
+
+    ghost view = { λ c. in_order c.names.entries };
+}
+
+impl Closure {
+    /// No names; this takes no memory.
+    fn new(alloc: Global) -> Closure
+        ensures { result ≡ [] }
+    {
+        Closure {
+            names: BTreeMap::new(alloc),
+        }
+    }
+
+    /// What a name stands for.
+    fn get(&self, name: &Name) -> Option<&Value>
+        ensures { IsLent result (find name.now self.now) }
+    {
+        self.names.get(name)
+    }
+
+    /// Lets a name stand for this, in place of what it stood for. AllocError for want of memory, and then all stays as
+    /// it was.
+    fn insert(&mut self, name: Name, value: Value) -> Result<(), AllocError>
+        ensures ok { OnOk result (self.new ≡ put name value self.old) }
+        ensures err { OnErr result (self.new ≡ self.old) }
+    {
+        self.names.insert(name, value)?;
+        Ok(())
+    }
+
+    /// Lets a name that stands for something stand for this. Else all stays as it was, and the answer is false.
+    fn replace(&mut self, name: Name, value: Value) -> bool
+        ensures { IsReplaced result name value self.old self.new }
+    {
+        if !self.names.contains_key(&name) {
+            return false;
+        }
+        self.names.insert(name, value).is_ok()
+    }
+
+    /// A name stands for nothing from here on.
+    fn remove(&mut self, name: &Name)
+        ensures { self.new ≡ others_than name.now self.old }
+    {
+        let _value = self.names.remove(name);
+    }
+
+    /// The names, in their order. AllocError for want of memory.
+    fn names(&self, alloc: Global) -> Result<Vec<&str>, AllocError>
+        ensures { IfOk result (λ names. texts_of names.items ≡ keys_of self.now) }
+    {
+        let mut names = Vec::new(alloc);
+        for name in self.names.keys() {
+            names.push(name.as_str())?;
+        }
+        Ok(in_order(names))
+    }
+}
 
 /// The closures of a state, by their numbers: names with what they stand for. A contract sees each as its pairs, in the
 /// order of the names.
 #[derive(Drop)]
 pub struct Closures {
-    all: Vec<Locals>,
+    all: Vec<Closure>,
 }
 
 impl Model for Closures {
@@ -77,7 +154,7 @@ impl Closures {
         ensures kind { IfErr result (λ e. e ≡ OutOfMemory ∷ []) }
         ensures err { OnErr result (self.new ≡ self.old) }
     {
-        let mut closure = Locals::new(alloc);
+        let mut closure = Closure::new(alloc);
         closure.insert(name, value)?;
         self.all.push(closure)?;
         Ok(())

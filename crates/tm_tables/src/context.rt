@@ -1,7 +1,7 @@
 //! Scopes.
 ghost use Rattle.std.specs.List.Sorted.{IsStrictlySortedBy};
 ghost use Rattle.std.specs.Prelude.{◌≡◌, ◌<◌, ◌^◌, ◌-◌, [], ◌∷◌, true, false, length, min, nat_lt};
-ghost use Rattle.std.specs.Prelude.{Ok, OnErr, OnOk, IfErr, IfOk, IfSome, MatchOption, Some};
+ghost use Rattle.std.specs.Prelude.{Ok, OnErr, OnOk, IfErr, IfOk, IfSome, Some};
 ghost use Rattle.tm_syntax.specs.Named.{find, name_cmp, texts_of};
 ghost use Rattle.tm_values.specs.Answer.{IsLent, OkOrOutOfMemory, OrStays};
 ghost use Rattle.tm_values.specs.Val.{undefined};
@@ -11,21 +11,25 @@ ghost use Rattle.tm_meaning.specs.World.{owning, without_first, without_locals, 
 ghost use Rattle.tm_meaning.specs.Calls.{outermost, root_context};
 ghost use Rattle.tm_tables.specs.Found.{IsFoundIn};
 ghost use Rattle.tm_tables.specs.Known.{AreFoundIn, AreKnownIn, NamingFails};
-ghost use Rattle.tm_tables.specs.Scopes.{one_scope, PushFails, exported_of};
+ghost use Rattle.tm_tables.specs.Scopes.{one_scope, PushFails, exported_among, exported_of};
 
 use crate::closures::Closures;
-use crate::frame::{Found, Frame};
-use crate::locals::in_order;
-use std::alloc::Global;
+use crate::frame::{Found, Frame, is_exported};
+use crate::mark::{SCANNED, ScopeMark, cut};
+use crate::pairs::{exported, in_order, names_in, place_of, value_of};
+use std::alloc::{AllocError, Global};
 use std::marker::Model;
-use std::mem;
 use tm_meaning::LoopMark;
 use tm_syntax::{Name, NameMap};
-use tm_values::{Error, ErrorKind, Records, Value, ValueMap};
+use tm_values::{Error, ErrorKind, Node, Records, Value, ValueMap};
 
-/// The scopes of a state. A contract sees them innermost first.
+/// The scopes of a state. Their names stand in one vector: those of a scope from the first place that its mark has, up to
+/// that of the next one. A contract sees the scopes innermost first.
 pub struct Context {
-    frames: Vec<Frame>,
+    pairs: Vec<(Name, Value)>,
+    marks: Vec<ScopeMark>,
+    // The first place of the innermost scope.
+    top: usize,
     outer: usize,
 }
 
@@ -33,7 +37,9 @@ pub struct Context {
 impl Drop for Context {
     fn drop(self) {
         let Context {
-            frames: _frames,
+            pairs: _pairs,
+            marks: _marks,
+            top: _top,
             outer: _outer,
         } = self;
     }
@@ -43,13 +49,19 @@ impl Model for Context {
     ghost use Rattle.std.specs.Coded.{codes};
     ghost use Rattle.std.specs.Prelude.{reverse};
     ghost use Rattle.tm_meaning.specs.World.{Scopes};
+    ghost use Rattle.tm_tables.specs.Marks.{AreScopes, framed};
     ghost use Rattle.tm_values.specs.Code.{coded_Val};
 
     ghost Value = { Scopes };
 
     ghost coded = { Prim.hlevel (codes, coded_Val) };
 
-    ghost view = { λ c. record { frames = reverse c.frames.items; outer = c.outer } };
+    ghost view = { λ c. record {
+      frames = framed (reverse c.marks.items) c.pairs.items;
+      outer = c.outer;
+    } };
+
+    ghost invariant = { λ c. AreScopes (reverse c.marks.items) c.pairs.items c.top };
 }
 
 impl Context {
@@ -58,7 +70,9 @@ impl Context {
         ensures { result ≡ record { frames = []; outer = 0 } }
     {
         Context {
-            frames: Vec::new(alloc),
+            pairs: Vec::new(alloc),
+            marks: Vec::new(alloc),
+            top: 0,
             outer: 0,
         }
     }
@@ -67,64 +81,52 @@ impl Context {
     pub fn new_with_frame(alloc: Global, frame: Frame) -> Result<Context, Error>
         ensures { OkOrOutOfMemory result (λ c. c ≡ one_scope frame) }
     {
-        let mut frames = Vec::new(alloc);
-        frames.push(frame)?;
-        Ok(Context { frames, outer: 0 })
+        let mut context = Context::new(alloc);
+        context.enter(frame)?;
+        Ok(context)
     }
 
-    /// Two scopes in the room of these, whose depth isn't tested: one over a context value, and another over it that
-    /// reads a closure where one is given; they stand at a depth. Fails by OutOfMemory alone.
-    pub fn into_macro(
-        self,
-        alloc: Global,
+    /// Leaves all scopes, and enters those of a macro, whose depth isn't tested: one over a context value, and another
+    /// over it that reads a closure, if one is given; they stand at a depth. Fails by OutOfMemory alone.
+    pub fn begin_macro(
+        &mut self,
         root: Value,
         reads: Option<usize>,
         outer: usize,
-    ) -> Result<Context, Error>
-        ensures { OkOrOutOfMemory result (λ c. c ≡ record {
+    ) -> Result<(), Error>
+        ensures ok { OnOk result (self.new ≡ record {
           frames = record (plain_scope (undefined false)) { reads = reads } ∷ plain_scope root ∷ [];
           outer = outer;
         }) }
+        ensures kind { IfErr result (λ e. e ≡ OutOfMemory ∷ []) }
     {
-        let Context {
-            mut frames,
-            outer: _outer,
-        } = self;
-        frames.truncate(2);
-        if frames.len() < 2 {
-            frames.clear();
-            frames.push(Frame::new(alloc, root))?;
-            frames.push(Frame::of_macro(alloc, reads))?;
-        } else {
-            frames[0].renew(root, None);
-            frames[1].renew(Value::undefined(), reads);
-        }
-        Ok(Context { frames, outer })
+        self.clear();
+        self.enter(Frame::new(root))?;
+        self.enter(Frame::of_macro(reads))?;
+        self.set_outer(outer);
+        Ok(())
     }
 
-    /// Takes the room of these scopes for those of a macro: their names stand for nothing any more.
-    pub fn take_room(&mut self) -> Context
-        ensures { self.new ≡ record self.old { frames = [] } }
+    /// Leaves all scopes. Their room stays.
+    pub fn clear(&mut self)
+        ensures { self.new ≡ record { frames = []; outer = 0 } }
     {
-        let none = Vec::new(self.allocator());
-        let mut frames = mem::replace(&mut self.frames, none);
-        frames.truncate(2);
-        for frame in &mut frames {
-            frame.clear();
-        }
-        Context { frames, outer: 0 }
+        cut(&mut self.pairs, 0);
+        self.marks.clear();
+        self.top = 0;
+        self.outer = 0;
     }
 
     /// The allocator of the scopes.
     pub(crate) fn allocator(&self) -> Global {
-        *self.frames.allocator()
+        *self.marks.allocator()
     }
 
     /// How many scopes there are.
     pub fn height(&self) -> usize
         ensures { result ≡ length self.now.frames }
     {
-        self.frames.len()
+        self.marks.len()
     }
 
     /// The depth at which the outermost scope stands.
@@ -145,16 +147,17 @@ impl Context {
     pub fn depth(&self) -> usize
         ensures { result ≡ min (depth self.now) (2 ^ 64 - 1) }
     {
-        self.frames.len().saturating_add(self.outer)
+        self.marks.len().saturating_add(self.outer)
     }
 
     /// Leaves all scopes but so many of the outermost, which stand at a depth from here on.
-    #[tactic(auto, using(crate::proofs::Scopes::outermost_of))]
     pub fn cut_to(&mut self, count: usize, outer: usize)
         ensures { self.new ≡ record { frames = outermost count self.old.frames; outer = outer } }
     {
-        self.frames.truncate(count);
-        self.outer = outer;
+        while self.height() > count {
+            self.pop_frame();
+        }
+        self.set_outer(outer);
     }
 
     /// What a name stands for: in an inner scope before an outer one. InvalidOperation where a context value
@@ -168,14 +171,20 @@ impl Context {
         ensures { IsFoundIn (R.records records.now) closures.now name.now
             self.now.frames result }
     {
-        let mut i = self.frames.len();
+        let mut i = self.marks.len();
+        let mut end = self.pairs.len();
         while i > 0 {
             i -= 1;
-            let frame = &self.frames[i];
-            match frame.get(name, closures, records) {
-                Ok(None) => {}
-                found => return found,
+            let mark = &self.marks[i];
+            match mark.get(&self.pairs[mark.first..end], name) {
+                Some(own) => return Ok(Some(Found::Value(own))),
+                None => {}
             }
+            match mark.frame.get(name, closures, records)? {
+                Some(found) => return Ok(Some(found)),
+                None => {}
+            }
+            end = mark.first;
         }
         Ok(None)
     }
@@ -214,8 +223,15 @@ impl Context {
         ensures err { IfErr result (NamingFails (R.records records.now) self.now.frames) }
     {
         let mut names = Vec::new(alloc);
-        for frame in &self.frames {
-            frame.add_names(alloc, closures, records, &mut names)?;
+        let mut i = self.marks.len();
+        let mut end = self.pairs.len();
+        while i > 0 {
+            i -= 1;
+            let mark = &self.marks[i];
+            let mut own = names_in(alloc, &self.pairs[mark.first..end])?;
+            names.append(&mut own)?;
+            mark.frame.add_names(alloc, closures, records, &mut names)?;
+            end = mark.first;
         }
         Ok(names)
     }
@@ -225,9 +241,23 @@ impl Context {
         ensures { OkOrOutOfMemory result
             (λ names. texts_of names.items ≡ exported_of self.now.frames) }
     {
-        match self.frames.first() {
-            Some(outermost) => outermost.exports(alloc),
-            None => Ok(Vec::new(alloc)),
+        let mut exported = Vec::new(alloc);
+        for name in names_in(alloc, self.outermost_pairs())? {
+            if is_exported(name) {
+                exported.push(name)?;
+            }
+        }
+        Ok(exported)
+    }
+
+    /// The pairs of the outermost scope.
+    fn outermost_pairs(&self) -> &[(Name, Value)]
+        ensures { exported_of self.now.frames ≡ exported_among result.now }
+    {
+        if self.marks.len() > 1 {
+            &self.pairs[..self.marks[1].first]
+        } else {
+            &self.pairs
         }
     }
 
@@ -242,7 +272,19 @@ impl Context {
         if self.depth() >= limit {
             return Err(Error::from(ErrorKind::InvalidOperation));
         }
-        self.frames.push(frame)?;
+        self.enter(frame)?;
+        Ok(())
+    }
+
+    /// One scope more, whose depth isn't tested. AllocError for want of memory, and then the scopes stay as they were.
+    #[inline(always)]
+    fn enter(&mut self, frame: Frame) -> Result<(), AllocError>
+        ensures ok { OnOk result (self.new ≡ record self.old { frames = frame ∷ self.old.frames }) }
+        ensures err { OnErr result (self.new ≡ self.old) }
+    {
+        let first = self.pairs.len();
+        self.marks.push(ScopeMark::new(first, frame))?;
+        self.top = first;
         Ok(())
     }
 
@@ -253,10 +295,11 @@ impl Context {
         ensures kind { IfErr result (λ e. e ≡ OutOfMemory ∷ []) }
         ensures err { OnErr result (self.new ≡ self.old) }
     {
-        match self.frames.len().checked_sub(1) {
-            Some(innermost) => self.frames[innermost].store(name, value),
-            None => Ok(()),
-        }
+        let Some(innermost) = self.marks.len().checked_sub(1) else {
+            return Ok(());
+        };
+        self.marks[innermost].insert(&mut self.pairs, name, value)?;
+        Ok(())
     }
 
     /// Lets the innermost scope, where there is one, and the closure of a number have a name from here on. Fails by
@@ -299,7 +342,20 @@ impl Context {
         ensures found { IfSome result (λ v. (view : View) →
             in_frames view name.now self.now.frames ≡ Ok (Some v.now)) }
     {
-        self.frames.last()?.locals.get(name)
+        let own = &self.pairs[self.top..];
+        if own.len() > SCANNED {
+            return self.local_among_many(name);
+        }
+        value_of(own, name)
+    }
+
+    /// The same where the scope has more names than are scanned.
+    #[inline(never)]
+    fn local_among_many(&self, name: &Name) -> Option<&Value>
+        ensures { IsLent result (find name.now (top_locals self.now.frames)) }
+    {
+        let mark = self.marks.last()?;
+        mark.get(&self.pairs[mark.first..], name)
     }
 
     /// Lets the innermost scope have a name for a second owner of a value, where there is memory. Else all stays as
@@ -309,9 +365,53 @@ impl Context {
         ensures { OrStays result self.old self.new
             (self.new ≡ record self.old { frames = stored_in name.now value.now self.old.frames }) }
     {
-        match self.frames.len().checked_sub(1) {
-            Some(innermost) => self.frames[innermost].store_at_once(name, value),
-            None => true,
+        if let Node::Number(whole) = &value.node {
+            return self.put(name, Value::number(*whole));
+        }
+        match value.share() {
+            Ok(value) => self.put(name, value),
+            Err(_) => false,
+        }
+    }
+
+    /// The same for a value.
+    #[inline(always)]
+    fn put(&mut self, name: &Name, value: Value) -> bool
+        ensures { OrStays result self.old self.new
+            (self.new ≡ record self.old { frames = stored_in name.now value self.old.frames }) }
+    {
+        let count = self.pairs.len();
+        let own = &self.pairs[self.top..];
+        if own.len() >= SCANNED || self.marks.len() == 0 {
+            return self.put_shared(name, value);
+        }
+        match place_of(own, name) {
+            Some(place) => {
+                self.pairs[self.top + place].1 = value;
+                true
+            }
+            None => {
+                if count >= self.pairs.capacity() {
+                    return self.put_shared(name, value);
+                }
+                let Ok(name) = name.share() else {
+                    return false;
+                };
+                self.pairs.push_reserved((name, value));
+                true
+            }
+        }
+    }
+
+    /// The same where there may be no room, no scope, or a scope with many names.
+    #[inline(never)]
+    fn put_shared(&mut self, name: &Name, value: Value) -> bool
+        ensures { OrStays result self.old self.new
+            (self.new ≡ record self.old { frames = stored_in name.now value self.old.frames }) }
+    {
+        match name.share() {
+            Ok(name) => self.store(name, value).is_ok(),
+            Err(_) => false,
         }
     }
 
@@ -320,15 +420,15 @@ impl Context {
     pub fn own_closure(&self) -> Option<usize>
         ensures { result ≡ own_closure self.now.frames }
     {
-        self.frames.last()?.own_closure
+        self.marks.last()?.frame.own_closure
     }
 
     /// Lets the innermost scope, where there is one, have the closure of a number as its own, or none.
     pub fn set_own_closure(&mut self, closure: Option<usize>)
         ensures { self.new ≡ record self.old { frames = owning closure self.old.frames } }
     {
-        if let Some(innermost) = self.frames.len().checked_sub(1) {
-            self.frames[innermost].own(closure);
+        if let Some(innermost) = self.marks.len().checked_sub(1) {
+            self.marks[innermost].frame.own(closure);
         }
     }
 
@@ -337,18 +437,15 @@ impl Context {
     pub fn exported(&self, alloc: Global) -> Result<ValueMap, Error>
         ensures { OkOrOutOfMemory result (λ pairs. pairs ≡ exported (top_locals self.now.frames)) }
     {
-        match self.frames.last() {
-            Some(innermost) => innermost.exported(alloc),
-            None => Ok(ValueMap::new(alloc)),
-        }
+        exported(alloc, &self.pairs[self.top..])
     }
 
     /// The context value of the outermost scope; undefined where there is no scope. Fails by OutOfMemory alone.
     pub fn root_context(&self) -> Result<Value, Error>
         ensures { OkOrOutOfMemory result (λ v. v ≡ root_context self.now.frames) }
     {
-        match self.frames.first() {
-            Some(outermost) => outermost.context.share(),
+        match self.marks.first() {
+            Some(outermost) => outermost.frame.share_context(),
             None => Ok(Value::undefined()),
         }
     }
@@ -358,17 +455,17 @@ impl Context {
     pub fn top_mark(&self) -> Option<LoopMark>
         ensures { result ≡ top_mark self.now.frames }
     {
-        self.frames.last()?.mark
+        self.marks.last()?.frame.mark
     }
 
     /// The number of the innermost loop's record, where a scope is a loop's.
     pub fn innermost_loop(&self) -> Option<usize>
         ensures { result ≡ innermost self.now.frames }
     {
-        let mut i = self.frames.len();
+        let mut i = self.marks.len();
         while i > 0 {
             i -= 1;
-            if let Some(mark) = self.frames[i].mark {
+            if let Some(mark) = self.marks[i].frame.mark {
                 return Some(mark.number);
             }
         }
@@ -380,17 +477,34 @@ impl Context {
     pub fn clear_locals(&mut self)
         ensures { self.new ≡ record self.old { frames = without_locals self.old.frames } }
     {
-        if let Some(innermost) = self.frames.len().checked_sub(1) {
-            self.frames[innermost].clear();
+        if self.pairs.len() - self.top > SCANNED {
+            return self.clear_many();
         }
+        cut(&mut self.pairs, self.top);
     }
 
-    /// Leaves the innermost scope, and gives it, where there is one.
-    pub fn pop_frame(&mut self) -> Option<Frame>
-        ensures left { self.new ≡ record self.old { frames = without_first self.old.frames } }
-        ensures given { MatchOption result (self.old.frames ≡ [])
-            (λ frame. self.old.frames ≡ frame ∷ self.new.frames) }
+    /// The same where the scope has more names than are scanned.
+    #[inline(never)]
+    fn clear_many(&mut self)
+        ensures { self.new ≡ record self.old { frames = without_locals self.old.frames } }
     {
-        self.frames.pop()
+        let Some(innermost) = self.marks.len().checked_sub(1) else {
+            return;
+        };
+        self.marks[innermost].forget_index();
+        cut(&mut self.pairs, self.top);
+    }
+
+    /// Leaves the innermost scope, where there is one.
+    pub fn pop_frame(&mut self)
+        ensures { self.new ≡ record self.old { frames = without_first self.old.frames } }
+    {
+        if let Some(left) = self.marks.pop() {
+            cut(&mut self.pairs, left.first);
+            self.top = match self.marks.last() {
+                Some(innermost) => innermost.first,
+                None => 0,
+            };
+        }
     }
 }

@@ -1,21 +1,18 @@
 //! One scope, and what a name stands for in scopes.
-ghost use Rattle.std.specs.Prelude.{ℕ, option_map, ◌≡◌, ◌||◌, [], ◌∷◌, None, false, OnErr, OnOk, IfErr, IfOk, Some};
-ghost use Rattle.tm_syntax.specs.Named.{put, texts_of};
-ghost use Rattle.tm_values.specs.Answer.{OkOrOutOfMemory, OrStays};
+ghost use Rattle.std.specs.Prelude.{ℕ, option_map, ◌≡◌, ◌||◌, [], ◌∷◌, None, false, OnOk, IfErr, IfOk, Some};
+ghost use Rattle.tm_syntax.specs.Named.{texts_of};
+ghost use Rattle.tm_values.specs.Answer.{OkOrOutOfMemory};
 ghost use Rattle.tm_values.specs.Val.{loop, undefined};
-ghost use Rattle.tm_values.specs.declared.error.ErrorKind.TheVariants.{OutOfMemory};
-ghost use Rattle.tm_meaning.specs.World.{plain_scope, loop_scope, marked_loop, context_member, is_exported, exported};
+ghost use Rattle.tm_meaning.specs.World.{plain_scope, loop_scope, marked_loop, context_member, is_exported};
 ghost use Rattle.tm_tables.specs.Found.{IsHeld, IsFoundIn, meant_by};
 ghost use Rattle.tm_tables.specs.Known.{AddsFound, AreMembers, NamingFails, has_text, is_among};
-ghost use Rattle.tm_tables.specs.Scopes.{exported_by};
 
 use crate::closures::Closures;
-use crate::locals::Locals;
 use std::alloc::{AllocError, Global};
 use std::marker::Model;
 use tm_meaning::LoopMark;
 use tm_syntax::Name;
-use tm_values::{Error, ErrorKind, Node, Records, Value, ValueMap, find_namespace};
+use tm_values::{Error, ErrorKind, Node, Records, Value, find_namespace};
 
 /// Whether a name is exported: it doesn't begin with `_`.
 pub(crate) fn is_exported(name: &str) -> bool
@@ -48,10 +45,9 @@ impl Found<'_> {
     }
 }
 
-/// A scope: its own names, the value whose keys are names too, its loop, and the numbers of the closure that was made
-/// in it and of the one that it reads.
+/// A scope without names of its own: the value whose keys are names in it, its loop, and the numbers of the closure that
+/// was made in it and of the one that it reads.
 pub struct Frame {
-    pub(crate) locals: Locals,
     pub(crate) context: Value,
     pub(crate) mark: Option<LoopMark>,
     pub(crate) own_closure: Option<usize>,
@@ -62,7 +58,6 @@ pub struct Frame {
 impl Drop for Frame {
     fn drop(self) {
         let Frame {
-            locals: _locals,
             context: _context,
             mark: _mark,
             own_closure: _own_closure,
@@ -73,6 +68,7 @@ impl Drop for Frame {
 
 impl Model for Frame {
     ghost use Rattle.std.specs.Coded.{codes};
+    ghost use Rattle.std.specs.Prelude.{[]};
     ghost use Rattle.tm_meaning.specs.World.{Scope};
     ghost use Rattle.tm_values.specs.Code.{coded_Val};
 
@@ -81,7 +77,7 @@ impl Model for Frame {
     ghost coded = { Prim.hlevel (codes, coded_Val) };
 
     ghost view = { λ f. record {
-      locals = f.locals;
+      locals = [];
       context = f.context;
       mark = f.mark;
       own_closure = f.own_closure;
@@ -90,12 +86,11 @@ impl Model for Frame {
 }
 
 impl Frame {
-    /// A scope over a context value, without names of its own.
-    pub fn new(alloc: Global, context: Value) -> Frame
+    /// A scope over a context value.
+    pub fn new(context: Value) -> Frame
         ensures { result ≡ plain_scope context }
     {
         Frame {
-            locals: Locals::new(alloc),
             context,
             mark: None,
             own_closure: None,
@@ -103,12 +98,11 @@ impl Frame {
         }
     }
 
-    /// A loop's scope, without names of its own.
-    pub fn of_loop(alloc: Global, mark: LoopMark) -> Frame
+    /// A loop's scope.
+    pub fn of_loop(mark: LoopMark) -> Frame
         ensures { result ≡ loop_scope mark }
     {
         Frame {
-            locals: Locals::new(alloc),
             context: Value::undefined(),
             mark: Some(mark),
             own_closure: None,
@@ -116,12 +110,11 @@ impl Frame {
         }
     }
 
-    /// A macro's scope, which reads a closure, without names of its own.
-    pub(crate) fn of_macro(alloc: Global, reads: Option<usize>) -> Frame
+    /// A macro's scope, which reads a closure, if one is given.
+    pub(crate) fn of_macro(reads: Option<usize>) -> Frame
         ensures { result ≡ record (plain_scope (undefined false)) { reads = reads } }
     {
         Frame {
-            locals: Locals::new(alloc),
             context: Value::undefined(),
             mark: None,
             own_closure: None,
@@ -129,17 +122,12 @@ impl Frame {
         }
     }
 
-    /// A scope over a context value, which reads a closure where one is given, without names of its own. It keeps the
-    /// room of its names.
+    /// It has no names of its own, so by proof that nothing is done.
     #[inline(always)]
-    pub(crate) fn renew(&mut self, context: Value, reads: Option<usize>)
-        ensures { self.new ≡ record (plain_scope context) { reads = reads } }
+    pub(crate) fn is_bare(&self)
+        ensures { self.now.locals ≡ [] }
     {
-        self.locals.clear();
-        self.context = context;
-        self.mark = None;
-        self.own_closure = None;
-        self.reads = reads;
+        let _context = &self.context;
     }
 
     /// Whether its loop has a name here, and then the loop's number.
@@ -155,8 +143,8 @@ impl Frame {
         }
     }
 
-    /// What a name stands for: its own, its loop, what the closure that it reads has there, or what the context value
-    /// has. InvalidOperation where it is none of the first and the context value is a namespace whose record isn't there.
+    /// What a name stands for: its loop, what the closure that it reads has there, or what the context value has.
+    /// InvalidOperation if it is none of the first and the context value is a namespace whose record isn't there.
     pub fn get<'a, R: Records>(
         &'a self,
         name: &Name,
@@ -166,9 +154,7 @@ impl Frame {
         ensures { IsFoundIn (R.records records.now) closures.now name.now
             (self.now ∷ []) result }
     {
-        if let Some(own) = self.locals.get(name) {
-            return Ok(Some(Found::Value(own)));
-        }
+        self.is_bare();
         if let Some(number) = self.named_loop(name.as_str()) {
             return Ok(Some(Found::Loop(number)));
         }
@@ -201,27 +187,6 @@ impl Frame {
         }
     }
 
-    /// Has a name from here on. OutOfMemory, and then it stays as it was.
-    pub fn store(&mut self, name: Name, value: Value) -> Result<(), Error>
-        ensures ok { OnOk result
-            (self.new ≡ record self.old { locals = put name value self.old.locals }) }
-        ensures kind { IfErr result (λ e. e ≡ OutOfMemory ∷ []) }
-        ensures err { OnErr result (self.new ≡ self.old) }
-    {
-        self.locals.insert(name, value)?;
-        Ok(())
-    }
-
-    /// Has a name for a second owner of a value, where there is memory. Else it stays as it was, and the answer is
-    /// false.
-    #[inline(always)]
-    pub(crate) fn store_at_once(&mut self, name: &Name, value: &Value) -> bool
-        ensures { OrStays result self.old self.new
-            (self.new ≡ record self.old { locals = put name.now value.now self.old.locals }) }
-    {
-        self.locals.insert_at_once(name, value)
-    }
-
     /// Has the closure of a number as its own, or none.
     pub(crate) fn own(&mut self, closure: Option<usize>)
         ensures { self.new ≡ record self.old { own_closure = closure } }
@@ -229,36 +194,15 @@ impl Frame {
         self.own_closure = closure;
     }
 
-    /// Loses its names.
-    #[inline(always)]
-    pub(crate) fn clear(&mut self)
-        ensures { self.new ≡ record self.old { locals = [] } }
+    /// A second owner of the context value. Fails by OutOfMemory alone.
+    pub(crate) fn share_context(&self) -> Result<Value, Error>
+        ensures { OkOrOutOfMemory result (λ v. v ≡ self.now.context) }
     {
-        self.locals.clear();
+        self.context.share()
     }
 
-    /// The names that it exports, in their order: its own that don't begin with `_`. OutOfMemory.
-    pub(crate) fn exports(&self, alloc: Global) -> Result<Vec<&str>, Error>
-        ensures { OkOrOutOfMemory result (λ names. texts_of names.items ≡ exported_by self.now) }
-    {
-        let mut exported = Vec::new(alloc);
-        for name in self.locals.names(alloc)? {
-            if is_exported(name) {
-                exported.push(name)?;
-            }
-        }
-        Ok(exported)
-    }
-
-    /// The names that it exports, each as a key of its value, which is shared. Fails by OutOfMemory alone.
-    pub(crate) fn exported(&self, alloc: Global) -> Result<ValueMap, Error>
-        ensures { OkOrOutOfMemory result (λ pairs. pairs ≡ exported self.now.locals) }
-    {
-        self.locals.exported(alloc)
-    }
-
-    /// Adds the names that stand for something here: its own, its loop's, those of the closure that it reads, and the
-    /// texts among the keys of its context value. InvalidOperation where that is a namespace whose record isn't there;
+    /// Adds the names that stand for something here: its loop's, those of the closure that it reads, and the texts
+    /// among the keys of its context value. InvalidOperation where that is a namespace whose record isn't there;
     /// OutOfMemory.
     pub(crate) fn add_names<'a, R: Records>(
         &'a self,
@@ -271,9 +215,8 @@ impl Frame {
             (texts_of names.old.items) (texts_of names.new.items)) }
         ensures err { IfErr result (NamingFails (R.records records.now) (self.now ∷ [])) }
     {
+        self.is_bare();
         let pairs = self.context_pairs(records)?;
-        let mut own = self.locals.names(alloc)?;
-        names.append(&mut own)?;
         if self.named_loop("loop").is_some() {
             names.push("loop")?;
         }

@@ -19,7 +19,7 @@ use tm_parts::Stack;
 use tm_printing::emit_at_once;
 use tm_shapes::Verified;
 use tm_syntax::{BinaryOperator, Instruction, Name};
-use tm_tables::{Host, Locals};
+use tm_tables::{Host, Pairs};
 use tm_values::{AutoEscape, Error, ErrorKind, SharedText, Value};
 
 /// The most instructions of a leaf, so that a run that is given up costs little and the fuel is looked at soon.
@@ -63,7 +63,7 @@ impl LeafFlow {
 pub(crate) struct Leaf {
     place: usize,
     operands: Stack,
-    names: Locals,
+    names: Pairs,
     text: Option<SharedText>,
     fuel: u64,
     // A bit for each macro that isn't tried again, by its entry.
@@ -108,7 +108,7 @@ impl Leaf {
         Leaf {
             place: 0,
             operands: Stack::new(alloc),
-            names: Locals::new(alloc),
+            names: Pairs::new(alloc),
             text: None,
             fuel: 0,
             others: 0,

@@ -122,10 +122,10 @@ fn is_mark(found: Option<LoopMark>, wanted: Option<LoopMark>) -> bool {
 }
 
 /// A scope of no loop, or of the loop that is marked.
-fn frame_of(alloc: Global, mark: Option<LoopMark>) -> Frame {
+fn frame_of(mark: Option<LoopMark>) -> Frame {
     match mark {
-        Some(mark) => Frame::of_loop(alloc, mark),
-        None => Frame::new(alloc, Value::undefined()),
+        Some(mark) => Frame::of_loop(mark),
+        None => Frame::new(Value::undefined()),
     }
 }
 
@@ -181,7 +181,7 @@ impl Pair {
     /// Pushes a scope on both sides. Whether it is refused where it would lie deeper than the limit, and only there.
     fn push(&mut self, alloc: Global, mark: Option<LoopMark>, limit: usize) -> Result<bool, Error> {
         let fits = self.model.len().saturating_add(self.outer) < limit;
-        match self.context.push_frame(frame_of(alloc, mark), limit) {
+        match self.context.push_frame(frame_of(mark), limit) {
             Ok(()) => {
                 let names = BTreeMap::new(alloc);
                 self.model.push(Scope { names, mark })?;
@@ -222,17 +222,12 @@ impl Pair {
         Ok(())
     }
 
-    /// Pops a scope on both sides. Whether both have one, in which a name stands for the same, or none has.
+    /// Pops a scope on both sides, where one is. Whether a name stood for the same on both.
     fn pop(&mut self, alloc: Global, text: &str) -> Result<bool, Error> {
-        match (self.context.pop_frame(), self.model.pop()) {
-            (Some(frame), Some(scope)) => {
-                let name = Name::new(alloc, text)?;
-                let found = frame.get(&name, &self.closures, &NoRecords)?;
-                is_meant(alloc, &found, scope.meant(text))
-            }
-            (None, None) => Ok(true),
-            _ => Ok(false),
-        }
+        let agrees = self.agrees_on(alloc, text)?;
+        self.context.pop_frame();
+        self.model.pop();
+        Ok(agrees)
     }
 
     /// The innermost scope loses its names on both sides.

@@ -1,15 +1,13 @@
-use Rattle.std.proofs.Common.{◌≡◌, suc, ◌∙◌, ap, arith, length, reverse, slice_set, get_or}
-use Rattle.tm_meaning.specs.World.{Scope, Scopes, without_locals}
-use Rattle.tm_tables.proofs.Scopes.{cleared-last}
+use Rattle.std.proofs.Common.{arith, sym, subst, reverse}
+use Rattle.tm_tables.specs.Marks.{AreScopes}
+use Rattle.tm_tables.proofs.Framed.{cleared-few}
+use Rattle.tm_tables.proofs.Marks.{drop-length}
 use Rattle.tm_tables.proofs.context.Context.clear_locals.Goals as goal
 
-pub returns-in-Some : goal.returns-in-Some
-returns-in-Some c =
-    let frames = c.self.inside.frames.items in
-    let n = c.in-Some.innermost in
-    let old = c.index_mut.result.now in
-    let long : length frames ≡ suc n = omega (arith, c.in-Some.ensures, c.len.ensures) in
-    let there : old ≡ get_or frames n old = c.index_mut.ensures.value in
-    ap (λ ss. record { frames = ss; outer = c.self.inside.outer }) (ap (λ (s : Scope). reverse (slice_set frames n s)) c.clear.ensures
-    ∙ cleared-last frames n old long there)
-    ∙ ap (λ (scopes : Scopes). record scopes { frames = without_locals scopes.frames }) c.self.view_is
+pub invariant_of-self : goal.invariant_of-self
+invariant_of-self c =
+    let rs = reverse c.self.inside.marks.items in
+    let all = c.self.inside.pairs.items in
+    let top = c.self.inside.top in
+    subst (λ ps. AreScopes rs ps top) (sym c.cut.ensures)
+    (cleared-few rs all top c.self.invariant (omega (arith, drop-length top all, c.len.ensures, c.if-len-self-gt-SCANNED.false))).0

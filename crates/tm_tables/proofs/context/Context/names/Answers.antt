@@ -1,32 +1,26 @@
-use Rattle.std.proofs.Common.{◌≡◌, ap, ◌∙◌, subst, take, reverse}
-use Rattle.std.proofs.lemmas.List.{take_all}
-use Rattle.tm_meaning.specs.World.{Scopes}
-use Rattle.tm_syntax.specs.Named.{texts_of}
-use Rattle.tm_tables.specs.Known.{AreFoundIn}
-use Rattle.tm_tables.proofs.Known.{entered-more, passed, fails-among}
+use Rattle.std.proofs.Common.{◌∙◌, ◌-◌, arith}
+use Rattle.tm_tables.proofs.Framed.{fails-framed, names-step, rest-marked, rest-within}
+use Rattle.tm_tables.proofs.Known.{passed}
 use Rattle.tm_tables.proofs.context.Context.names.Goals as goal
-
-pub loop-frame-preserved : goal.loop-frame-preserved
-loop-frame-preserved g c =
-    entered-more (g.R.Records.records c.args.records.now) c.args.closures.now c.deref-frame-items.result.now c.loop-frame.frame-index c.frame-item.result
-    (texts_of c.loop-frame.names.items)
-    (texts_of c.add_names.new.names.items) c.loop-frame-test.true c.frame-item.is c.loop-frame.invariant c.in_ok-add_names.ensures.ok
-
-pub returns : goal.returns
-returns g c =
-    let all : reverse (take c.loop-frame.frame-index c.deref-frame-items.result.now) ≡ c.args.self.now.frames =
-    ap reverse (take_all c.loop-frame.frame-index c.deref-frame-items.result.now c.loop-frame-test.false
-    ∙ c.deref-frame-items.ensures.value) ∙ ap (λ (scopes : Scopes). scopes.frames) c.self.view_is in
-    record {
-      found = subst (λ scopes. AreFoundIn (g.R.Records.records c.args.records.now) c.args.closures.now scopes (texts_of c.loop-frame.names.items)) all
-          c.loop-frame.invariant;
-      err = tt;
-    }
 
 pub returns-in_err-add_names-clause-err : goal.returns-in_err-add_names-clause-err
 returns-in_err-add_names-clause-err g c =
-    let all : reverse c.deref-frame-items.result.now ≡ c.args.self.now.frames = ap reverse c.deref-frame-items.ensures.value
-    ∙ ap (λ (scopes : Scopes). scopes.frames) c.self.view_is in
-    let here = fails-among (g.R.Records.records c.args.records.now) c.deref-frame-items.result.now c.args.self.now.frames
-    c.loop-frame.frame-index c.frame-item.result _ c.loop-frame-test.true c.frame-item.is all c.in_err-add_names.ensures.err in
-    passed c.from_residual.result _ _ c.from_residual.ensures.1 here
+    passed c.from_residual-in_err-add_names.result _ _ c.from_residual-in_err-add_names.ensures.1
+    (fails-framed (g.R.Records.records c.args.records.now) c.self.inside.marks.items c.self.inside.pairs.items c.args.self.now
+    c.self.inside.outer (c.loop-i.i - 1) c.index-mark.result.now _ (omega (arith, c.loop-i-test.true, c.loop-i.invariant.0))
+    c.index-mark.ensures c.self.view_is c.in_err-add_names.ensures.err)
+
+pub loop-i-preserved : goal.loop-i-preserved
+loop-i-preserved g c = (
+  omega (arith, c.loop-i.invariant.0),
+  rest-within c.self.inside.marks.items c.loop-i.i c.index-mark.result.now c.self.inside.pairs.items c.loop-i.end
+      c.loop-i-test.true c.loop-i.invariant.0 c.index-mark.ensures c.loop-i.invariant.2,
+  rest-marked c.self.inside.marks.items c.loop-i.i c.index-mark.result.now c.self.inside.pairs.items c.loop-i.end
+      c.loop-i-test.true c.loop-i.invariant.0 c.index-mark.ensures c.loop-i.invariant.2,
+  λ view same enclosed x.
+      c.loop-i.invariant.3 view same enclosed x
+      ∙ names-step c.self.inside.marks.items c.loop-i.i c.index-mark.result.now c.self.inside.pairs.items c.loop-i.end
+      c.loop-i-test.true c.loop-i.invariant.0 c.index-mark.ensures c.loop-i.invariant.2 c.deref.result.now c.deref.ensures.value
+      (g.R.Records.records c.args.records.now) c.args.closures.now c.loop-i.names.items c.in_ok-own.own.items c.append.new.self.items
+      c.add_names.new.names.items c.in_ok-own.ensures c.in_ok-append.ensures.items c.in_ok-add_names.ensures.ok view same enclosed x,
+)

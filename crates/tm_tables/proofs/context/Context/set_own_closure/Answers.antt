@@ -1,15 +1,17 @@
-use Rattle.std.proofs.Common.{◌≡◌, suc, ◌∙◌, ap, arith, length, reverse, slice_set, get_or}
-use Rattle.tm_meaning.specs.World.{Scope, Scopes, owning}
-use Rattle.tm_tables.proofs.Scopes.{owned-last}
+use Rattle.std.proofs.Common.{arith, reverse}
+use Rattle.tm_meaning.specs.World.{owning}
+use Rattle.tm_tables.specs.Marks.{framed}
+use Rattle.tm_tables.proofs.Framed.{last-owned, last-owning, seen-as}
 use Rattle.tm_tables.proofs.context.Context.set_own_closure.Goals as goal
+
+pub invariant_of-self : goal.invariant_of-self
+invariant_of-self c =
+    last-owned c.self.inside.marks.items c.in-Some.innermost c.index_mut.result.now (omega (arith, c.in-Some.ensures, c.len.ensures))
+    c.index_mut.ensures.value c.own.new.self c.args.closure c.self.inside.pairs.items c.self.inside.top c.own.ensures c.self.invariant
 
 pub returns-in-Some : goal.returns-in-Some
 returns-in-Some c =
-    let frames = c.self.inside.frames.items in
-    let n = c.in-Some.innermost in
-    let old = c.index_mut.result.now in
-    let long : length frames ≡ suc n = omega (arith, c.in-Some.ensures, c.len.ensures) in
-    let there : old ≡ get_or frames n old = c.index_mut.ensures.value in
-    ap (λ ss. record { frames = ss; outer = c.self.inside.outer }) (ap (λ (s : Scope). reverse (slice_set frames n s)) c.own.ensures
-    ∙ owned-last c.args.closure frames n old long there)
-    ∙ ap (λ (scopes : Scopes). record scopes { frames = owning c.args.closure scopes.frames }) c.self.view_is
+    seen-as (owning c.args.closure) (framed (reverse c.self.inside.marks.items) c.self.inside.pairs.items) _ c.self.inside.outer
+    c.args.self.now
+    (last-owning c.self.inside.marks.items c.in-Some.innermost c.index_mut.result.now (omega (arith, c.in-Some.ensures, c.len.ensures))
+    c.index_mut.ensures.value c.own.new.self c.args.closure c.self.inside.pairs.items c.self.inside.top c.own.ensures) c.self.view_is

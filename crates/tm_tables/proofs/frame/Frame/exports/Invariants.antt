@@ -1,9 +1,0 @@
-use Rattle.std.proofs.Common.{◌≡◌, ◌++◌}
-use Rattle.std.specs.Prelude.{filter}
-use Rattle.tm_syntax.specs.Named.{texts_of}
-use Rattle.tm_meaning.specs.World.{is_exported}
-use Rattle.tm_tables.specs.Scopes.{exported_by}
-use Rattle.tm_tables.proofs.frame.Frame.exports.Given as goal
-
-abbrev pub invariant-loop-name : goal.invariant-loop-name
-invariant-loop-name l = texts_of l.exported.items ++ filter is_exported (texts_of l.name-iterator.rest.items) ≡ exported_by l.self
