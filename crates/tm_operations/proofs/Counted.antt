@@ -1,5 +1,5 @@
 -- Numbers by steps: that those before the stop are counted, and that what is asked for decides.
-use Rattle.std.proofs.Common.{◌≡◌, ◌≢◌, ◌<◌, ◌≤◌, ◌*◌, ◌≤ℤ◌, ◌<ℤ◌, ◌*ℤ◌, ◌^◌, ◌&&◌, not, nat_lt, slice_get, ℕ, ℤ, pos, negsuc, Bool, true, false}
+use Rattle.std.proofs.Common.{◌≡◌, ◌≢◌, ◌<◌, ◌≤◌, ◌+◌, ◌*◌, ◌≤ℤ◌, ◌<ℤ◌, ◌*ℤ◌, ◌^◌, ◌&&◌, not, nat_lt, slice_get, ℕ, ℤ, pos, negsuc, Bool, true, false}
 use Rattle.std.proofs.Common.{Option, Some, None, Ok, List, [], ◌∷◌, length, map as each, refl, sym, ap, ◌∙◌, arith, suc}
 use Rattle.std.proofs.lemmas.Bool.Decides.{nat_tests}
 use Rattle.std.proofs.lemmas.Int.{ints}
@@ -20,8 +20,10 @@ use Rattle.tm_primitives.proofs.Laws.{before_at, past_at}
 use Rattle.tm_operations.specs.Ranges.{AreIn64Bits}
 use Rattle.tm_primitives.specs.Places.{step_to, IsBefore}
 use Rattle.tm_values.specs.Answer.{invalid}
+use Rattle.tm_values.specs.Parts.{parts_of_vals}
 use Rattle.tm_values.specs.Plain.{fits_json, in_all_forms, vals_plain}
-use Rattle.tm_values.specs.Val.{Val, number, vals_of}
+use Rattle.tm_values.specs.declared.parts.Parts.{Parts}
+use Rattle.tm_values.specs.Val.{Val, number, vals_of, vals_size}
 
 -- ---- the laws
 
@@ -95,6 +97,19 @@ plain_numbers (z ∷ zs) h =
     let first : fits_json z ≡ true = in_json z (h 0 z (omega arith)) in
     let rest = plain_numbers zs (λ k d l. h (suc k) d (omega (arith, l))) in
     rw (first, rest)
+
+-- a list of numbers has for each its own size and one
+sizes_of_numbers : (zs : List ℤ) → vals_size (vals_of (each number zs)) ≡ 2 * length zs
+sizes_of_numbers [] = omega arith
+sizes_of_numbers (z ∷ zs) = omega (arith, sizes_of_numbers zs)
+
+pub parts_of_numbers : (x z : ℤ) (n : ℕ) (parts : Parts) → AreIn64Bits (numbers_from x z n) → parts.plain ≡ in_all_forms → parts.size ≡ 2 * n + 1 →
+    parts ≡ parts_of_vals (vals_of (each number (numbers_from x z n)))
+parts_of_numbers x z n parts h plain size =
+    let zs = numbers_from x z n in
+    let count : length zs ≡ n = length-map-range_with_len (step_to x z) 0 n in
+    let sizes : parts.size ≡ vals_size (vals_of (each number zs)) + 1 = omega (arith, size, count, sizes_of_numbers zs) in
+    rw (plain_numbers zs h, ← plain, ← sizes) refl
 
 -- a number from the start on that stands before the stop is one of 64 bits
 between : (z x y : ℤ) (k : ℕ) → z ≢ pos 0 → FitsSigned w64 x → FitsSigned w64 y → IsBefore z (step_to x z k) y → FitsSigned w64 (step_to x z k)

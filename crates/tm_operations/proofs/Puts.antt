@@ -12,7 +12,7 @@ use Rattle.tm_values.specs.Order.{val_cmp}
 use Rattle.tm_values.specs.Records.{RecordData}
 use Rattle.tm_values.specs.Val.{Val, keywords, pairs_of}
 use Rattle.tm_values.specs.View.{node_view}
-use Rattle.tm_values.specs.declared.plain.Plain.{Plain}
+use Rattle.tm_values.specs.declared.parts.Parts.{Parts}
 use Rattle.tm_values.specs.declared.value.Node.{Node}
 use Rattle.tm_values.specs.declared.value.Node.TheVariants as node
 use Rattle.std.specs.declared.rc.Rc.{Rc}
@@ -128,12 +128,12 @@ Keyed = Rc (Vec (Val × Val) Global) Global
 
 -- a value that is no keyword map stays
 pub unsplit : (vs before : List Val) (n : Node) (v : Val) → vs ≡ before ++ v ∷ [] → node_view n ≡ v →
-    ((x : Keyed) (plain : Plain) → n ≡ node.Keywords x plain → ⊥) → (vs ≡ plain_of vs) × ([] ≡ keywords_of vs)
+    ((x : Keyed) (parts : Parts) → n ≡ node.Keywords x parts → ⊥) → (vs ≡ plain_of vs) × ([] ≡ keywords_of vs)
 unsplit vs before n v w e h =
     let alone = stays n h in
     (rw (w, plain-last before v, ← e, alone.0), rw (w, keywords-last before v, ← e, alone.1))
   where
-    stays : (n : Node) → ((x : Keyed) (plain : Plain) → n ≡ node.Keywords x plain → ⊥) →
+    stays : (n : Node) → ((x : Keyed) (parts : Parts) → n ≡ node.Keywords x parts → ⊥) →
         (plain_alone (node_view n) ≡ node_view n ∷ []) × (keyword_pairs (node_view n) ≡ [])
-    stays (node.Keywords x plain) h = absurd (h x plain refl)
+    stays (node.Keywords x parts) h = absurd (h x parts refl)
     stays _ h = (refl, refl)

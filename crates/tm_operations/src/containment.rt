@@ -42,7 +42,7 @@ fn find_in<R: Records>(
             None => Err(not_a_pair(alloc)),
         },
         Node::List(items, _) => Ok(items.as_slice().contains(item)),
-        Node::Map(_, _) | Node::Keywords(_, _) | Node::Exports(_, _) => {
+        Node::Map(_, _) | Node::Keywords(_, _) | Node::Exports(_, _, _) => {
             Ok(container.at_key(item).is_some())
         }
         Node::Namespace(state, index) => match find_namespace(records, *state, *index) {

@@ -92,7 +92,7 @@ fn items_or<R: Records>(
 {
     match &value.node {
         Node::List(items, _) => Ok(items.clone()?),
-        Node::Map(pairs, _) | Node::Keywords(pairs, _) | Node::Exports(pairs, _) => {
+        Node::Map(pairs, _) | Node::Keywords(pairs, _) | Node::Exports(pairs, _, _) => {
             keys(alloc, pairs.as_slice())
         }
         Node::Macro(_) => texts(alloc, &MACRO_NAMES),

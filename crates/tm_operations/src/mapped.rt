@@ -113,7 +113,7 @@ fn enter<'a, R: Records>(
         Node::Keywords(pairs, _) => {
             all_pairs(alloc, Kind::Keywords, levels, pairs.as_slice(), begun)
         }
-        Node::Exports(pairs, content) => {
+        Node::Exports(pairs, content, _) => {
             let kind = Kind::Module(content.share()?);
             all_pairs(alloc, kind, levels, pairs.as_slice(), begun)
         }

@@ -68,7 +68,7 @@ fn base<'a, R: Records>(
     };
     match &value.node {
         Node::Undefined(_) | Node::None => Ok(&[]),
-        Node::Map(pairs, _) | Node::Exports(pairs, _) => Ok(pairs.as_slice()),
+        Node::Map(pairs, _) | Node::Exports(pairs, _, _) => Ok(pairs.as_slice()),
         Node::Namespace(state, index) => match find_namespace(records, *state, *index) {
             Some(map) => Ok(map.pairs()),
             None => Err(not_a_map(alloc)),

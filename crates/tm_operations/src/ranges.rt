@@ -9,7 +9,7 @@ ghost use Rattle.tm_values.specs.Answer.{IsAnswer};
 
 use std::alloc::Global;
 use std::rc::Rc;
-use tm_values::{Error, ErrorKind, Node, Plain, Value};
+use tm_values::{Error, ErrorKind, Node, Parts, Plain, Value};
 
 // The most numbers that a range has.
 const MOST: u64 = 100_000;
@@ -125,8 +125,9 @@ fn list_from(alloc: Global, start: i64, step: i64, count: u64) -> Result<Value, 
         in_print: true,
         in_json: true,
     };
+    let size = 2 * count as u32 + 1;
     Ok(Value {
-        node: Node::List(Rc::new(alloc, items)?, plain),
+        node: Node::List(Rc::new(alloc, items)?, Parts { plain, size }),
     })
 }
 

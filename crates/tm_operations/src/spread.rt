@@ -104,7 +104,7 @@ fn pairs<'a, R: Records>(
         (pairs_in (R.records records.now) value.now) }
 {
     match &value.node {
-        Node::Map(pairs, _) | Node::Keywords(pairs, _) | Node::Exports(pairs, _) => {
+        Node::Map(pairs, _) | Node::Keywords(pairs, _) | Node::Exports(pairs, _, _) => {
             Ok(pairs.as_slice())
         }
         Node::Namespace(state, index) => match find_namespace(records, *state, *index) {

@@ -264,7 +264,7 @@ fn parts<'a>(form: OutputFormat, value: &'a Value) -> Option<Unchecked<'a>>
         Node::Map(pairs, _) | Node::Keywords(pairs, _) => {
             Some(Unchecked::Pairs(pairs.as_slice()))
         }
-        Node::Exports(pairs, _) => match form {
+        Node::Exports(pairs, _, _) => match form {
             OutputFormat::Printed => None,
             OutputFormat::Json => Some(Unchecked::Pairs(pairs.as_slice())),
         },

@@ -145,7 +145,7 @@ fn open<'a, R: Records>(
 {
     match &value.node {
         Node::List(items, _) => Some(("[", Rest::Items(items.as_slice(), false, levels))),
-        Node::Map(pairs, _) | Node::Keywords(pairs, _) | Node::Exports(pairs, _) => {
+        Node::Map(pairs, _) | Node::Keywords(pairs, _) | Node::Exports(pairs, _, _) => {
             Some(("{", Rest::Pairs(pairs.as_slice(), false, levels)))
         }
         Node::Namespace(state, index) => open_namespace(*state, *index, levels, records),
@@ -183,7 +183,7 @@ fn write_leaf<T: Target>(value: &Value, target: &mut T) -> Result<(), TargetFail
         Node::Boolean(true) => target.take_text("true"),
         Node::Number(number) => write_json_number(*number, target),
         Node::Text(content, _) => write_json_text(content.as_str(), target),
-        Node::List(_, _) | Node::Map(_, _) | Node::Keywords(_, _) | Node::Exports(_, _) => {
+        Node::List(_, _) | Node::Map(_, _) | Node::Keywords(_, _) | Node::Exports(_, _, _) => {
             target.take_text("")
         }
         Node::Function(_) | Node::Macro(_) | Node::Loop(_, _) | Node::Namespace(_, _) => {

@@ -225,7 +225,7 @@ fn write_leaf<E: Escape, R: Records, T: Target>(
         Node::Boolean(true) => write_spelled::<E, T>("true", target),
         Node::Number(number) => write_number::<E, T>(*number, target),
         Node::Text(content, _) => write_quoted::<E, T>(content.as_str(), target),
-        Node::Exports(_, content) => write_spelled::<E, T>(content.as_str(), target),
+        Node::Exports(_, content, _) => write_spelled::<E, T>(content.as_str(), target),
         Node::Function(_) => write_spelled::<E, T>("<function>", target),
         Node::Macro(declared) => write_macro::<E, T>(declared, target),
         Node::Loop(state, index) => write_loop::<E, R, T>(*state, *index, records, target),

@@ -1,54 +1,91 @@
--- What is left to compare, as it grows and shrinks.
-use Rattle.std.proofs.Common.{◌≡◌, ◌==◌, not, Bool, true, false, ℕ, ◌+◌, ◌<◌, ◌≤◌, List, [], ◌∷◌, ◌++◌, refl, sym, ap, ◌∙◌, arith}
+-- Parts that are compared one by one.
+use Rattle.std.proofs.Common.{◌≡◌, ◌==◌, not, Bool, true, ℕ, zero, suc, ◌+◌, ◌-◌, ◌<◌, ◌≤◌, List, [], ◌∷◌, length, drop, take, get_or}
+use Rattle.std.proofs.Common.{add-one, refl, sym, ap, ◌∙◌, arith}
+use Rattle.std.proofs.lemmas.List.{take_rest}
 use Rattle.std.specs.Ordering.{ordering_then, ordering_index}
 use Rattle.std.specs.declared.cmp.Ordering.{Ordering}
 use Rattle.std.specs.declared.cmp.Ordering.TheVariants.{Less, Equal, Greater}
-use Rattle.tm_values.specs.Comparing.{uncompared_cmp, left_cmp, uncompared_weight, left_weight}
-use Rattle.tm_values.specs.Order.{val_cmp, pairs_cmp}
-use Rattle.tm_values.specs.Val.{Val, pairs_of}
-use Rattle.tm_values.specs.declared.comparing.Uncompared.{Uncompared}
+use Rattle.tm_values.specs.Comparing.{IsBeside, pair_cmp}
+use Rattle.tm_values.specs.Order.{val_cmp, vals_cmp, pairs_cmp}
+use Rattle.tm_values.specs.Val.{Val, val_size, vals_size, vals_of, pairs_size, pairs_of}
+use Rattle.tm_values.specs.declared.comparing.Beside.{Beside}
+use Rattle.tm_values.specs.declared.comparing.Beside.TheVariants as beside
 
-then_assoc : (a b c : Ordering) → ordering_then (ordering_then a b) c ≡ ordering_then a (ordering_then b c)
+pub then_assoc : (a b c : Ordering) → ordering_then (ordering_then a b) c ≡ ordering_then a (ordering_then b c)
 then_assoc Less b c = refl
 then_assoc Equal b c = refl
 then_assoc Greater b c = refl
 
-then_equal : (a : Ordering) → ordering_then a Equal ≡ a
-then_equal Less = refl
-then_equal Equal = refl
-then_equal Greater = refl
+-- what is behind a place
+pub behind : {A : Type 0} (xs : List A) (i : ℕ) → take (length xs - (i + 1)) (drop (i + 1) xs) ≡ drop (suc i) xs
+behind xs i = take_rest xs (i + 1) ∙ ap (λ (k : ℕ). drop k xs) (add-one i)
 
-pub pairs_next : (x y : Val × Val) (xs ys left right : List (Val × Val)) (o : Ordering) → left ≡ x ∷ xs → right ≡ y ∷ ys → ordering_then
-    (pairs_cmp (pairs_of left) (pairs_of right)) o ≡ ordering_then (val_cmp x.0 y.0) (ordering_then (val_cmp x.1 y.1) (ordering_then
-    (pairs_cmp (pairs_of xs) (pairs_of ys)) o))
-pairs_next x y xs ys left right o is also =
-    let rest = pairs_cmp (pairs_of xs) (pairs_of ys) in
-    rw (is, also) (then_assoc (val_cmp x.0 y.0) (ordering_then (val_cmp x.1 y.1) rest) o ∙ ap (ordering_then (val_cmp x.0 y.0))
-    (then_assoc (val_cmp x.1 y.1) rest o))
+-- the items from a place on: the one there, and those behind it
+pub next_items : (xs ys : List Val) (i : ℕ) (x y : Val) → i < length xs → i < length ys → x ≡ get_or xs i x → y ≡ get_or ys i y →
+    vals_cmp (vals_of (drop i xs)) (vals_of (drop i ys)) ≡ ordering_then (val_cmp x y) (vals_cmp (vals_of (drop (suc i) xs)) (vals_of
+    (drop (suc i) ys)))
+next_items [] ys i x y h k e f = absurd (omega arith)
+next_items (a ∷ xs) [] i x y h k e f = absurd (omega arith)
+next_items (a ∷ xs) (b ∷ ys) zero x y h k e f = rw (e, f) refl
+next_items (a ∷ xs) (b ∷ ys) (suc i) x y h k e f = next_items xs ys i x y (omega arith) (omega arith) e f
 
-pub left_cmp-push : (fs : List Uncompared) (f : Uncompared) → left_cmp (fs ++ f ∷ []) ≡ ordering_then (uncompared_cmp f) (left_cmp fs)
-left_cmp-push [] f = sym (then_equal (uncompared_cmp f))
-left_cmp-push (g ∷ fs) f = ap (λ (o : Ordering). ordering_then o (uncompared_cmp g)) (left_cmp-push fs f) ∙ then_assoc (uncompared_cmp f)
-    (left_cmp fs) (uncompared_cmp g)
+pub next_pairs : (ps qs : List (Val × Val)) (i : ℕ) (p q : Val × Val) → i < length ps → i < length qs → p ≡ get_or ps i p → q ≡ get_or qs i q →
+    pairs_cmp (pairs_of (drop i ps)) (pairs_of (drop i qs)) ≡ ordering_then (pair_cmp p q) (pairs_cmp (pairs_of (drop (suc i) ps)) (pairs_of
+    (drop (suc i) qs)))
+next_pairs [] qs i p q h k e f = absurd (omega arith)
+next_pairs (a ∷ ps) [] i p q h k e f = absurd (omega arith)
+next_pairs (a ∷ ps) (b ∷ qs) zero p q h k e f =
+    rw (e, f) (sym (then_assoc (val_cmp a.0 b.0) (val_cmp a.1 b.1) (pairs_cmp (pairs_of ps) (pairs_of qs))))
+next_pairs (a ∷ ps) (b ∷ qs) (suc i) p q h k e f = next_pairs ps qs i p q (omega arith) (omega arith) e f
 
-pub left_weight-push : (fs : List Uncompared) (f : Uncompared) → left_weight (fs ++ f ∷ []) ≡ left_weight fs + uncompared_weight f
-left_weight-push [] f = omega arith
-left_weight-push (g ∷ fs) f = omega (arith, left_weight-push fs f)
+-- and their sizes
+pub size_behind : (xs : List Val) (i : ℕ) (x : Val) → i < length xs → x ≡ get_or xs i x →
+    val_size x + vals_size (vals_of (take (length xs - (i + 1)) (drop (i + 1) xs))) < vals_size (vals_of xs)
+size_behind xs i x h e = rw (behind xs i) (sizes xs i x h e)
+  where
+    sizes : (xs : List Val) (i : ℕ) (x : Val) → i < length xs → x ≡ get_or xs i x →
+        val_size x + vals_size (vals_of (drop (suc i) xs)) < vals_size (vals_of xs)
+    sizes [] i x h e = absurd (omega arith)
+    sizes (a ∷ xs) zero x h e = rw e (omega arith)
+    sizes (a ∷ xs) (suc i) x h e = omega (arith, sizes xs i x (omega arith) e)
 
--- what is left, where this one is the innermost
-module _ (left below : List Uncompared) (f : Uncompared) (is : left ≡ below ++ f ∷ []) where
-  pub innermost : left_cmp left ≡ ordering_then (uncompared_cmp f) (left_cmp below)
-  innermost = ap left_cmp is ∙ left_cmp-push below f
+pub sizes_behind : (ps : List (Val × Val)) (i : ℕ) (p : Val × Val) → i < length ps → p ≡ get_or ps i p →
+    val_size p.0 + val_size p.1 + pairs_size (pairs_of (take (length ps - (i + 1)) (drop (i + 1) ps))) + 1 < pairs_size (pairs_of ps)
+sizes_behind ps i p h e = rw (behind ps i) (sizes ps i p h e)
+  where
+    sizes : (ps : List (Val × Val)) (i : ℕ) (p : Val × Val) → i < length ps → p ≡ get_or ps i p →
+        val_size p.0 + val_size p.1 + pairs_size (pairs_of (drop (suc i) ps)) + 1 < pairs_size (pairs_of ps)
+    sizes [] i p h e = absurd (omega arith)
+    sizes (a ∷ ps) zero p h e = rw e (omega arith)
+    sizes (a ∷ ps) (suc i) p h e = omega (arith, sizes ps i p (omega arith) e)
 
-  pub innermost_weight : left_weight left ≡ left_weight below + uncompared_weight f
-  innermost_weight = ap left_weight is ∙ left_weight-push below f
+-- what stands beside a part of what there is from a place on
+pub around_item : (xs ys : List Val) (i : ℕ) (x y : Val) (whole after : Ordering) → i < length xs → i < length ys → x ≡ get_or xs i x →
+    y ≡ get_or ys i y → vals_cmp (vals_of (drop i xs)) (vals_of (drop i ys)) ≡ whole →
+    after ≡ vals_cmp (vals_of (take (length xs - (i + 1)) (drop (i + 1) xs))) (vals_of (take (length ys - (i + 1)) (drop (i + 1) ys))) →
+    whole ≡ ordering_then (val_cmp x y) after
+around_item xs ys i x y whole after h k e f is rest =
+    let then = rw (behind xs i, behind ys i) at rest in
+    sym is ∙ next_items xs ys i x y h k e f ∙ ap (ordering_then (val_cmp x y)) (sym then)
 
--- two values, and then what is after them
-pub values_next : (a b c : Ordering) (x y : Val) (f after : Uncompared) → a ≡ ordering_then (uncompared_cmp f) b → uncompared_cmp f ≡
-    ordering_then (val_cmp x y) (uncompared_cmp after) → c ≡ ordering_then (uncompared_cmp after) b → a ≡ ordering_then (val_cmp x y) c
-values_next a b c x y f after all next then =
-    all ∙ (ap (λ (o : Ordering). ordering_then o b) next ∙ (then_assoc (val_cmp x y) (uncompared_cmp after) b ∙ ap (ordering_then
-    (val_cmp x y)) (sym then)))
+pub around_pair : (ps qs : List (Val × Val)) (i : ℕ) (p q : Val × Val) (whole after : Ordering) → i < length ps → i < length qs →
+    p ≡ get_or ps i p → q ≡ get_or qs i q → pairs_cmp (pairs_of (drop i ps)) (pairs_of (drop i qs)) ≡ whole →
+    after ≡ pairs_cmp (pairs_of (take (length ps - (i + 1)) (drop (i + 1) ps))) (pairs_of (take (length qs - (i + 1)) (drop (i + 1) qs))) →
+    whole ≡ ordering_then (pair_cmp p q) after
+around_pair ps qs i p q whole after h k e f is rest =
+    let then = rw (behind ps i, behind qs i) at rest in
+    sym is ∙ next_pairs ps qs i p q h k e f ∙ ap (ordering_then (pair_cmp p q)) (sym then)
+
+pub within_more : (part whole : Ordering) (size larger : ℕ) (b : Beside) → whole ≡ part → size ≤ larger → IsBeside part size b →
+    IsBeside whole larger b
+within_more part whole size larger (beside.Known order) is h known = is ∙ known
+within_more part whole size larger (beside.Around x y order) is h around = (is ∙ around.0, omega (arith, h, around.1))
+
+-- what comes after both comes after the second
+pub then_after : (whole both part next after end : Ordering) → whole ≡ ordering_then both end → both ≡ ordering_then part next →
+    after ≡ ordering_then next end → whole ≡ ordering_then part after
+then_after whole both part next after end is one other =
+    is ∙ (ap (λ (o : Ordering). ordering_then o end) one ∙ (then_assoc part next end ∙ ap (ordering_then part) (sym other)))
 
 -- a test for not being Equal
 pub differs : (a b c : Ordering) (t : Bool) → t ≡ not (ordering_index a == 1) → t ≡ true → c ≡ ordering_then a b → a ≡ c
@@ -56,7 +93,11 @@ differs Less b c t is h all = sym all
 differs Equal b c t is h all = absurd (cc (is, h))
 differs Greater b c t is h all = sym all
 
-pub agrees : (a b c : Ordering) (t : Bool) → t ≡ not (ordering_index a == 1) → t ≡ false → c ≡ ordering_then a b → b ≡ c
-agrees Less b c t is h all = absurd (cc (is, h))
-agrees Equal b c t is h all = sym all
-agrees Greater b c t is h all = absurd (cc (is, h))
+-- two pairs that differ
+pub different_pairs : (ps qs : List (Val × Val)) (i : ℕ) (p q : Val × Val) (whole order : Ordering) (t : Bool) → i < length ps → i < length qs →
+    p ≡ get_or ps i p → q ≡ get_or qs i q → pairs_cmp (pairs_of (drop i ps)) (pairs_of (drop i qs)) ≡ whole → order ≡ pair_cmp p q →
+    t ≡ not (ordering_index order == 1) → t ≡ true → order ≡ whole
+different_pairs ps qs i p q whole order t h k e f is found test so =
+    let rest = pairs_cmp (pairs_of (drop (suc i) ps)) (pairs_of (drop (suc i) qs)) in
+    let all = sym is ∙ next_pairs ps qs i p q h k e f ∙ ap (λ (o : Ordering). ordering_then o rest) (sym found) in
+    differs order rest whole t test so all

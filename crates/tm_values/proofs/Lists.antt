@@ -1,5 +1,5 @@
 -- Items and pairs, as data and as a list.
-use Rattle.std.proofs.Common.{◌≡◌, ◌≤◌, ◌<◌, ◌+◌, ℕ, zero, suc, List, [], ◌∷◌, length, drop, Less, refl, ap, arith}
+use Rattle.std.proofs.Common.{◌≡◌, ◌≤◌, ◌<◌, ℕ, zero, suc, List, [], ◌∷◌, length, drop, Less, refl, ap, arith}
 use Rattle.tm_values.specs.Order.{vals_cmp, pairs_cmp}
 use Rattle.tm_values.specs.Val.{Val, Vals, no_vals, val, vals_of, list_of, Pairs, no_pairs, pair, pairs_of, entries_of}
 

@@ -1,5 +1,5 @@
 -- Plain parts, one after the other.
-use Rattle.std.proofs.Common.{◌≡◌, Bool, true, false, cond, refl, sym}
+use Rattle.std.proofs.Common.{◌≡◌, Bool, true, false, cond, refl}
 use Rattle.tm_values.specs.Plain.{both}
 use Rattle.tm_values.specs.declared.plain.Plain.{Plain}
 

@@ -3,6 +3,7 @@ pub mod Cause
 pub mod Name
 pub mod Val
 pub mod Plain
+pub mod Parts
 pub mod Order
 pub mod Equality
 pub mod Comparing

@@ -1,5 +1,5 @@
 -- What a macro stands for.
-use Rattle.std.specs.Prelude.{List, map as each}
+use Rattle.std.specs.Prelude.{map as each}
 use Rattle.std.specs.Rc.{rc_str_bytes}
 use Rattle.tm_values.specs.Val.{MacroData}
 use Rattle.tm_values.specs.declared.macros.Macro.TheInside.{Inside}

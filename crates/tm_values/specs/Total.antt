@@ -1,5 +1,5 @@
 -- The order of values is total: each value has a key, a list of whole numbers, and keys are ordered as their values are.
-use Rattle.std.proofs.Common.{◌≡◌, ℕ, ℤ, zero, suc, pos, ◌+◌, Bool, true, false, List, [], ◌∷◌, Option, Some, None, Ordering, Less, Equal}
+use Rattle.std.proofs.Common.{◌≡◌, ℕ, ℤ, pos, Bool, true, false, List, [], ◌∷◌, Option, Some, None, Ordering, Less, Equal}
 use Rattle.std.proofs.Common.{Greater, nat_cmp, refl, sym, ap, ◌∙◌, arith}
 use Rattle.std.proofs.lemmas.Bool.Decides.{nat_tests}
 use Rattle.std.proofs.lemmas.Cmp.{lists_total, int_cmp_total}
@@ -7,7 +7,7 @@ use Rattle.std.specs.Cmp.{IsTotalOrder}
 use Rattle.std.specs.Cmp.Lexicographic.{slice_cmp}
 use Rattle.std.specs.Option.{option_cmp}
 use Rattle.std.specs.Ordering.{int_cmp, bool_cmp, ordering_then, ordering_reverse}
-use Rattle.tm_values.specs.Order.{rank, within, val_cmp, vals_cmp, pairs_cmp, macro_cmp, record_cmp, bytes_in, whole_or_zero, function_in}
+use Rattle.tm_values.specs.Order.{rank, within, val_cmp, vals_cmp, pairs_cmp, macro_cmp, bytes_in, whole_or_zero, function_in}
 use Rattle.tm_values.specs.Order.{state_in, record_in, macro_against}
 use Rattle.tm_values.specs.Val.{MacroData, Val, undefined, none, boolean, number, text, list, map, keywords, exports, function, macro, loop}
 use Rattle.tm_values.specs.Val.{namespace, Vals, no_vals, val, Pairs, no_pairs, pair, vals_in, pairs_in, whole_of}

@@ -1,67 +1,32 @@
-//! The order of deep values, by a list of what is left to compare, so that they take no deep stack.
-ghost use Rattle.std.specs.Prelude.{◌≡◌, MatchOption};
+//! The order of deep values: without memory, and with a stack that no depth of a value makes deep.
+ghost use Rattle.std.specs.Prelude.{◌≡◌, ◌+◌};
 ghost use Rattle.std.specs.Ordering.{ordering_then};
-ghost use Rattle.tm_values.specs.Comparing.{IsNextOrder, IsNextLighter, IsCompared};
-ghost use Rattle.tm_values.specs.Order.{val_cmp};
+ghost use Rattle.tm_values.specs.Comparing.{IsBeside, IsCompared, pair_cmp};
+ghost use Rattle.tm_values.specs.Order.{val_cmp, vals_cmp, pairs_cmp};
+ghost use Rattle.tm_values.specs.Val.{val_size, vals_of, vals_size, pairs_of, pairs_size};
 
-use crate::order::compare_macro;
+use crate::order::{compare_items, compare_macro, compare_pair, compare_pairs};
 use crate::value::{Node, Value};
-use std::alloc::Global;
 use std::cmp::Ordering;
-
-/// What is left to compare of two values with parts, and two texts after it.
-#[derive(Clone, Copy)]
-pub enum Uncompared<'a> {
-    /// Items against items.
-    Items(&'a [Value], &'a [Value]),
-    /// Pairs against pairs, then a text against a text.
-    Pairs(&'a [(Value, Value)], &'a [(Value, Value)], &'a str, &'a str),
-    /// The values of two pairs whose keys are equal, and what is after.
-    Member(&'a Value, &'a Value, &'a [(Value, Value)], &'a [(Value, Value)], &'a str, &'a str),
-}
-
-/// What comes next of it.
-#[derive(Clone, Copy)]
-pub enum NextValues<'a> {
-    /// Two values, then what is left.
-    Values(&'a Value, &'a Value, Uncompared<'a>),
-    /// How it ends.
-    End(Ordering),
-}
 
 /// How two values compare.
 #[derive(Clone, Copy)]
 pub enum Compared<'a> {
     /// So.
     Known(Ordering),
-    /// As these do.
-    Parts(Uncompared<'a>),
+    /// As these items do.
+    Items(&'a [Value], &'a [Value]),
+    /// As these pairs do, and then these texts.
+    Pairs(&'a [(Value, Value)], &'a [(Value, Value)], &'a str, &'a str),
 }
 
-// What comes next.
-fn take_next<'a>(uncompared: Uncompared<'a>) -> NextValues<'a>
-    ensures order { IsNextOrder uncompared.entry result }
-    ensures lighter { IsNextLighter uncompared.entry result }
-{
-    match uncompared {
-        Uncompared::Items(left, right) => match (left.split_first(), right.split_first()) {
-            (Some((x, xs)), Some((y, ys))) => NextValues::Values(x, y, Uncompared::Items(xs, ys)),
-            (Some(_), None) => NextValues::End(Ordering::Greater),
-            (None, Some(_)) => NextValues::End(Ordering::Less),
-            (None, None) => NextValues::End(Ordering::Equal),
-        },
-        Uncompared::Pairs(left, right, s, t) => match (left.split_first(), right.split_first()) {
-            (Some((x, xs)), Some((y, ys))) => {
-                NextValues::Values(&x.0, &y.0, Uncompared::Member(&x.1, &y.1, xs, ys, s, t))
-            }
-            (Some(_), None) => NextValues::End(Ordering::Greater),
-            (None, Some(_)) => NextValues::End(Ordering::Less),
-            (None, None) => NextValues::End(s.cmp(t)),
-        },
-        Uncompared::Member(x, y, left, right, s, t) => {
-            NextValues::Values(x, y, Uncompared::Pairs(left, right, s, t))
-        }
-    }
+/// How two lists of parts compare, where one part of the left list is left out.
+#[derive(Clone, Copy)]
+pub enum Beside<'a> {
+    /// So, whatever that part is.
+    Known(Ordering),
+    /// As it does with the part in its place; or so, where these are equal.
+    Around(&'a Value, &'a Value, Ordering),
 }
 
 // How two values compare, or what of them does.
@@ -78,69 +43,163 @@ fn compare_top<'a>(left: &'a Value, right: &'a Value) -> Compared<'a>
             Compared::Known(left.whole_or_zero().cmp(&right.whole_or_zero()))
         }
         Node::Text(content, _) => Compared::Known(content.as_str().cmp(right.text_or_empty())),
-        Node::List(items, _) => Compared::Parts(Uncompared::Items(items.as_slice(), right.items())),
+        Node::List(items, _) => Compared::Items(items.as_slice(), right.items()),
         Node::Map(pairs, _) | Node::Keywords(pairs, _) => {
-            Compared::Parts(Uncompared::Pairs(pairs.as_slice(), right.pairs(), "", ""))
+            Compared::Pairs(pairs.as_slice(), right.pairs(), "", "")
         }
-        Node::Exports(pairs, content) => Compared::Parts(Uncompared::Pairs(
+        Node::Exports(pairs, content, _) => Compared::Pairs(
             pairs.as_slice(),
             right.pairs(),
             content.as_str(),
             right.text_or_empty(),
-        )),
+        ),
         Node::Function(index) => Compared::Known(index.cmp(&right.function_or_zero())),
         Node::Macro(declared) => Compared::Known(compare_macro(declared, right)),
         Node::Loop(_, _) | Node::Namespace(_, _) => Compared::Known(left.compare_record(right)),
     }
 }
 
-/// Where the left value stands to the right one. None of values without parts, and where there
-/// is no memory for the list.
-pub(crate) fn compare_by_list(left: &Value, right: &Value) -> Option<Ordering>
-    ensures { MatchOption result Unit (λ order. order ≡ val_cmp left.now right.now) }
+// Where the left value stands to the right one. Each turn compares what stands beside the largest part of the left value, and
+// goes on with that part. What stands beside it is compared by recursion: each has at most half of the size, so their
+// comparisons lie at most 32 deep.
+#[cycle(compare)]
+pub(crate) fn compare_deep(left: &Value, right: &Value) -> Ordering
+    ensures { result ≡ val_cmp left.now right.now }
 {
-    let mut rest = Vec::new(allocator(left)?);
-    match compare_top(left, right) {
-        Compared::Known(order) => return Some(order),
-        Compared::Parts(uncompared) => match rest.push(uncompared) {
-            Ok(()) => {}
-            Err(_) => return None,
-        },
-    }
-    while let Some(uncompared) = rest.pop() {
-        match take_next(uncompared) {
-            NextValues::End(order) => {
-                if order != Ordering::Equal {
-                    return Some(order);
-                }
-            }
-            NextValues::Values(x, y, after) => {
-                // The pop left room for it.
-                rest.push_reserved(after);
-                match compare_top(x, y) {
-                    Compared::Known(order) => {
-                        if order != Ordering::Equal {
-                            return Some(order);
-                        }
-                    }
-                    Compared::Parts(inside) => match rest.push(inside) {
-                        Ok(()) => {}
-                        Err(_) => return None,
-                    },
-                }
+    let mut first = left;
+    let mut second = right;
+    let mut after = Ordering::Equal;
+    loop {
+        match beside_largest(first, second) {
+            Beside::Known(order) => return order.then(after),
+            Beside::Around(x, y, order) => {
+                first = x;
+                second = y;
+                after = order.then(after);
             }
         }
     }
-    Some(Ordering::Equal)
 }
 
-// Where the memory of a value with parts comes from.
-fn allocator(value: &Value) -> Option<Global> {
-    match &value.node {
-        Node::List(items, _) => Some(*items.allocator()),
-        Node::Map(pairs, _) | Node::Keywords(pairs, _) | Node::Exports(pairs, _) => {
-            Some(*pairs.allocator())
-        }
-        _ => None,
+// Compares what stands beside the largest part of the left value.
+#[cycle(compare)]
+fn beside_largest<'a>(left: &'a Value, right: &'a Value) -> Beside<'a>
+    ensures { IsBeside (val_cmp left.now right.now) (val_size left.now) result }
+{
+    match compare_top(left, right) {
+        Compared::Known(order) => Beside::Known(order),
+        Compared::Items(xs, ys) => beside_item(xs, ys),
+        Compared::Pairs(ps, qs, s, t) => match beside_member(ps, qs) {
+            Beside::Known(order) => Beside::Known(order.then(s.cmp(t))),
+            Beside::Around(x, y, order) => Beside::Around(x, y, order.then(s.cmp(t))),
+        },
     }
+}
+
+// Compares the items beside the largest one of the left list.
+#[cycle(compare)]
+fn beside_item<'a>(left: &'a [Value], right: &'a [Value]) -> Beside<'a>
+    ensures { IsBeside (vals_cmp (vals_of left.now) (vals_of right.now))
+        (vals_size (vals_of left.now)) result }
+{
+    let place = place_of_largest(left);
+    for (i, item) in left.iter().enumerate() {
+        if i >= right.len() {
+            return Beside::Known(Ordering::Greater);
+        }
+        let other = &right[i];
+        if i == place {
+            return Beside::Around(
+                item,
+                other,
+                compare_items(&left[i + 1..], &right[i + 1..], 0),
+            );
+        }
+        let items = item.compare_within(other, 0);
+        if items != Ordering::Equal {
+            return Beside::Known(items);
+        }
+    }
+    if left.len() < right.len() {
+        Beside::Known(Ordering::Less)
+    } else {
+        Beside::Known(Ordering::Equal)
+    }
+}
+
+// Compares the keys and values beside the largest one of the left pairs.
+#[cycle(compare)]
+fn beside_member<'a>(left: &'a [(Value, Value)], right: &'a [(Value, Value)]) -> Beside<'a>
+    ensures { IsBeside (pairs_cmp (pairs_of left.now) (pairs_of right.now))
+        (pairs_size (pairs_of left.now)) result }
+{
+    let place = place_of_largest_member(left);
+    for (i, pair) in left.iter().enumerate() {
+        if i >= right.len() {
+            return Beside::Known(Ordering::Greater);
+        }
+        let other = &right[i];
+        if i == place {
+            let after = compare_pairs(&left[i + 1..], &right[i + 1..], 0);
+            return beside_one(pair, other, after);
+        }
+        let pairs = compare_pair(pair, other, 0);
+        if pairs != Ordering::Equal {
+            return Beside::Known(pairs);
+        }
+    }
+    if left.len() < right.len() {
+        Beside::Known(Ordering::Less)
+    } else {
+        Beside::Known(Ordering::Equal)
+    }
+}
+
+// Compares the smaller one of the key and the value of the left pair.
+#[cycle(compare)]
+fn beside_one<'a>(
+    pair: &'a (Value, Value),
+    other: &'a (Value, Value),
+    after: Ordering,
+) -> Beside<'a>
+    ensures { IsBeside (ordering_then (pair_cmp pair.now other.now) after)
+        (val_size pair.now.0 + val_size pair.now.1 + 1) result }
+{
+    if pair.0.size() > pair.1.size() {
+        let values = pair.1.compare_within(&other.1, 0);
+        return Beside::Around(&pair.0, &other.0, values.then(after));
+    }
+    let keys = pair.0.compare_within(&other.0, 0);
+    if keys != Ordering::Equal {
+        return Beside::Known(keys);
+    }
+    Beside::Around(&pair.1, &other.1, after)
+}
+
+// The place of the largest of the values.
+fn place_of_largest(values: &[Value]) -> usize {
+    let mut place = 0;
+    let mut largest = 0;
+    for (i, value) in values.iter().enumerate() {
+        let size = value.size();
+        if size > largest {
+            place = i;
+            largest = size;
+        }
+    }
+    place
+}
+
+// The place of the pair that has the largest of the keys and values.
+fn place_of_largest_member(pairs: &[(Value, Value)]) -> usize {
+    let mut place = 0;
+    let mut largest = 0;
+    for (i, pair) in pairs.iter().enumerate() {
+        let size = pair.0.size().max(pair.1.size());
+        if size > largest {
+            place = i;
+            largest = size;
+        }
+    }
+    place
 }

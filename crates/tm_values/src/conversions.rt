@@ -125,7 +125,7 @@ impl Value {
             Node::Number(whole) => *whole != 0,
             Node::Text(content, _) => !content.as_str().is_empty(),
             Node::List(items, _) => !items.as_slice().is_empty(),
-            Node::Map(pairs, _) | Node::Keywords(pairs, _) | Node::Exports(pairs, _) => {
+            Node::Map(pairs, _) | Node::Keywords(pairs, _) | Node::Exports(pairs, _, _) => {
                 !pairs.as_slice().is_empty()
             }
             _ => true,

@@ -1,10 +1,10 @@
-//! How values are dropped: by a list of what is left, so that a deep value takes no deep stack.
-ghost use Rattle.std.specs.Prelude.{◌+◌, ◌≤◌};
-ghost use Rattle.tm_values.specs.Held.{GrewAtMost, held_size};
+//! How values are dropped: without memory, and with a stack that no depth of a value makes deep.
+ghost use Rattle.std.specs.Prelude.{◌+◌, ◌≤◌, max};
+ghost use Rattle.tm_values.specs.Held.{held_size, kept_size};
 ghost use Rattle.tm_values.specs.Val.{val_size, vals_size, pairs_size, vals_of, pairs_of};
 
-use crate::value::{Node, Value};
-use std::alloc::AllocFailed;
+use crate::value::Value;
+use std::mem;
 use std::rc::Rc;
 
 // What a value alone held, before it went.
@@ -36,77 +36,68 @@ impl Held {
     }
 }
 
-// Drops a value that may own something.
+// Drops a value that may own something. Of what it alone holds the largest value comes next, in a turn of its own. The others
+// are dropped by recursion: each has at most half of the size, so their drops lie at most 32 deep.
 #[inline(never)]
 #[cycle(dropping)]
 pub(crate) fn drop_owner(value: Value) {
-    match value.into_held() {
-        Held::Nothing => {}
-        Held::Items(items) => drop_all(items),
-        Held::Pairs(pairs) => {
-            let mut left = Vec::new(*pairs.allocator());
-            put_pairs_aside(pairs, &mut left);
-            drop_all(left);
-        }
+    let mut largest = Some(value);
+    while let Some(next) = largest {
+        largest = match next.into_held() {
+            Held::Nothing => None,
+            Held::Items(items) => drop_items(items),
+            Held::Pairs(pairs) => drop_pairs(pairs),
+        };
     }
 }
 
-// Drops the values one by one. What they alone hold joins those that are left.
+// Drops all items but the largest one of those that have parts.
 #[cycle(dropping)]
 #[tactic(auto, using(crate::proofs::Sizes::joined_sizes))]
-pub(crate) fn drop_all(mut left: Vec<Value>) {
-    while let Some(value) = left.pop() {
-        match value.into_held() {
-            Held::Nothing => {}
-            Held::Items(items) => put_items_aside(items, &mut left),
-            Held::Pairs(pairs) => put_pairs_aside(pairs, &mut left),
-        }
-    }
-}
-
-#[cycle(dropping)]
-#[tactic(auto, using(crate::proofs::Sizes::joined_sizes))]
-fn put_items_aside(mut items: Vec<Value>, left: &mut Vec<Value>)
-    ensures { GrewAtMost (vals_size (vals_of items.items)) left.old.items left.new.items }
+fn drop_items(mut items: Vec<Value>) -> Option<Value>
+    ensures { kept_size result ≤ vals_size (vals_of items.items) }
 {
+    let mut largest = None;
     while let Some(item) = items.pop() {
-        put_aside(item, left);
+        keep_larger(item, &mut largest);
     }
+    largest
 }
 
+// Drops all keys and values but the largest one of those that have parts.
 #[cycle(dropping)]
 #[tactic(auto, using(crate::proofs::Sizes::joined_sizes))]
-fn put_pairs_aside(mut pairs: Vec<(Value, Value)>, left: &mut Vec<Value>)
-    ensures { GrewAtMost (pairs_size (pairs_of pairs.items)) left.old.items left.new.items }
+fn drop_pairs(mut pairs: Vec<(Value, Value)>) -> Option<Value>
+    ensures { kept_size result ≤ pairs_size (pairs_of pairs.items) }
 {
+    let mut largest = None;
     while let Some((key, value)) = pairs.pop() {
-        put_aside(key, left);
-        put_aside(value, left);
+        keep_larger(key, &mut largest);
+        keep_larger(value, &mut largest);
     }
+    largest
 }
 
-// Puts the value aside where it may hold others. Else it is dropped at once, and so it is where
-// there is no memory for the list.
+// Keeps the larger one of two values and drops the other one. One without parts isn't kept.
+#[inline(always)]
 #[cycle(dropping)]
-#[tactic(auto, using(crate::proofs::Sizes::joined_sizes))]
-fn put_aside(value: Value, left: &mut Vec<Value>)
-    ensures { GrewAtMost (val_size value + 1) left.old.items left.new.items }
+fn keep_larger(value: Value, largest: &mut Option<Value>)
+    ensures { kept_size largest.new ≤ max (kept_size largest.old) (val_size value + 1) }
 {
-    if value.may_hold() {
-        if let Err(AllocFailed { value }) = left.push(value) {
-            drop(value);
-        }
-    } else {
+    if value.size() <= size_of(largest) {
         drop(value);
+    } else if let Some(smaller) = mem::replace(largest, Some(value)) {
+        drop(smaller);
     }
 }
 
-impl Value {
-    // Whether values may stand in it.
-    fn may_hold(&self) -> bool {
-        matches!(
-            &self.node,
-            Node::List(_, _) | Node::Map(_, _) | Node::Keywords(_, _) | Node::Exports(_, _)
-        )
+// The size of the value that is kept, or else that of one without parts.
+#[inline(always)]
+fn size_of(largest: &Option<Value>) -> u32
+    ensures { kept_size largest.now ≤ result + 1 }
+{
+    match largest {
+        Some(value) => value.size(),
+        None => 1,
     }
 }

@@ -6,7 +6,7 @@ ghost use Rattle.tm_values.specs.Order.{val_cmp};
 ghost use Rattle.tm_values.specs.Val.{Val, text, map, keywords, exports, pairs_of, entries_in};
 
 use crate::error::{Error, ErrorKind};
-use crate::plain::pairs_plain;
+use crate::parts::Parts;
 use crate::shared_text::SharedText;
 use crate::value::{Node, Value};
 use std::alloc::Global;
@@ -141,9 +141,9 @@ impl Value {
         ensures { OkOrOutOfMemory result (λ v. v ≡ map (pairs_of entries)) }
     {
         let ValueMap { pairs } = entries;
-        let plain = pairs_plain(&pairs);
+        let parts = Parts::of_pairs(&pairs)?;
         Ok(Value {
-            node: Node::Map(Rc::new(alloc, pairs)?, plain),
+            node: Node::Map(Rc::new(alloc, pairs)?, parts),
         })
     }
 
@@ -152,9 +152,9 @@ impl Value {
         ensures { OkOrOutOfMemory result (λ v. v ≡ keywords (pairs_of entries)) }
     {
         let ValueMap { pairs } = entries;
-        let plain = pairs_plain(&pairs);
+        let parts = Parts::of_pairs(&pairs)?;
         Ok(Value {
-            node: Node::Keywords(Rc::new(alloc, pairs)?, plain),
+            node: Node::Keywords(Rc::new(alloc, pairs)?, parts),
         })
     }
 
@@ -164,8 +164,12 @@ impl Value {
             (λ v. v ≡ exports (pairs_of entries) content) }
     {
         let ValueMap { pairs } = entries;
+        let Parts {
+            plain: _plain,
+            size,
+        } = Parts::of_pairs(&pairs)?;
         Ok(Value {
-            node: Node::Exports(Rc::new(alloc, pairs)?, content),
+            node: Node::Exports(Rc::new(alloc, pairs)?, content, size),
         })
     }
 

@@ -3,10 +3,11 @@ ghost use Rattle.std.specs.Cmp.{IsTotalOrder};
 ghost use Rattle.std.specs.Prelude.{◌≡◌, Bool, false};
 ghost use Rattle.tm_values.specs.Order.{val_cmp, vals_cmp, pairs_cmp, macro_against, record_cmp, function_in, state_in, record_in};
 ghost use Rattle.std.specs.Ordering.{is_eq};
+ghost use Rattle.tm_values.specs.Comparing.{pair_cmp};
 ghost use Rattle.tm_values.specs.Equality.{same_value, same_values};
 ghost use Rattle.tm_values.specs.Val.{Val, text, boolean, number, whole_of, vals_of, pairs_of};
 
-use crate::comparing::compare_by_list;
+use crate::comparing::compare_deep;
 use crate::macros::Macro;
 use crate::value::{Node, Value};
 use std::cmp::Ordering;
@@ -24,17 +25,14 @@ impl Value {
         self.compare_within(other, NATIVE_LEVELS)
     }
 
-    // The same. What lies so many levels deep is compared by a list, where there is memory for it.
+    // The same. What lies so many levels deep is compared in turns.
     #[cycle(compare)]
-    fn compare_within(&self, other: &Value, levels: usize) -> Ordering
+    pub(crate) fn compare_within(&self, other: &Value, levels: usize) -> Ordering
         ensures { result ≡ val_cmp self.now other.now }
     {
-        if levels == 0 {
-            if let Some(order) = compare_by_list(self, other) {
-                return order;
-            }
-        }
-        let levels = levels.saturating_sub(1);
+        let Some(levels) = levels.checked_sub(1) else {
+            return compare_deep(self, other);
+        };
         let kinds = self.rank().cmp(&other.rank());
         if kinds != Ordering::Equal {
             return kinds;
@@ -49,7 +47,7 @@ impl Value {
                 other.pairs(),
                 levels,
             ),
-            Node::Exports(pairs, content) => {
+            Node::Exports(pairs, content, _) => {
                 compare_pairs(pairs.as_slice(), other.pairs(), levels).then(
                     content.as_str().cmp(other.text_or_empty()),
                 )
@@ -117,8 +115,9 @@ pub fn same_items(left: &[Value], right: &[Value]) -> bool
     compare_items(left, right, NATIVE_LEVELS) == Ordering::Equal
 }
 
+// Item by item, then fewer items first.
 #[cycle(compare)]
-fn compare_items(left: &[Value], right: &[Value], levels: usize) -> Ordering
+pub(crate) fn compare_items(left: &[Value], right: &[Value], levels: usize) -> Ordering
     ensures { result ≡ vals_cmp (vals_of left.now) (vals_of right.now) }
 {
     for (i, item) in left.iter().enumerate() {
@@ -137,22 +136,22 @@ fn compare_items(left: &[Value], right: &[Value], levels: usize) -> Ordering
     }
 }
 
+// Pair by pair, then fewer pairs first.
 #[cycle(compare)]
-fn compare_pairs(left: &[(Value, Value)], right: &[(Value, Value)], levels: usize) -> Ordering
+pub(crate) fn compare_pairs(
+    left: &[(Value, Value)],
+    right: &[(Value, Value)],
+    levels: usize,
+) -> Ordering
     ensures { result ≡ pairs_cmp (pairs_of left.now) (pairs_of right.now) }
 {
     for (i, pair) in left.iter().enumerate() {
         if i >= right.len() {
             return Ordering::Greater;
         }
-        let other = &right[i];
-        let keys = pair.0.compare_within(&other.0, levels);
-        if keys != Ordering::Equal {
-            return keys;
-        }
-        let values = pair.1.compare_within(&other.1, levels);
-        if values != Ordering::Equal {
-            return values;
+        let pairs = compare_pair(pair, &right[i], levels);
+        if pairs != Ordering::Equal {
+            return pairs;
         }
     }
     if left.len() < right.len() {
@@ -160,6 +159,18 @@ fn compare_pairs(left: &[(Value, Value)], right: &[(Value, Value)], levels: usiz
     } else {
         Ordering::Equal
     }
+}
+
+// By the keys, then by the values.
+#[cycle(compare)]
+pub(crate) fn compare_pair(pair: &(Value, Value), other: &(Value, Value), levels: usize) -> Ordering
+    ensures { result ≡ pair_cmp pair.now other.now }
+{
+    let keys = pair.0.compare_within(&other.0, levels);
+    if keys != Ordering::Equal {
+        return keys;
+    }
+    pair.1.compare_within(&other.1, levels)
 }
 
 impl PartialEq for Value {

@@ -1,7 +1,6 @@
 //! Values that are never refused, whatever the records are.
 ghost use Rattle.std.specs.Prelude.{◌≡◌};
-ghost use Rattle.tm_values.specs.Plain.{fits_json, in_all_forms, in_print_alone, in_no_form, both, as_key, plain_of, vals_plain, pairs_plain};
-ghost use Rattle.tm_values.specs.Val.{vals_of, pairs_of};
+ghost use Rattle.tm_values.specs.Plain.{fits_json, in_all_forms, in_print_alone, in_no_form, both, as_key, plain_of};
 
 use crate::value::{Node, Value};
 
@@ -18,7 +17,7 @@ pub struct Plain {
 
 impl Plain {
     // In all forms.
-    fn in_all_forms() -> Plain
+    pub(crate) fn in_all_forms() -> Plain
         ensures { result ≡ in_all_forms }
     {
         Plain {
@@ -38,7 +37,7 @@ impl Plain {
     }
 
     // In the forms in which both are.
-    fn both(self, other: Plain) -> Plain
+    pub(crate) fn both(self, other: Plain) -> Plain
         ensures { result ≡ both self other }
     {
         Plain {
@@ -55,7 +54,7 @@ impl Value {
         ensures { result ≡ plain_of self.now }
     {
         match &self.node {
-            Node::List(_, plain) | Node::Map(_, plain) | Node::Keywords(_, plain) => *plain,
+            Node::List(_, parts) | Node::Map(_, parts) | Node::Keywords(_, parts) => parts.plain,
             Node::Undefined(_) | Node::None | Node::Boolean(_) | Node::Text(_, _) => {
                 Plain::in_all_forms()
             }
@@ -63,7 +62,7 @@ impl Value {
                 in_print: true,
                 in_json: fits_json(*whole),
             },
-            Node::Exports(_, _) | Node::Function(_) | Node::Macro(_) => Plain::in_print_alone(),
+            Node::Exports(_, _, _) | Node::Function(_) | Node::Macro(_) => Plain::in_print_alone(),
             Node::Loop(_, _) | Node::Namespace(_, _) => Plain {
                 in_print: false,
                 in_json: false,
@@ -89,31 +88,8 @@ fn fits_json(whole: i128) -> bool
     -0x8000_0000_0000_0000 <= whole && whole <= 0xffff_ffff_ffff_ffff
 }
 
-// In which forms none of the values is refused.
-#[tactic(auto, using(crate::proofs::Plains::both_regroups))]
-pub(crate) fn values_plain(values: &[Value]) -> Plain
-    ensures { result ≡ vals_plain (vals_of values.now) }
-{
-    let mut plain = Plain::in_all_forms();
-    for value in values {
-        plain = plain.both(value.plain());
-    }
-    plain
-}
-
-// In which forms none of the keys and values is refused.
-#[tactic(auto, using(crate::proofs::Plains::both_regroups))]
-pub(crate) fn pairs_plain(pairs: &[(Value, Value)]) -> Plain
-    ensures { result ≡ pairs_plain (pairs_of pairs.now) }
-{
-    let mut plain = Plain::in_all_forms();
-    for pair in pairs {
-        plain = plain.both(pair_plain(pair));
-    }
-    plain
-}
-
-fn pair_plain(pair: &(Value, Value)) -> Plain
+// In which forms neither the key nor the value is refused.
+pub(crate) fn pair_plain(pair: &(Value, Value)) -> Plain
     ensures { result ≡ both (as_key pair.now.0) (both (plain_of pair.now.0) (plain_of pair.now.1)) }
 {
     pair.0.as_key().both(pair.0.plain().both(pair.1.plain()))

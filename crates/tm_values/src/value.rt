@@ -11,7 +11,7 @@ ghost use Rattle.tm_values.specs.Val.{vals_of, text_in, list_in, entries_in, ite
 use crate::dropping::{Held, drop_owner};
 use crate::error::Error;
 use crate::macros::Macro;
-use crate::plain::{Plain, values_plain};
+use crate::parts::Parts;
 use crate::shared_text::SharedText;
 use std::alloc::Global;
 use std::marker::Model;
@@ -38,14 +38,14 @@ pub enum Node {
     Number(i128),
     /// A text, and whether it is safe: no escape changes it.
     Text(SharedText, bool),
-    /// Values in order, and in which forms none of them is refused.
-    List(Rc<Vec<Value>>, Plain),
-    /// Pairs in the order of their keys, and in which forms none of them is refused.
-    Map(Rc<Vec<(Value, Value)>>, Plain),
-    /// The keyword arguments of a call, and in which forms none of them is refused.
-    Keywords(Rc<Vec<(Value, Value)>>, Plain),
-    /// A module: what an import exports, and the text that it wrote.
-    Exports(Rc<Vec<(Value, Value)>>, SharedText),
+    /// Values in order, and what is kept of them.
+    List(Rc<Vec<Value>>, Parts),
+    /// Pairs in the order of their keys, and what is kept of them.
+    Map(Rc<Vec<(Value, Value)>>, Parts),
+    /// The keyword arguments of a call, and what is kept of them.
+    Keywords(Rc<Vec<(Value, Value)>>, Parts),
+    /// A module: what an import exports, the text that it wrote, and its size.
+    Exports(Rc<Vec<(Value, Value)>>, SharedText, u32),
     /// A function, by its number.
     Function(usize),
     /// A macro.
@@ -105,10 +105,10 @@ impl Value {
     {
         let Value { node } = self;
         match node {
-            Node::List(items, _plain) => Held::items(items),
-            Node::Map(pairs, _plain) => Held::pairs(pairs),
-            Node::Keywords(pairs, _plain) => Held::pairs(pairs),
-            Node::Exports(pairs, _content) => Held::pairs(pairs),
+            Node::List(items, _parts) => Held::items(items),
+            Node::Map(pairs, _parts) => Held::pairs(pairs),
+            Node::Keywords(pairs, _parts) => Held::pairs(pairs),
+            Node::Exports(pairs, _content, _size) => Held::pairs(pairs),
             Node::Undefined(_silent) => Held::Nothing,
             Node::None => Held::Nothing,
             Node::Boolean(_truth) => Held::Nothing,
@@ -193,9 +193,9 @@ impl Value {
     pub fn list(alloc: Global, items: Vec<Value>) -> Result<Value, Error>
         ensures { OkOrOutOfMemory result (λ v. v ≡ list (vals_of items.items)) }
     {
-        let plain = values_plain(&items);
+        let parts = Parts::of_values(&items)?;
         Ok(Value {
-            node: Node::List(Rc::new(alloc, items)?, plain),
+            node: Node::List(Rc::new(alloc, items)?, parts),
         })
     }
 
@@ -259,10 +259,12 @@ impl Value {
             Node::Boolean(truth) => Node::Boolean(*truth),
             Node::Number(whole) => Node::Number(*whole),
             Node::Text(content, safe) => Node::Text(content.share()?, *safe),
-            Node::List(items, plain) => Node::List(items.clone()?, *plain),
-            Node::Map(pairs, plain) => Node::Map(pairs.clone()?, *plain),
-            Node::Keywords(pairs, plain) => Node::Keywords(pairs.clone()?, *plain),
-            Node::Exports(pairs, content) => Node::Exports(pairs.clone()?, content.share()?),
+            Node::List(items, parts) => Node::List(items.clone()?, *parts),
+            Node::Map(pairs, parts) => Node::Map(pairs.clone()?, *parts),
+            Node::Keywords(pairs, parts) => Node::Keywords(pairs.clone()?, *parts),
+            Node::Exports(pairs, content, size) => {
+                Node::Exports(pairs.clone()?, content.share()?, *size)
+            }
             Node::Function(index) => Node::Function(*index),
             Node::Macro(declared) => Node::Macro(declared.clone()?),
             Node::Loop(state, index) => Node::Loop(*state, *index),
@@ -331,7 +333,7 @@ impl Value {
         ensures ordered { IsMap result.now }
     {
         match &self.node {
-            Node::Map(pairs, _) | Node::Keywords(pairs, _) | Node::Exports(pairs, _) => {
+            Node::Map(pairs, _) | Node::Keywords(pairs, _) | Node::Exports(pairs, _, _) => {
                 pairs.as_slice()
             }
             _ => &[],
@@ -350,7 +352,7 @@ impl Value {
             Node::List(_, _) => 4,
             Node::Map(_, _) => 5,
             Node::Keywords(_, _) => 6,
-            Node::Exports(_, _) => 7,
+            Node::Exports(_, _, _) => 7,
             Node::Function(_) => 8,
             Node::Macro(_) => 9,
             Node::Loop(_, _) => 10,
@@ -363,7 +365,7 @@ impl Value {
         ensures { result.now ≡ bytes_in self.now }
     {
         match &self.node {
-            Node::Text(content, _) | Node::Exports(_, content) => content.as_str(),
+            Node::Text(content, _) | Node::Exports(_, content, _) => content.as_str(),
             _ => "",
         }
     }

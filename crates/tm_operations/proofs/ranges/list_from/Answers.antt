@@ -1,5 +1,5 @@
 use Rattle.std.proofs.lemmas.Grind.{common_steps}
-use Rattle.std.proofs.Common.{◌≡◌, ◌++◌, ◌∷◌, ◌+◌, [], ap, sym, ◌∙◌, arith, length, rules, map as each}
+use Rattle.std.proofs.Common.{◌≡◌, ◌++◌, ◌∷◌, ◌+◌, [], ap, sym, ◌∙◌, refl, arith, length, rules, map as each}
 use Rattle.std.proofs.lemmas.Int.{to_z-of_z}
 use Rattle.std.proofs.lemmas.List.{map-append}
 use Rattle.std.proofs.lemmas.List.FromFn.{map-range_with_len_more}
@@ -7,8 +7,8 @@ use Rattle.std.specs.Int.{w64}
 use Rattle.std.specs.Int.RustNames.{FitsSigned}
 use Rattle.tm_definitions.specs.Ranges.{numbers_from}
 use Rattle.tm_primitives.specs.Places.{step_to}
-use Rattle.tm_operations.proofs.Counted.{length_is, plain_numbers}
-use Rattle.tm_values.specs.Plain.{vals_plain}
+use Rattle.tm_operations.proofs.Counted.{length_is, parts_of_numbers}
+use Rattle.tm_values.specs.Parts.{parts_of_vals}
 use Rattle.tm_values.specs.Val.{number, vals_of}
 use Rattle.tm_operations.proofs.ranges.list_from.Goals as goal
 
@@ -48,7 +48,7 @@ pub invariant_of-result : goal.invariant_of-result
 invariant_of-result c =
     let zs = numbers_from c.args.start c.args.step c.args.count in
     let listed : c.in_ok-new.field-0.value.items ≡ each number zs = grind (arith, common_steps) in
-    sym (plain_numbers zs c.requires.in_range) ∙ ap (λ vs. vals_plain (vals_of vs)) (sym listed)
+    parts_of_numbers c.args.start c.args.step c.args.count _ c.requires.in_range refl (omega arith) ∙ ap (λ vs. parts_of_vals (vals_of vs)) (sym listed)
 
 pub returns-in_err-items : goal.returns-in_err-items
 returns-in_err-items c = search rules fits 100

@@ -1,0 +1,12 @@
+use Rattle.std.proofs.Common.{◌≡◌, ◌+◌, drop}
+use Rattle.tm_values.specs.Plain.{both, vals_plain}
+use Rattle.tm_values.specs.Val.{vals_of, vals_size}
+use Rattle.tm_values.proofs.parts.Parts.of_values.Given as goal
+
+-- what is known so far, with the values that are left
+abbrev pub invariant-loop-value : goal.invariant-loop-value
+invariant-loop-value l =
+    record {
+      plain : both l.plain (vals_plain (vals_of (drop l.value-index l.values))) ≡ vals_plain (vals_of l.values);
+      size : l.size + vals_size (vals_of (drop l.value-index l.values)) ≡ vals_size (vals_of l.values) + 1;
+    }

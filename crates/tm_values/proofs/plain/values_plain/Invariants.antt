@@ -1,8 +1,0 @@
-use Rattle.std.proofs.Common.{◌≡◌, drop}
-use Rattle.tm_values.specs.Plain.{both, vals_plain}
-use Rattle.tm_values.specs.Val.{vals_of}
-use Rattle.tm_values.proofs.plain.values_plain.Given as goal
-
--- what is known so far, with the values that are left
-abbrev pub invariant-loop-value : goal.invariant-loop-value
-invariant-loop-value l = both l.plain (vals_plain (vals_of (drop l.value-index l.values))) ≡ vals_plain (vals_of l.values)

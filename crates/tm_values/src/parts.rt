@@ -1,0 +1,76 @@
+//! What a value keeps of its parts.
+ghost use Rattle.std.specs.Prelude.{◌≡◌, ◌+◌};
+ghost use Rattle.tm_values.specs.Answer.{OkOrOutOfMemory};
+ghost use Rattle.tm_values.specs.Parts.{parts_of_vals, parts_of_pairs};
+ghost use Rattle.tm_values.specs.Val.{val_size, vals_of, pairs_of};
+
+use crate::error::{Error, ErrorKind};
+use crate::plain::{Plain, pair_plain};
+use crate::value::{Node, Value};
+
+/// What a value keeps of its parts.
+#[derive(Clone, Copy)]
+pub struct Parts {
+    /// In which forms none of them is refused.
+    pub plain: Plain,
+    /// The size of the value that has them: one for itself, and for each part its size and one. A value whose size is no
+    /// `u32` isn't made: there is no memory for it.
+    pub size: u32,
+}
+
+impl Parts {
+    /// What is kept of these values, as the items of a list. OutOfMemory where the list would be too large.
+    #[tactic(auto, using(crate::proofs::Plains::both_regroups))]
+    pub(crate) fn of_values(values: &[Value]) -> Result<Parts, Error>
+        ensures { OkOrOutOfMemory result (λ parts. parts ≡ parts_of_vals (vals_of values.now)) }
+    {
+        let mut plain = Plain::in_all_forms();
+        let mut size = 1;
+        for value in values {
+            plain = plain.both(value.plain());
+            size = with_part(size, value)?;
+        }
+        Ok(Parts { plain, size })
+    }
+
+    /// What is kept of these keys and values. OutOfMemory where a map of them would be too large.
+    #[tactic(auto, using(crate::proofs::Plains::both_regroups))]
+    pub(crate) fn of_pairs(pairs: &[(Value, Value)]) -> Result<Parts, Error>
+        ensures { OkOrOutOfMemory result (λ parts. parts ≡ parts_of_pairs (pairs_of pairs.now)) }
+    {
+        let mut plain = Plain::in_all_forms();
+        let mut size = 1;
+        for pair in pairs {
+            plain = plain.both(pair_plain(pair));
+            size = with_part(with_part(size, &pair.0)?, &pair.1)?;
+        }
+        Ok(Parts { plain, size })
+    }
+}
+
+// The size with a further part. OutOfMemory where it is no `u32`.
+fn with_part(size: u32, part: &Value) -> Result<u32, Error>
+    ensures { OkOrOutOfMemory result (λ with. with ≡ size + (val_size part.now + 1)) }
+{
+    let Some(before) = size.checked_add(1) else {
+        return Err(Error::from(ErrorKind::OutOfMemory));
+    };
+    let Some(with) = before.checked_add(part.size()) else {
+        return Err(Error::from(ErrorKind::OutOfMemory));
+    };
+    Ok(with)
+}
+
+impl Value {
+    /// How large it is as an owned tree: one for itself, and for each part its size and one. It is known at once, however
+    /// large the value is.
+    pub(crate) fn size(&self) -> u32
+        ensures { result ≡ val_size self.now }
+    {
+        match &self.node {
+            Node::List(_, parts) | Node::Map(_, parts) | Node::Keywords(_, parts) => parts.size,
+            Node::Exports(_, _, size) => *size,
+            _ => 1,
+        }
+    }
+}
