@@ -32,7 +32,9 @@ pub fn attribute<R: Records>(
 {
     match &value.node {
         Node::Undefined(_) => undefined_member(value, behavior),
-        Node::Map(_, _) | Node::Keywords(_, _) | Node::Exports(_, _, _) => shared(value.member(name)),
+        Node::Map(_, _) | Node::Keywords(_, _) | Node::Exports(_, _, _) => shared(value.member(
+            name,
+        )),
         Node::Macro(declared) => macro_member(alloc, declared, name),
         Node::Loop(state, index) => loop_member(alloc, *state, *index, name, records),
         Node::Namespace(state, index) => match find_namespace(records, *state, *index) {
@@ -60,7 +62,9 @@ pub fn item<R: Records>(
         Node::Undefined(_) => undefined_member(value, behavior),
         Node::Text(content, _) => text_item(alloc, content.as_str(), key),
         Node::List(items, _) => list_item(items.as_slice(), key),
-        Node::Map(_, _) | Node::Keywords(_, _) | Node::Exports(_, _, _) => shared(value.at_key(key)),
+        Node::Map(_, _) | Node::Keywords(_, _) | Node::Exports(_, _, _) => shared(value.at_key(
+            key,
+        )),
         Node::Macro(declared) => match key.as_str() {
             Some(name) => macro_member(alloc, declared, name),
             None => Ok(Value::undefined()),

@@ -7,7 +7,7 @@ use std::io::{self, Write};
 use std::test::Fail;
 use tm_output::{Counted, Limited, NullWriter, Target, TargetFailed, write_text};
 use tm_printing::{Html, Unwritten, check_emission, emit, write_spelled};
-use tm_values::{AutoEscape, Error, NoRecords, Value};
+use tm_values::{AutoEscape, Error, ErrorKind, NoRecords, Value};
 
 /// A writer that takes at most `step` bytes a call until `room` is spent, and then fails, also at a
 /// flush, or takes nothing where it has no error.
@@ -242,9 +242,24 @@ fn deep_values_take_no_deep_stack(rt: HostRuntime) -> Result<(), Fail> {
 
 #[test]
 fn doubled_values_are_checked_at_once(rt: HostRuntime) -> Result<(), Fail> {
-    let value = nested(rt.alloc(), 60, 2)?;
+    let value = nested(rt.alloc(), 30, 2)?;
     assert!(rt; is_cut_off(rt.alloc(), &value, AutoEscape::None));
     assert!(rt; is_cut_off(rt.alloc(), &value, AutoEscape::Html));
     assert!(rt; is_cut_off(rt.alloc(), &value, AutoEscape::Json));
     Ok(())
+}
+
+// Why a number isn't doubled so often, by lists of two; none where it is.
+fn refusal_of_doubled(alloc: Global, levels: usize) -> Option<ErrorKind> {
+    match nested(alloc, levels, 2) {
+        Ok(_value) => None,
+        Err(error) => Some(error.kind()),
+    }
+}
+
+#[test]
+fn too_large_values_find_no_memory(rt: HostRuntime) {
+    assert!(rt; refusal_of_doubled(rt.alloc(), 30) == None);
+    assert!(rt; refusal_of_doubled(rt.alloc(), 31) == Some(ErrorKind::OutOfMemory));
+    assert!(rt; refusal_of_doubled(rt.alloc(), 100) == Some(ErrorKind::OutOfMemory));
 }
