@@ -1,14 +1,25 @@
-//! Tests that hold whichever growth of memory is refused, and of writers that fail, fuel that ends and values of other states. `tools/refusals`
-//! runs them with each growth refused.
+//! Tests that hold whichever growth of memory is refused, and of calls that grow nothing. `tools/refusals` runs them with each growth refused, or
+//! counts what they grow.
 #![tactic(auto)]
 
 #[cfg(test)]
-mod foreign;
+mod calls;
 #[cfg(test)]
-mod fuel;
+mod compiled;
+#[cfg(test)]
+mod ends;
+#[cfg(test)]
+mod no_growth;
+#[cfg(test)]
+mod objects;
+#[cfg(test)]
+mod parts;
 #[cfg(test)]
 mod refusals;
-#[cfg(test)]
 mod rows;
 #[cfg(test)]
-mod writers;
+mod tells;
+#[cfg(test)]
+mod worked;
+
+pub use rows::{last_kind, new_environment, row_of};

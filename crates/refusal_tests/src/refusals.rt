@@ -1,5 +1,6 @@
 //! Calls that grow: each gives what it gives with ample memory, or finds no memory, and gives it when it is made again.
 
+use crate::ends::{End, end_of, holds, refused_or, written_end};
 use crate::rows::{last_kind, new_environment, row_of};
 use std::alloc::Global;
 use std::test::Fail;
@@ -35,78 +36,6 @@ static ROWS: [&str; 22] = [
 const PARTS: &str =
     "{% set a = 1 %}{% macro m(x, y=3) %}[{{ x }}{{ y }}{{ a }}]{% endmacro %}{% if false %}{% block b %}{% for x in [1] %}{{ y.z }}{% endfor %}{% endblock %}{% endif %}{% block c %}{% set w = [1] %}{% include \"i\" %}{{ m(w) }}{% endblock %}";
 
-/// How a call ended.
-#[derive(Clone, Copy, PartialEq, Eq)]
-enum End {
-    /// As with ample memory.
-    Same,
-    /// It found no memory, and what it works on stands as before.
-    Refused,
-    /// In another way.
-    Wrong,
-}
-
-/// Whether a call that is made twice ended as it may where at most one growth is refused.
-fn holds(first: End, second: End) -> bool {
-    match (first, second) {
-        (End::Same, End::Same) | (End::Same, End::Refused) | (End::Refused, End::Same) => true,
-        _ => false,
-    }
-}
-
-fn refused_or(error: &Error, wanted: &str) -> End {
-    if last_kind(error) == ErrorKind::OutOfMemory {
-        return End::Refused;
-    }
-    match wanted.strip_prefix('!') {
-        Some(kind) => if error.kind().name() == kind {
-            End::Same
-        } else {
-            End::Wrong
-        },
-        None => End::Wrong,
-    }
-}
-
-fn end_of(answer: Result<String, Error>, wanted: &str) -> End {
-    match answer {
-        Ok(text) => if text.as_str() == wanted {
-            End::Same
-        } else {
-            End::Wrong
-        },
-        Err(error) => refused_or(&error, wanted),
-    }
-}
-
-/// How a render into a writer ends, whose own growth may be refused.
-fn written_end(answer: Result<(), Error>, writer: &Counted<Vec<u8>>, wanted: &str) -> End {
-    let written = writer.inner().as_slice();
-    match answer {
-        Ok(()) => if written == wanted.as_bytes() && writer.failures() == 0 {
-            End::Same
-        } else {
-            End::Wrong
-        },
-        Err(error) => {
-            if writer.failures() == 1
-                && error.kind() == ErrorKind::WriteFailure
-                && error.cause().is_none()
-                && wanted.as_bytes().starts_with(written)
-            {
-                return End::Refused;
-            }
-            let end = refused_or(&error, wanted);
-            if end == End::Refused
-                && !(wanted.as_bytes().starts_with(written) || wanted.starts_with('!'))
-            {
-                return End::Wrong;
-            }
-            end
-        }
-    }
-}
-
 fn renders<P: Parties>(alloc: Global, template: &TemplateOf<'_, '_, P>, wanted: &str) -> End {
     let mut writer = Counted::new(Vec::new(alloc));
     match template.render_captured_to(&mut StateIds::new(), Value::undefined(), &mut writer) {
@@ -116,7 +45,7 @@ fn renders<P: Parties>(alloc: Global, template: &TemplateOf<'_, '_, P>, wanted: 
 }
 
 /// How a row ends that is compiled and rendered.
-fn row_end<P: Parties>(
+pub(crate) fn row_end<P: Parties>(
     alloc: Global,
     environment: &EnvironmentOf<'static, P>,
     line: &'static str,
@@ -128,8 +57,13 @@ fn row_end<P: Parties>(
     }
 }
 
-fn rows_hold<P: Parties>(alloc: Global, environment: &EnvironmentOf<'static, P>) -> bool {
-    for line in &ROWS {
+/// Whether all these rows end as they say, also where a growth is refused once.
+pub(crate) fn rows_hold<P: Parties>(
+    alloc: Global,
+    environment: &EnvironmentOf<'static, P>,
+    lines: &[&'static str],
+) -> bool {
+    for line in lines {
         let first = row_end(alloc, environment, line);
         if !holds(first, row_end(alloc, environment, line)) {
             return false;
@@ -227,7 +161,7 @@ fn serves<P: Parties>(state: &mut StateOf<'_, P>) -> bool {
 }
 
 /// The environment of the rows; a growth may be refused once.
-fn rows_environment(alloc: Global) -> Result<Environment<'static>, Error> {
+pub(crate) fn rows_environment(alloc: Global) -> Result<Environment<'static>, Error> {
     match new_environment(alloc) {
         Ok(environment) => Ok(environment),
         Err(_refused) => new_environment(alloc),
@@ -244,7 +178,7 @@ fn state_serves<P: Parties>(environment: &EnvironmentOf<'static, P>) -> Result<b
 #[test]
 fn rows_answer_for_memory(rt: HostRuntime) -> Result<(), Fail> {
     let environment = rows_environment(rt.alloc())?;
-    assert!(rt; rows_hold(rt.alloc(), &environment));
+    assert!(rt; rows_hold(rt.alloc(), &environment, &ROWS));
     Ok(())
 }
 

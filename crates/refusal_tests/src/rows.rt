@@ -13,7 +13,7 @@ static OTHERS: [&str; 5] = [
 ];
 
 /// The kind of the innermost cause.
-pub(crate) fn last_kind(error: &Error) -> ErrorKind {
+pub fn last_kind(error: &Error) -> ErrorKind {
     let mut last = error;
     for _ in 0..usize::MAX {
         match last.cause() {
@@ -25,12 +25,12 @@ pub(crate) fn last_kind(error: &Error) -> ErrorKind {
 }
 
 /// A row's source and what it writes.
-pub(crate) fn row_of<'a>(line: &'a str) -> (&'a str, &'a str) {
+pub fn row_of<'a>(line: &'a str) -> (&'a str, &'a str) {
     line.split_once(" => ").unwrap_or((line, ""))
 }
 
 /// An environment of the templates that rows name, and `t`.
-pub(crate) fn new_environment(alloc: Global) -> Result<Environment<'static>, Error> {
+pub fn new_environment(alloc: Global) -> Result<Environment<'static>, Error> {
     let mut environment = Environment::new(alloc)?;
     for other in &OTHERS {
         let (name, source) = other.split_once(' ').unwrap_or((other, ""));

@@ -1,6 +1,7 @@
 //! Fuel that ends at every charge.
 
-use crate::rows::{last_kind, new_environment, row_of};
+use crate::objects::add_objects;
+use refusal_tests::{last_kind, new_environment, row_of};
 use std::alloc::Global;
 use std::test::Fail;
 use template_machine::*;
@@ -19,6 +20,19 @@ static ROWS: [&str; 12] = [
     "{% set x %}a{{ 1 }}{% endset %}{{ x }}{{ dict({\"a\": 1}, b=2) }} => a1{\"a\": 1, \"b\": 2}",
     "{% with a = 1 %}{{ a }}{% if a %}{{ a ~ \"x\" }}{% endif %}{% endwith %} => 11x",
     "{% set ns = namespace(n=0) %}{% for i in range(3) %}{% set ns.n = ns.n + i %}{% endfor %}{{ ns.n }} => 3",
+];
+
+/// Sources that ask for further calls, and that jump out of what they opened.
+static FURTHER_ROWS: [&str; 9] = [
+    "{% macro m() %}M{{ 1 }}{% endmacro %}[{{ by_macro() }}{{ 2|by_macro }}] => [M1M1]",
+    "{% block b %}B{{ 1 }}{% endblock %}[{{ by_block() }}] => B1[B1]",
+    "[{{ 1|same }}{{ by_filter() }}{{ 2|by_filter }}]{{ 1 is same }} => [1]true",
+    "{% block a %}x{{ 1 }}{% endblock %}{{ self.a() ~ \"y\" }} => x1x1y",
+    "{% extends \"base\" %}{% block a %}{{ super() ~ 1 }}{% endblock %} => B:x1",
+    "{% filter same %}a{{ 1 }}{% endfilter %}{% set x|same %}b{% endset %}{{ x }} => a1b",
+    "{% for x in [1,2,3] %}{% if x == 2 %}{% continue %}{% endif %}{% set z %}{{ x }}{% if x == 3 %}{% break %}{% endif %}{% endset %}{{ z }}{% endfor %} => 1",
+    "{% from \"d\" import f as g %}{{ g(1) }}{% include [\"no\",\"i\"] %} => <1>ab1",
+    "{% macro m(x) %}{{ x }}{% if x %}{{ m(x - 1) }}{% endif %}{% endmacro %}{{ m(2) }} => 210",
 ];
 
 /// More fuel than any of the rows takes.
@@ -93,9 +107,10 @@ fn ends_anywhere<P: Parties>(
 fn end_anywhere<P: Parties>(
     alloc: Global,
     environment: &mut EnvironmentOf<'static, P>,
+    lines: &[&'static str],
 ) -> Result<usize, Error> {
     let mut count: usize = 0;
-    for line in &ROWS {
+    for line in lines {
         if ends_anywhere(alloc, environment, line)? {
             count = count.saturating_add(1);
         }
@@ -106,7 +121,7 @@ fn end_anywhere<P: Parties>(
 /// The count of rows; a growth may be refused once.
 fn counted(alloc: Global) -> Result<usize, Error> {
     let mut environment = new_environment(alloc)?;
-    end_anywhere(alloc, &mut environment)
+    end_anywhere(alloc, &mut environment, &ROWS)
 }
 
 #[test]
@@ -116,6 +131,137 @@ fn fuel_ends_anywhere(rt: HostRuntime) -> Result<(), Fail> {
         Err(_refused) => counted(rt.alloc())?,
     };
     assert!(rt; count == ROWS.len(), "{count} rows");
+    Ok(())
+}
+
+#[test]
+fn fuel_ends_further_calls(rt: HostRuntime) -> Result<(), Fail> {
+    let alloc = rt.alloc();
+    let mut environment = new_environment(alloc)?;
+    add_objects(alloc, &mut environment)?;
+    let count = end_anywhere(alloc, &mut environment, &FURTHER_ROWS)?;
+    assert!(rt; count == FURTHER_ROWS.len(), "{count} rows");
+    Ok(())
+}
+
+/// What is asked of the state that its render leaves.
+const PARTS: &str =
+    "{% extends \"base\" %}{% macro m(x) %}<{{ x }}{{ caller }}>{% endmacro %}{% block a %}[{{ super() }}{{ m(2) }}]{% endblock %}";
+
+/// The text of its block `a`.
+const BLOCK: &str = "[x<2>]";
+
+/// The charges of a render, of a block's run after it, and of a macro's call after that, each with those before it.
+#[derive(Clone, Copy)]
+struct Charges {
+    render: u64,
+    block: u64,
+    call: u64,
+}
+
+/// What a state has consumed of its fuel.
+fn consumed<P: Parties>(state: &StateOf<'_, P>) -> u64 {
+    match state.fuel_levels() {
+        Some((consumed, _left)) => consumed,
+        None => 0,
+    }
+}
+
+/// The charges of the calls of the state that `PARTS` leaves, where they give what they have to.
+fn charges_of_calls<P: Parties>(
+    environment: &mut EnvironmentOf<'static, P>,
+) -> Result<Option<Charges>, Error> {
+    environment.set_fuel(Some(AMPLE));
+    let template = environment.template_from_str(PARTS)?;
+    let captured = template.render_captured(&mut StateIds::new(), Value::undefined())?;
+    let (output, mut state) = captured.into_parts();
+    let render = consumed(&state);
+    let is_block = state.render_block("a")?.as_str() == BLOCK;
+    let block = consumed(&state);
+    let is_call = state.call_macro("m", &[Value::number(5)])?.as_str() == "<5>";
+    let call = consumed(&state);
+    if output.as_str() == "B:[x<2>]" && is_block && is_call && render < block && block < call {
+        return Ok(Some(Charges {
+            render,
+            block,
+            call,
+        }));
+    }
+    Ok(None)
+}
+
+/// Whether a state has consumed so much of its fuel, and has the rest.
+fn has_consumed<P: Parties>(state: &StateOf<'_, P>, consumed: u64, fuel: u64) -> bool {
+    match state.fuel_levels() {
+        Some((taken, left)) => taken == consumed && fuel.checked_sub(taken) == Some(left),
+        None => false,
+    }
+}
+
+/// Whether the block is whole where its charges are there, and else a beginning of it is written and all fuel is gone.
+fn block_ends<P: Parties>(
+    alloc: Global,
+    state: &mut StateOf<'_, P>,
+    charges: u64,
+    fuel: u64,
+) -> bool {
+    let mut writer = Counted::new(Vec::new(alloc));
+    let answer = state.render_block_to_write("a", &mut writer);
+    let written = writer.inner().as_slice();
+    match answer {
+        Ok(()) => {
+            fuel >= charges && written == BLOCK.as_bytes() && has_consumed(state, charges, fuel)
+        }
+        Err(error) => {
+            fuel < charges
+                && last_kind(&error) == ErrorKind::OutOfFuel
+                && BLOCK.as_bytes().starts_with(written)
+                && has_consumed(state, fuel, fuel)
+        }
+    }
+}
+
+/// The same of the macro's call, which writes nothing where it ends.
+fn call_ends<P: Parties>(state: &mut StateOf<'_, P>, charges: u64, fuel: u64) -> bool {
+    match state.call_macro("m", &[Value::number(5)]) {
+        Ok(text) => {
+            fuel >= charges && text.as_str() == "<5>" && has_consumed(state, charges, fuel)
+        }
+        Err(error) => {
+            fuel < charges
+                && last_kind(&error) == ErrorKind::OutOfFuel
+                && has_consumed(state, fuel, fuel)
+        }
+    }
+}
+
+/// Whether the calls of a state end for want of fuel just where their charges are more than it has.
+fn calls_end_anywhere<P: Parties>(
+    alloc: Global,
+    environment: &mut EnvironmentOf<'static, P>,
+) -> Result<bool, Error> {
+    let Some(charges) = charges_of_calls(environment)? else {
+        return Ok(false);
+    };
+    for fuel in charges.render..=charges.call {
+        environment.set_fuel(Some(fuel));
+        let template = environment.template_from_str(PARTS)?;
+        let captured = template.render_captured(&mut StateIds::new(), Value::undefined())?;
+        let (_output, mut state) = captured.into_parts();
+        if !has_consumed(&state, charges.render, fuel)
+            || !block_ends(alloc, &mut state, charges.block, fuel)
+            || !call_ends(&mut state, charges.call, fuel)
+        {
+            return Ok(false);
+        }
+    }
+    Ok(true)
+}
+
+#[test]
+fn fuel_ends_calls_of_a_state(rt: HostRuntime) -> Result<(), Fail> {
+    let mut environment = new_environment(rt.alloc())?;
+    assert!(rt; calls_end_anywhere(rt.alloc(), &mut environment)?);
     Ok(())
 }
 
