@@ -345,7 +345,7 @@ fn miss_in<P: Parties>(
 }
 
 /// Adds those that don't in any of the ways.
-fn miss<P: Parties>(
+fn try_rows<P: Parties>(
     environment: &mut EnvironmentOf<'static, P>,
     ids: &mut StateIds,
     lines: &[&'static str],
@@ -413,7 +413,7 @@ fn miss_namespaces<P: Parties>(
     let value = left(environment, &mut ids, "{% set v = namespace(a=1) %}")?;
     let values = [value, Value::namespace(u64::MAX, 0)];
     for found in &values {
-        miss(environment, &mut ids, &NAMESPACE_ROWS, found, misses)?;
+        try_rows(environment, &mut ids, &NAMESPACE_ROWS, found, misses)?;
         miss_expressions(environment, &mut ids, &NAMESPACE_EXPRESSIONS, found, misses)?;
     }
     Ok(())
@@ -427,7 +427,7 @@ fn miss_loops<P: Parties>(
     let value = left(environment, &mut ids, KEPT_LOOP)?;
     let values = [value, Value::loop_record(0, 7)];
     for found in &values {
-        miss(environment, &mut ids, &LOOP_ROWS, found, misses)?;
+        try_rows(environment, &mut ids, &LOOP_ROWS, found, misses)?;
         miss_expressions(environment, &mut ids, &LOOP_EXPRESSIONS, found, misses)?;
     }
     Ok(())
@@ -442,10 +442,10 @@ fn miss_others<P: Parties>(
     let module = left(environment, &mut ids, "{% import \"d\" as v %}")?;
     let lacked = Value::function(30);
     let own = Value::undefined();
-    miss(environment, &mut ids, &DECLARED_ROWS, &declared, misses)?;
-    miss(environment, &mut ids, &MODULE_ROWS, &module, misses)?;
-    miss(environment, &mut ids, &LACKED_ROWS, &lacked, misses)?;
-    miss(environment, &mut ids, &OWN_ROWS, &own, misses)
+    try_rows(environment, &mut ids, &DECLARED_ROWS, &declared, misses)?;
+    try_rows(environment, &mut ids, &MODULE_ROWS, &module, misses)?;
+    try_rows(environment, &mut ids, &LACKED_ROWS, &lacked, misses)?;
+    try_rows(environment, &mut ids, &OWN_ROWS, &own, misses)
 }
 
 /// Adds rows whose state has the same number as that of the macro, and those of a function that isn't there.

@@ -78,7 +78,7 @@ fn formats<P: Parties>(alloc: Global, state: &StateOf<'_, P>) -> Result<bool, Er
 }
 
 /// What a state answers that stays as it is.
-fn asked<P: Parties>(alloc: Global, state: &mut StateOf<'_, P>, of: Asked) -> Result<bool, Error> {
+fn ask<P: Parties>(alloc: Global, state: &mut StateOf<'_, P>, of: Asked) -> Result<bool, Error> {
     let seven = [Value::number(7)];
     match of {
         Asked::Local => Ok(state.lookup("_b")? == Some(Value::number(2))),
@@ -111,7 +111,7 @@ fn stands<P: Parties>(state: &StateOf<'_, P>) -> bool {
 }
 
 fn asked_end<P: Parties>(alloc: Global, state: &mut StateOf<'_, P>, of: Asked) -> End {
-    let end = told(asked(alloc, state, of));
+    let end = told(ask(alloc, state, of));
     if stands(state) { end } else { End::Wrong }
 }
 
