@@ -481,7 +481,7 @@ fn miss_callables<P: Parties>(
 fn values_of_others_are_refused(rt: HostRuntime) -> Result<(), Fail> {
     let alloc = rt.alloc();
     let mut environment = new_environment(alloc)?;
-    let mut misses = Vec::new(alloc);
+    let mut misses: Vec<Miss> = Vec::new(alloc);
     miss_callables(&mut environment, &mut misses)?;
     add_objects(alloc, &mut environment)?;
     miss_namespaces(&mut environment, &mut misses)?;

@@ -30,7 +30,7 @@ static NAMES: [&str; 7] = ["z", "y", "x", "w", "b", "c", "a"];
 
 /// An environment with templates, objects and globals.
 fn new_environment(alloc: Global) -> Result<Environment<'static>, Error> {
-    let mut environment = Environment::new(alloc)?;
+    let mut environment: Environment<'static> = Environment::new(alloc)?;
     environment.add_template("t", "{% set a = 1 %}{% block b %}{% endblock %}x")?;
     environment.add_template("u", "u")?;
     add_seven(alloc, &mut environment)?;
@@ -42,12 +42,16 @@ fn new_environment(alloc: Global) -> Result<Environment<'static>, Error> {
     Ok(environment)
 }
 
+fn has_no_globals<P: Parties>(environment: &EnvironmentOf<'static, P>) -> bool {
+    environment.globals().next().is_none()
+}
+
 /// Calls without an environment's data.
 fn makes_beginnings(alloc: Global) -> Result<bool, Error> {
     mark(alloc, "")?;
     let environment: Environment<'static> = Environment::empty(alloc);
     mark(alloc, "Environment::empty")?;
-    let has_none = environment.globals().next().is_none();
+    let has_none = has_no_globals(&environment);
     mark(alloc, "globals of an empty one")?;
     let first = StateIds::new().next()?;
     mark(alloc, "StateIds::new")?;
