@@ -1,4 +1,4 @@
--- What is left to compare, and how much that is.
+-- What a step of a comparison knows of the order of two values, and how much of them is left to compare.
 use Rattle.std.specs.Prelude.{◌≡◌, ℕ, ◌<◌}
 use Rattle.std.specs.Cmp.Lexicographic.{slice_cmp}
 use Rattle.std.specs.Ordering.{nat_cmp, ordering_then}

@@ -136,7 +136,7 @@ impl<'map> IntoIterator for &'map ValueMap {
 }
 
 impl Value {
-    /// The map of these pairs. Fails by OutOfMemory alone.
+    /// The map of these pairs. Fails by OutOfMemory alone, also if its size is no `u32`.
     pub fn from_map(alloc: Global, entries: ValueMap) -> Result<Value, Error>
         ensures { OkOrOutOfMemory result (λ v. v ≡ map (pairs_of entries)) }
     {
@@ -147,7 +147,7 @@ impl Value {
         })
     }
 
-    /// The keyword map of these pairs. Fails by OutOfMemory alone.
+    /// The keyword map of these pairs. Fails by OutOfMemory alone, also if its size is no `u32`.
     pub fn keywords(alloc: Global, entries: ValueMap) -> Result<Value, Error>
         ensures { OkOrOutOfMemory result (λ v. v ≡ keywords (pairs_of entries)) }
     {
@@ -158,7 +158,8 @@ impl Value {
         })
     }
 
-    /// The module that exports these pairs and wrote this text. Fails by OutOfMemory alone.
+    /// The module that exports these pairs and wrote this text. Fails by OutOfMemory alone, also if its
+    /// size is no `u32`.
     pub fn module(alloc: Global, entries: ValueMap, content: SharedText) -> Result<Value, Error>
         ensures { OkOrOutOfMemory result
             (λ v. v ≡ exports (pairs_of entries) content) }

@@ -189,7 +189,7 @@ impl Value {
         }
     }
 
-    /// The list of these values. Fails by OutOfMemory alone.
+    /// The list of these values. Fails by OutOfMemory alone, also if its size is no `u32`.
     pub fn list(alloc: Global, items: Vec<Value>) -> Result<Value, Error>
         ensures { OkOrOutOfMemory result (λ v. v ≡ list (vals_of items.items)) }
     {
