@@ -126,22 +126,7 @@ pub fn link_of(sign: Sign) -> Option<(u8, Link)>
         Sign::In => (COMPARISON_LEVEL, Link::Comparison(BinaryOperator::In)),
         Sign::And => (AND_LEVEL, Link::And),
         Sign::Or => (OR_LEVEL, Link::Or),
-        Sign::VariableStart
-        | Sign::VariableEnd
-        | Sign::BlockEnd
-        | Sign::CloseRound
-        | Sign::CloseSquare
-        | Sign::OpenCurly
-        | Sign::CloseCurly
-        | Sign::Comma
-        | Sign::Colon
-        | Sign::Assign
-        | Sign::Not
-        | Sign::If
-        | Sign::Else
-        | Sign::True
-        | Sign::False
-        | Sign::None => return None,
+        _ => return None,
     })
 }
 
@@ -152,43 +137,7 @@ pub fn negated_link_of(sign: Sign) -> Option<(u8, Link)>
 {
     Some(match sign {
         Sign::In => (COMPARISON_LEVEL, Link::Comparison(BinaryOperator::NotIn)),
-        Sign::VariableStart
-        | Sign::VariableEnd
-        | Sign::BlockEnd
-        | Sign::OpenRound
-        | Sign::CloseRound
-        | Sign::OpenSquare
-        | Sign::CloseSquare
-        | Sign::OpenCurly
-        | Sign::CloseCurly
-        | Sign::Comma
-        | Sign::Dot
-        | Sign::Colon
-        | Sign::Assign
-        | Sign::Equal
-        | Sign::NotEqual
-        | Sign::Less
-        | Sign::LessOrEqual
-        | Sign::Greater
-        | Sign::GreaterOrEqual
-        | Sign::Plus
-        | Sign::Minus
-        | Sign::Tilde
-        | Sign::Bar
-        | Sign::Star
-        | Sign::Slash
-        | Sign::DoubleSlash
-        | Sign::Percent
-        | Sign::DoubleStar
-        | Sign::And
-        | Sign::Or
-        | Sign::Not
-        | Sign::If
-        | Sign::Else
-        | Sign::Is
-        | Sign::True
-        | Sign::False
-        | Sign::None => return None,
+        _ => return None,
     })
 }
 
@@ -213,42 +162,7 @@ pub fn prefix_of(sign: Sign) -> Option<(u8, UnaryOperator)>
     Some(match sign {
         Sign::Minus => (POWER_LEVEL, UnaryOperator::Negate),
         Sign::Not => (AND_LEVEL, UnaryOperator::Not),
-        Sign::VariableStart
-        | Sign::VariableEnd
-        | Sign::BlockEnd
-        | Sign::OpenRound
-        | Sign::CloseRound
-        | Sign::OpenSquare
-        | Sign::CloseSquare
-        | Sign::OpenCurly
-        | Sign::CloseCurly
-        | Sign::Comma
-        | Sign::Dot
-        | Sign::Colon
-        | Sign::Assign
-        | Sign::Equal
-        | Sign::NotEqual
-        | Sign::Less
-        | Sign::LessOrEqual
-        | Sign::Greater
-        | Sign::GreaterOrEqual
-        | Sign::Plus
-        | Sign::Tilde
-        | Sign::Bar
-        | Sign::Star
-        | Sign::Slash
-        | Sign::DoubleSlash
-        | Sign::Percent
-        | Sign::DoubleStar
-        | Sign::And
-        | Sign::Or
-        | Sign::If
-        | Sign::Else
-        | Sign::In
-        | Sign::Is
-        | Sign::True
-        | Sign::False
-        | Sign::None => return None,
+        _ => return None,
     })
 }
 
@@ -257,44 +171,10 @@ pub fn constant_of(sign: Sign) -> Option<Value>
     ensures { result ≡ tokens.constant_of sign }
 {
     Some(match sign {
-        Sign::True => Value::boolean(true),
         Sign::False => Value::boolean(false),
+        Sign::True => Value::boolean(true),
         Sign::None => Value::none(),
-        Sign::VariableStart
-        | Sign::VariableEnd
-        | Sign::BlockEnd
-        | Sign::OpenRound
-        | Sign::CloseRound
-        | Sign::OpenSquare
-        | Sign::CloseSquare
-        | Sign::OpenCurly
-        | Sign::CloseCurly
-        | Sign::Comma
-        | Sign::Dot
-        | Sign::Colon
-        | Sign::Assign
-        | Sign::Equal
-        | Sign::NotEqual
-        | Sign::Less
-        | Sign::LessOrEqual
-        | Sign::Greater
-        | Sign::GreaterOrEqual
-        | Sign::Plus
-        | Sign::Minus
-        | Sign::Tilde
-        | Sign::Bar
-        | Sign::Star
-        | Sign::Slash
-        | Sign::DoubleSlash
-        | Sign::Percent
-        | Sign::DoubleStar
-        | Sign::And
-        | Sign::Or
-        | Sign::Not
-        | Sign::If
-        | Sign::Else
-        | Sign::In
-        | Sign::Is => return None,
+        _ => return None,
     })
 }
 

@@ -1,8 +1,6 @@
 -- Statements as one thing, the blocks among them, and what a stream runs.
 use Rattle.std.specs.Prelude.{List, [], ◌∷◌, ◌++◌, Bool}
 use mathlib.Core.Former.{Count}
-use Rattle.tm_syntax.specs.declared.tree.Stmt.{EmitRaw, EmitExpr, EmitLoop, EmitBlock, EmitSuper, Break, Continue, Extends, Set, Do}
-use Rattle.tm_syntax.specs.declared.tree.Stmt.{Include, Import, FromImport}
 use Rattle.tm_syntax.specs.declared.tree.Stmt.{Stmt, If', For', Block', CaptureBlock', With', AutoEscape', Macro', CallBlock', Row_of-Stmt}
 use Rattle.tm_syntax.specs.declared.tree.Stmt.{end_of-Stmt as no_statement, more_of-Stmt as statement, Held-Stmt-If-2 as Otherwise}
 use Rattle.tm_syntax.specs.declared.tree.Stmt.{None' as no_else, Some' as otherwise}
@@ -45,19 +43,7 @@ abbrev mutual
   blocks_of (AutoEscape' e _ body) = blocks_in body
   blocks_of (Macro' x ps _ body) = blocks_in body
   blocks_of (CallBlock' e ps _ body) = blocks_in body
-  blocks_of (EmitRaw t) = []
-  blocks_of (EmitExpr e) = []
-  blocks_of (EmitLoop e) = []
-  blocks_of (EmitBlock x) = []
-  blocks_of EmitSuper = []
-  blocks_of Break = []
-  blocks_of Continue = []
-  blocks_of (Extends e) = []
-  blocks_of (Set t e) = []
-  blocks_of (Do e) = []
-  blocks_of (Include e missing) = []
-  blocks_of (Import e t) = []
-  blocks_of (FromImport e xs) = []
+  blocks_of _ = []
 
   pub blocks_in : {n : _} → Row_of-Stmt n → Named FoundBlock
   blocks_in no_statement = []

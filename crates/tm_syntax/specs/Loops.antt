@@ -8,8 +8,6 @@ pub use Rattle.tm_syntax.specs.declared.instruction.LoopPlace.{LoopPlace}
 use Rattle.tm_syntax.specs.declared.tree.Expr.{Expr}
 use Rattle.tm_syntax.specs.declared.tree.AssignmentTarget.{AssignmentTarget}
 use Rattle.tm_syntax.specs.declared.tree.Parameter.{Parameter}
-use Rattle.tm_syntax.specs.declared.tree.Stmt.{EmitRaw, EmitExpr, EmitLoop, EmitBlock, EmitSuper, Break, Continue, Block', Extends, Set, Do}
-use Rattle.tm_syntax.specs.declared.tree.Stmt.{Include, Import, FromImport}
 use Rattle.tm_syntax.specs.declared.tree.Stmt.{Stmt, If', For', CaptureBlock', With', AutoEscape', Macro', CallBlock', Row_of-Stmt}
 use Rattle.tm_syntax.specs.declared.tree.Stmt.{end_of-Stmt as no_statement}
 use Rattle.tm_syntax.specs.declared.tree.Stmt.{more_of-Stmt as statement, Held-Stmt-If-2 as Otherwise, None' as no_else}
@@ -46,20 +44,7 @@ abbrev mutual
   past at (AutoEscape' e _ body) = pasts at body
   past at (Macro' x ps _ body) = pasts (within_macro at) body
   past at (CallBlock' e ps _ body) = pasts (within_macro at) body
-  past at (EmitRaw t) = at
-  past at (EmitExpr e) = at
-  past at (EmitLoop e) = at
-  past at (EmitBlock x) = at
-  past at EmitSuper = at
-  past at Break = at
-  past at Continue = at
-  past at (Block' x required _ body) = at
-  past at (Extends e) = at
-  past at (Set t e) = at
-  past at (Do e) = at
-  past at (Include e missing) = at
-  past at (Import e t) = at
-  past at (FromImport e xs) = at
+  past at _ = at
 
   pub pasts : {n : _} → Numbers → Row_of-Stmt n → Numbers
   pasts at no_statement = at
@@ -93,20 +78,7 @@ abbrev mutual
   loops_of at (AutoEscape' e _ body) = loops_in at body
   loops_of at (Macro' x ps _ body) = loops_in (within_macro at) body
   loops_of at (CallBlock' e ps _ body) = loops_in (within_macro at) body
-  loops_of at (EmitRaw t) = []
-  loops_of at (EmitExpr e) = []
-  loops_of at (EmitLoop e) = []
-  loops_of at (EmitBlock x) = []
-  loops_of at EmitSuper = []
-  loops_of at Break = []
-  loops_of at Continue = []
-  loops_of at (Block' x required _ body) = []
-  loops_of at (Extends e) = []
-  loops_of at (Set t e) = []
-  loops_of at (Do e) = []
-  loops_of at (Include e missing) = []
-  loops_of at (Import e t) = []
-  loops_of at (FromImport e xs) = []
+  loops_of at _ = []
 
   pub loops_in : {n : _} → Numbers → Row_of-Stmt n → List FoundLoop
   loops_in at no_statement = []
@@ -134,20 +106,7 @@ abbrev mutual
       record { parameters = ps; body = body_of body; at = within_macro at } ∷ macros_in (within_macro at) body
   macros_of at (CallBlock' e ps _ body) =
       record { parameters = ps; body = body_of body; at = within_macro at } ∷ macros_in (within_macro at) body
-  macros_of at (EmitRaw t) = []
-  macros_of at (EmitExpr e) = []
-  macros_of at (EmitLoop e) = []
-  macros_of at (EmitBlock x) = []
-  macros_of at EmitSuper = []
-  macros_of at Break = []
-  macros_of at Continue = []
-  macros_of at (Block' x required _ body) = []
-  macros_of at (Extends e) = []
-  macros_of at (Set t e) = []
-  macros_of at (Do e) = []
-  macros_of at (Include e missing) = []
-  macros_of at (Import e t) = []
-  macros_of at (FromImport e xs) = []
+  macros_of at _ = []
 
   pub macros_in : {n : _} → Numbers → Row_of-Stmt n → List FoundMacro
   macros_in at no_statement = []
@@ -171,73 +130,7 @@ stream_macros (expression e) = []
 -- the loop that an instruction begins
 abbrev pub begins : Instruction → Option LoopFlags
 begins (i.PushLoop flags) = Some flags
-begins (i.EmitRaw _) = None
-begins i.Emit = None
-begins (i.Lookup _) = None
-begins (i.LoadConst _) = None
-begins (i.GetAttr _) = None
-begins i.GetItem = None
-begins i.Slice = None
-begins (i.BuildList _) = None
-begins (i.BuildTuple _) = None
-begins (i.BuildMap _) = None
-begins (i.BuildKwargs _) = None
-begins (i.MergeKwargs _) = None
-begins (i.UnpackLists _) = None
-begins i.Eq = None
-begins i.Ne = None
-begins i.Lt = None
-begins i.Lte = None
-begins i.Gt = None
-begins i.Gte = None
-begins i.In = None
-begins (i.CompareAndPreserve _) = None
-begins i.Add = None
-begins i.Sub = None
-begins i.StringConcat = None
-begins i.Mul = None
-begins i.Div = None
-begins i.IntDiv = None
-begins i.Rem = None
-begins i.Pow = None
-begins i.Neg = None
-begins i.Not = None
-begins i.IsUndefined = None
-begins i.Swap = None
-begins i.DupTop = None
-begins i.DiscardTop = None
-begins (i.Jump _) = None
-begins (i.JumpIfFalse _) = None
-begins (i.JumpIfFalseOrPop _) = None
-begins (i.JumpIfTrueOrPop _) = None
-begins (i.CallFunction _ _) = None
-begins (i.CallMethod _ _) = None
-begins (i.CallObject _) = None
-begins (i.ApplyFilter _ _ _) = None
-begins (i.PerformTest _ _ _) = None
-begins (i.CallBlock _) = None
-begins i.FastSuper = None
-begins i.LoadBlocks = None
-begins (i.Include _) = None
-begins i.IncludeModule = None
-begins i.ExportLocals = None
-begins (i.StoreLocal _) = None
-begins (i.Enclose _) = None
-begins i.GetClosure = None
-begins (i.BuildMacro _ _ _) = None
-begins i.Return = None
-begins (i.UnpackList _) = None
-begins (i.SetAttr _) = None
-begins i.PushWith = None
-begins i.PopFrame = None
-begins (i.Iterate _) = None
-begins i.PushDidNotIterate = None
-begins i.PopLoopFrame = None
-begins i.FastRecurse = None
-begins (i.BeginCapture _) = None
-begins i.EndCapture = None
-begins i.PushAutoEscape = None
-begins i.PopAutoEscape = None
+begins _ = None
 
 abbrev pub with_place : Option LoopFlags → ℕ → List LoopPlace → List LoopPlace
 with_place None pc ls = ls
