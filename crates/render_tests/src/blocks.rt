@@ -33,11 +33,11 @@ pub(crate) const BLOCKS: &str = r#"Blocks, and templates that extend others.
 - &base => B:x => ok => name base
 - &mid => B:mx => ok => name base
 - {% extends "base" %}{% set y = 1 %}ignored{% block a %}[{{ super() }}{{ y }}]{% endblock %} => B:[x1] => 13 => name base
-- @fuel 13
+- @paid 13
 - {% extends "base" %}{% set y = 1 %}ignored{% block a %}[{{ super() }}{{ y }}]{% endblock %} => B:[x1] => 13 => fuel 0
-- @fuel 11
+- @paid 11
 - {% extends "base" %}{% set y = 1 %}ignored{% block a %}[{{ super() }}{{ y }}]{% endblock %} => B:[x => OutOfFuel
-- @fuel 9
+- @paid 9
 - {% extends "base" %}{% set y = 1 %}ignored{% block a %}[{{ super() }}{{ y }}]{% endblock %} => B:[ => EvalBlock>OutOfFuel
 - @fuel 10000
 - {% extends "mid" %}{% block a %}c{{ super() }}{% endblock %} => B:cmx => 11 => name base
@@ -54,23 +54,23 @@ pub(crate) const BLOCKS: &str = r#"Blocks, and templates that extend others.
 - {% block a %}{% extends "base2" %}q{% endblock %}! => P! => 5 => name <string>
 - {% macro m() %}{% extends "base2" %}q{% endmacro %}[{{ m() }}] => [] => 10 => name <string>
 - @short 1 {% extends "base2" %}{% extends "base2" %}
-- @fuel 2
+- @paid 2
 - {% extends "base2" %}{% extends "base2" %} =>  => InvalidOperation
 - @short 0 {% extends 1 %}
-- @fuel 1
+- @paid 1
 - {% extends 1 %} =>  => InvalidOperation
 - @short 0 {% extends x %}
-- @fuel 1
+- @paid 1
 - {% extends x %} =>  => InvalidOperation
 - @short 0 {% extends "no" %}
-- @fuel 1
+- @paid 1
 - {% extends "no" %} =>  => TemplateNotFound
 - @short 0 {% set x %}{% extends "no" %}{% endset %}
-- @fuel 1
+- @paid 1
 - {% set x %}{% extends "no" %}{% endset %} =>  => InvalidOperation
 - @template t {% extends "t" %}x
 - @short 2 &t
-- @fuel 3
+- @paid 3
 - &t =>  => InvalidOperation
 - @name t
 - {% extends "t" %}x =>  => InvalidOperation
@@ -79,19 +79,19 @@ pub(crate) const BLOCKS: &str = r#"Blocks, and templates that extend others.
 - {% block a %}x{% endblock %}{{ self.a() }} => xx => 4
 - {{ self.q() }} =>  => UnknownBlock
 - @short 0 {{ super() }}
-- @fuel 1
+- @paid 1
 - {{ super() }} =>  => InvalidOperation
 - @short 1 {% block a %}{{ super() }}{% endblock %}
-- @fuel 2
+- @paid 2
 - {% block a %}{{ super() }}{% endblock %} =>  => InvalidOperation
 - @short 1 {{ super(1) }}
-- @fuel 2
+- @paid 2
 - {{ super(1) }} =>  => InvalidOperation
 - @short 0 {{ super().x }}
-- @fuel 1
+- @paid 1
 - {{ super().x }} =>  => InvalidOperation
 - @short 3 {% block a %}{{ self.a(1) }}{% endblock %}
-- @fuel 4
+- @paid 4
 - {% block a %}{{ self.a(1) }}{% endblock %} =>  => UnknownMethod
 - @fuel 10000
 - &req =>  => InvalidOperation
@@ -117,7 +117,7 @@ pub(crate) const BLOCKS: &str = r#"Blocks, and templates that extend others.
 - {% extends "base" %}{% block a %}{% set s = super() %}[{{ s }}]{% endblock %} => B:[x] => 11
 - @template q {% block a %}2{{ y.z }}{% endblock %}
 - @short 7 {% extends "q" %}{% block a %}1{{ super() }}{% endblock %}
-- @fuel 8
+- @paid 8
 - {% extends "q" %}{% block a %}1{{ super() }}{% endblock %} => 12 => EvalBlock>UndefinedError
 - @fuel 10000
 - @template p {{ "<" }}{% block a %}{% endblock %}
@@ -133,10 +133,10 @@ pub(crate) const BLOCKS: &str = r#"Blocks, and templates that extend others.
 - {{ by_block("a") }}{% block a %}<{% endblock %} => &lt;< => 6
 - @name <string>
 - @short 1 {% extends "base" %}{{ nope() }}
-- @fuel 2
+- @paid 2
 - {% extends "base" %}{{ nope() }} =>  => UnknownFunction
 - @short 3 {% extends "base" %}{% set s = 1 // 0 %}
-- @fuel 4
+- @paid 4
 - {% extends "base" %}{% set s = 1 // 0 %} =>  => InvalidOperation
 - @fuel 10000
 - {% for x in [[1]] recursive %}{% block b %}{{ loop(x) }}{% endblock %}{% endfor %} =>  => InvalidOperation

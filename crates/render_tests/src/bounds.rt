@@ -7,19 +7,19 @@ use template_machine::{EnvironmentOf, Parties};
 
 /// Bounds of fuel, scopes and writers. No fuel is set after them.
 pub(crate) const BOUNDS: &str = r#"Bounds of fuel, scopes and writers.
-- @fuel 4
+- @paid 4
 - Hello {{ w }}! => Hello World! => 4 => fuel 0
 - {{ w }}{{ t }} => Worldtrue => 4
-- @fuel 3
+- @paid 3
 - Hello {{ w }}! => Hello World => OutOfFuel
 - {{ w }}{{ t }} => World => OutOfFuel
-- @fuel 2
+- @paid 2
 - {{ w }}{{ t }} => World => OutOfFuel
-- @fuel 1
+- @paid 1
 - {{ w }}{{ t }} =>  => OutOfFuel
-- @fuel 0
+- @paid 0
 -  =>  => 0
-- @fuel 8
+- @paid 8
 - @room 0
 -  =>  => 0
 - Hello! =>  => WriteFailure
@@ -37,11 +37,11 @@ pub(crate) const BOUNDS: &str = r#"Bounds of fuel, scopes and writers.
 - @limit 1
 - {% block b %}x{{ a }}{% endblock %}y =>  => InvalidOperation
 - @limit 500
-- @fuel 2
+- @paid 2
 - {% block b %}x{{ a }}{% endblock %}y => x => OutOfFuel
-- @fuel 28
+- @paid 28
 - {% for x in [1,2] if x > 1 %}{{ x }}{% endfor %} => 2 => OutOfFuel
-- @fuel 29
+- @paid 29
 - {% for x in [1,2] if x > 1 %}{{ x }}{% endfor %} => 2 => 29
 - @fuel none
 - {% set ns = namespace(v=[]) %}{% for i in range(100000) %}{% set ns.v = [ns.v] %}{% endfor %} =>  => ok

@@ -17,13 +17,13 @@ pub(crate) const INHERITANCE: &str =
 - {% extends "gp" %}{% block a %}{% include "no" ignore missing %}{{ super() }}{% endblock %} => x => 7
 - {% extends "gp" %}{% block a %}{% include ["no", "no2"] ignore missing %}{{ super() }}{% endblock %} => x => 9
 - @short 8 {% extends "gp" %}{% macro m() %}{{ super() }}{% endmacro %}{% block a %}{{ m() }}{% endblock %}
-- @fuel 9
+- @paid 9
 - {% extends "gp" %}{% macro m() %}{{ super() }}{% endmacro %}{% block a %}{{ m() }}{% endblock %} =>  => InvalidOperation
 - @fuel 10000
 - {% extends "gp" %}{% macro m() %}{{ super() ~ "" }}{% endmacro %}{% block a %}b{{ m() }}{% endblock %} => b => InvalidOperation
 - @template gn {% extends "gp" %}{% macro m() %}{{ super() }}{% endmacro %}{% block a %}m{{ m() }}{% endblock %}
 - @short 13 {% extends "gn" %}{% block a %}c{{ super() }}{% endblock %}
-- @fuel 14
+- @paid 14
 - {% extends "gn" %}{% block a %}c{{ super() }}{% endblock %} => cm => EvalBlock>InvalidOperation
 - @fuel 10000
 - {% extends "gp" %}{% macro m() %}M{% endmacro %}{% block a %}{{ m() }}{{ super() }}{% endblock %} => Mx => 12"#;

@@ -3,7 +3,7 @@
 use crate::blocks::{expect, rendered};
 use crate::guards::{ESCAPES, INHERITANCE, SCOPES};
 use crate::party::{Rows, add_objects};
-use crate::settings::expect_table;
+use crate::settings::{expect_table, fuel_for};
 use std::alloc::Global;
 use std::test::Fail;
 use template_machine::*;
@@ -19,9 +19,9 @@ const INCLUDES: &str = r#"Templates that others include.
 - @template child {% extends "base" %}{% block a %}c{% endblock %}
 - @template u {{ x }}
 - @short 4 {% include "i" %}
-- @fuel 5
+- @paid 5
 - {% include "i" %} => ab1 => 5 => fuel 0
-- @fuel 3
+- @paid 3
 - {% include "i" %} => ab => BadInclude>OutOfFuel
 - @fuel 10000
 - @limit 12
@@ -37,10 +37,10 @@ const INCLUDES: &str = r#"Templates that others include.
 - {% include ["no", "i"] %} => ab1 => 7
 - {% include {"i": 1} %} => ab1 => 7
 - @short 1 {% include "no" %}
-- @fuel 2
+- @paid 2
 - {% include "no" %} =>  => TemplateNotFound
 - @short 3 {% include ["no", "no2"] %}
-- @fuel 4
+- @paid 4
 - {% include ["no", "no2"] %} =>  => TemplateNotFound
 - @fuel 10000
 - {% include "no" ignore missing %} =>  => 2
@@ -49,20 +49,20 @@ const INCLUDES: &str = r#"Templates that others include.
 - {% include [] ignore missing %} =>  => 2
 - {% include {} %} =>  => 2
 - @short 1 {% include 1 %}
-- @fuel 2
+- @paid 2
 - {% include 1 %} =>  => InvalidOperation
 - {% include x %} =>  => InvalidOperation
 - @short 1 {% include x %}
 - @short 1 {% include 1 ignore missing %}
-- @fuel 2
+- @paid 2
 - {% include 1 ignore missing %} =>  => InvalidOperation
 - {% include x ignore missing %} =>  => InvalidOperation
 - @short 1 {% include x ignore missing %}
 - @short 3 {% include ["no", 1] %}
-- @fuel 4
+- @paid 4
 - {% include ["no", 1] %} =>  => InvalidOperation
 - @short 3 {% include ["no", 1] ignore missing %}
-- @fuel 4
+- @paid 4
 - {% include ["no", 1] ignore missing %} =>  => InvalidOperation
 - @fuel 10000
 - {% include none %} =>  => InvalidOperation
@@ -81,10 +81,10 @@ const INCLUDES: &str = r#"Templates that others include.
 - {% include [x] ignore missing %} =>  => InvalidOperation
 - @undefined lenient
 - @short 4 {% include "bad" %}
-- @fuel 5
+- @paid 5
 - {% include "bad" %} => a => BadInclude>UndefinedError
 - @short 4 {% include "bad" ignore missing %}
-- @fuel 5
+- @paid 5
 - {% include "bad" ignore missing %} => a => BadInclude>UndefinedError
 - @fuel 10000
 - {% include "i2" %}{{ q }} =>  => 6 => exports
@@ -110,14 +110,14 @@ const INCLUDES: &str = r#"Templates that others include.
 - @template b2 B{% include "k" %}
 - @template k {% extends "b2" %}
 - @short 4 {% extends "b2" %}
-- @fuel 5
+- @paid 5
 - {% extends "b2" %} => B => BadInclude>InvalidOperation
 - @template s {{ super() }}
 - @template l {{ loop([]) }}
 - @fuel 10000
 - {% block a %}{% include "s" %}{% endblock %} =>  => BadInclude>InvalidOperation
 - @short 7 {% for x in [1] recursive %}{% include "l" %}{% endfor %}
-- @fuel 8
+- @paid 8
 - {% for x in [1] recursive %}{% include "l" %}{% endfor %} =>  => BadInclude>InvalidOperation
 - @fuel 10000
 - @template t {% if l %}<{{ l([5]) }}>{% else %}{% for x in [1] recursive %}({{ x }}){% if x == 1 %}{% set l = loop %}{% include "t" %}{% endif %}{% endfor %}{% endif %}
@@ -193,7 +193,7 @@ const IMPORTS: &str = r#"Templates that others import.
 - @name <string>
 - {% import "f" as m %}{% for k in m %}{{ k }} {% endfor %}{{ m == m }}{{ "q" in m }}{{ m["q"] }} => f q truetrue2 => 39
 - @short 3 {% import "e" as m %}
-- @fuel 4
+- @paid 4
 - {% import "e" as m %} =>  => 4
 - @fuel 10000
 - @limit 12
@@ -211,12 +211,12 @@ const IMPORTS: &str = r#"Templates that others import.
 - @template d {% set q = 1 %}{% block a %}{{ x.y }}{% endblock %}
 - {% from "d" import q %}[{{ q }}] => [1] => 12
 - @short 6 {% import "d" as m %}
-- @fuel 7
+- @paid 7
 - {% import "d" as m %} =>  => BadInclude>UndefinedError
 - @fuel 10000
 - {% import ["no","f"] as m %}{{ m.q }} => 2 => 18
 - @short 13 {% import "f" as n.m %}
-- @fuel 14
+- @paid 14
 - {% import "f" as n.m %} =>  => InvalidOperation
 - @fuel 10000
 - {% set n = namespace() %}{% import "f" as n.m %}{{ n.m.q }} => 2 => 20
@@ -390,7 +390,7 @@ fn expect_chain<P: Parties>(
     expect(ends(alloc, environment, "c10", 9), "10 includes")?;
     environment.set_recursion_limit(500);
     environment.add_template("t", "{% include 't' %}")?;
-    environment.set_fuel(Some(92));
+    environment.set_fuel(Some(fuel_for(92)));
     expect(
         ends(alloc, environment, "t", 45),
         "one that includes itself",

@@ -7,7 +7,7 @@ use template_machine::*;
 pub(crate) const MACROS: &str = r#"Macros and call tags.
 - @undefined-names
 - @short 6 {% macro m() %}x{% endmacro %}{{ m() }}
-- @fuel 7
+- @paid 7
 - {% macro m() %}x{% endmacro %}{{ m() }} => x => 7 => fuel 0
 - @fuel 10000
 - @limit 7
@@ -29,7 +29,7 @@ pub(crate) const MACROS: &str = r#"Macros and call tags.
 - {% macro m(a) %}{% if a %}{% set z = a %}{% endif %}{{ z }}{% endmacro %}[{{ m(1) }}][{{ m() }}] => [1][] => 24
 - {% macro m(caller) %}{{ caller }}{% endmacro %}{{ m(caller=1) }} => 1 => 12
 - @short 5 {% macro m() %}{{ caller() }}{% endmacro %}{{ m() }}
-- @fuel 6
+- @paid 6
 - {% macro m() %}{{ caller() }}{% endmacro %}{{ m() }} =>  => InvalidOperation
 - @fuel 10000
 - {% macro m() %}[{{ caller(2) }}]{% endmacro %}{% call(n) m() %}{{ n + 1 }}{% endcall %} => [3] => 21
@@ -43,7 +43,7 @@ pub(crate) const MACROS: &str = r#"Macros and call tags.
 - {% macro n(a, b) %}<{{ a }}{{ b }}{% set a = 9 %}{{ a }}>{% endmacro %}{% macro m(a, b) %}{{ a }}{{ b }}{{ n(b, a) }}{{ a }}{{ b }}{% endmacro %}{{ m(1, 2) }} => 12<219>12 => 39
 - {% macro o() %}{% macro i() %}{{ z }}{% endmacro %}{% set z = 5 %}{{ i() }}{% endmacro %}{{ o() }} => 5 => 18
 - @short 88 {% macro m() %}{{ m() }}{% endmacro %}{{ m() }}
-- @fuel 89
+- @paid 89
 - {% macro m() %}{{ m() }}{% endmacro %}{{ m() }} =>  => InvalidOperation
 - @fuel 10000
 - a{% macro m(n) %}{% set k = n %}{% if n %}{{ m(n - 1) }}{% endif %}{% if k % 20 == 0 %}{{ k }} {% endif %}{% endmacro %}{{ m(82) }}b => a0 20 40 60 80 b => ok
@@ -53,20 +53,20 @@ pub(crate) const MACROS: &str = r#"Macros and call tags.
 - {% macro m() %}x{% endmacro %}{{ m.name() }} =>  => InvalidOperation
 - {% macro m() %}x{% endmacro %}{{ m.zz() }} =>  => UnknownMethod
 - @short 5 {% call m() %}{% endcall %}
-- @fuel 6
+- @paid 6
 - {% call m() %}{% endcall %} =>  => UnknownFunction
 - @fuel 10000
 - {% macro m() %}{% endmacro %}{% call m() %}x{% endcall %} =>  => TooManyArguments
 - {% call(a) dict(b=1) %}{{ a }}{% endcall %} => {"b": 1, "caller": <macro caller>} => 9
 - @short 9 a{% macro m() %}b{{ y.z }}{% endmacro %}{{ m() }}
-- @fuel 10
+- @paid 10
 - a{% macro m() %}b{{ y.z }}{% endmacro %}{{ m() }} => a => UndefinedError
 - @fuel 10000
 - {% for x in [7] recursive %}{{ x }}{% macro m(a) %}{{ "" ~ loop(a) }}{% endmacro %}{% if x == 7 %}{{ m([8]) }}{% endif %}{% endfor %} => 78 => 42
 - {% for x in [1,2] %}{% macro m() %}{{ loop.index }}{% endmacro %}{{ m() }}{% endfor %} => 12 => 30
 - @undefined strict
 - @short 7 {% macro m(a) %}{{ a }}{% endmacro %}{{ m() }}
-- @fuel 8
+- @paid 8
 - {% macro m(a) %}{{ a }}{% endmacro %}{{ m() }} =>  => UndefinedError
 - @fuel 10000
 - @undefined lenient

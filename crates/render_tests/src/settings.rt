@@ -74,8 +74,13 @@ fn is_refused<'source, P: Parties>(
     }
 }
 
-/// Whether a source, or the template that is kept after `&`, runs out of each fuel up to the number
-/// before it. That fuel is set after it.
+/// The fuel that pays for `charges` charges and no more.
+pub(crate) fn fuel_for(charges: u64) -> u64 {
+    charges
+}
+
+/// Whether a source, or the template that is kept after `&`, runs out of fuel if each number of charges
+/// up to the number before it is paid. The fuel for the last of them is set after it.
 fn is_short<'source, P: Parties>(
     alloc: Global,
     environment: &mut EnvironmentOf<'source, P>,
@@ -83,8 +88,8 @@ fn is_short<'source, P: Parties>(
 ) -> bool {
     let (most, source) = rest.split_once(' ').unwrap_or(("0", rest));
     let most: u64 = most.parse().unwrap_or(0);
-    for fuel in 0..=most {
-        environment.set_fuel(Some(fuel));
+    for charges in 0..=most {
+        environment.set_fuel(Some(fuel_for(charges)));
         if !runs_out(alloc, environment, source) {
             return false;
         }
@@ -118,6 +123,7 @@ fn runs_out<'source, P: Parties>(
 fn set<P: Parties>(environment: &mut EnvironmentOf<'_, P>, word: &str, rest: &str) -> bool {
     match word {
         "fuel" => environment.set_fuel(rest.parse().ok()),
+        "paid" => environment.set_fuel(Some(fuel_for(rest.parse().unwrap_or(0)))),
         "limit" => environment.set_recursion_limit(rest.parse().unwrap_or(0)),
         "undefined" => environment.set_undefined_behavior(behavior(rest)),
         "remove" => environment.remove_global(rest),
@@ -402,7 +408,7 @@ ${ 2 }
  => a
  b2
  => ok
-- @fuel 7
+- @paid 7
 - @limit 40
 - @set 7 40 strict keeps
 - @limit 501

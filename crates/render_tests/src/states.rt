@@ -25,7 +25,7 @@ const SERVED: &str = r#"What states serve.
 - ?{% macro m(a, b=2) %}{{ a }}{{ b }}{% endmacro %}{% macro bad(p) %}{% set q = 1 %}{% with r = 2 %}{% autoescape "html" %}{{ x.y }}{% endautoescape %}{% endwith %}{% endmacro %} => <string> => bad m => call m 1 -> 12; known bad dict m namespace range; call no ! UnknownFunction; known bad dict m namespace range; call bad ! UndefinedError; known bad dict m namespace range; keep 3 -> nothing; call bad ! UndefinedError; kept -> 3; call m 1 -> 12; known bad dict m namespace range
 - ?{% macro m(a) %}{% if a %}{% set z = a %}{{ x.y }}{% endif %}[{{ z }}]{% endmacro %} => <string> => m => call m 1 ! UndefinedError; call m 0 -> []; call m 2 ! UndefinedError; call m -> []; known dict m namespace range
 - ?{% macro m(n) %}{% set k = n %}{% if n %}{{ m(n - 1) }}{% endif %}{{ k }}{% endmacro %} => <string> => m => call m 3 -> 0123; call m 200 ! InvalidOperation; call m 3 -> 0123; known dict m namespace range
-- @fuel 2
+- @paid 2
 - {% block b %}x{% endblock %} => x => 2 => fuel 0
 - ?{% block b %}x{% endblock %} => <string> =>  => block b ! OutOfFuel; known dict namespace range; fuel 0
 - @fuel none

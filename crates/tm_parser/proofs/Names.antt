@@ -1,7 +1,7 @@
 -- The names of the blocks of statements.
 use Rattle.std.proofs.Common.{◌≡◌, ℕ, ◌+◌, ◌<◌, ◌≤◌, Bool, List, [], ◌∷◌, ◌++◌, length, drop, Option, Some, None}
 use Rattle.std.proofs.Common.{refl, sym, ap, ◌∙◌, arith, append_assoc, drop-cons}
-use Rattle.std.proofs.lemmas.List.{append-nil, drop_all}
+use Rattle.std.proofs.lemmas.List.{append-nil, drop_all, map-append}
 use Rattle.std.specs.Prelude.{get_or}
 use denote.Hole.Carrier.{hidden}
 use Rattle.tm_syntax.specs.declared.tree.Expr.{Expr}
@@ -11,7 +11,13 @@ use Rattle.tm_syntax.specs.declared.tree.Stmt.TheVariants as stmts
 use Rattle.tm_syntax.specs.declared.tree.ForLoop.{ForLoop}
 use Rattle.tm_syntax.specs.declared.tree.Macro.{Macro}
 use Rattle.tm_syntax.specs.declared.tree.CallBlock.{CallBlock}
-use Rattle.tm_parser.specs.Template.{names_of, block_names}
+use Rattle.tm_syntax.specs.Blocks.{blocks_of, blocks_in}
+use Rattle.tm_syntax.specs.Named.{Named}
+use Rattle.tm_parser.specs.Template.{names, names_of, block_names}
+
+-- the names of two lists in a row
+names_append : {A : Type 0} (before after : Named A) → names (before ++ after) ≡ names before ++ names after
+names_append before after = map-append _ before after
 
 -- a list of the program is a row of children
 pub names-nil : block_names [] ≡ []
@@ -20,15 +26,15 @@ names-nil = refl
 
 pub names-cons : (s : Stmt) (ss : List Stmt) → block_names (s ∷ ss) ≡ names_of s ++ block_names ss
 unfolding hidden row shape-the_row-Stmt-0
-names-cons s ss = refl
+names-cons s ss = names_append (blocks_of s) (blocks_in (row ss))
 
 pub names_of_if : (x : Expr) (body : List Stmt) → names_of (stmts.If x body None) ≡ block_names body
 unfolding hidden row shape-the_row-Stmt-0
-names_of_if x body = append-nil _
+names_of_if x body = ap names (append-nil _)
 
 pub names_of_if_else : (x : Expr) (body other : List Stmt) → names_of (stmts.If x body (Some other)) ≡ block_names body ++ block_names other
 unfolding hidden row shape-the_row-Stmt-0
-names_of_if_else x body other = refl
+names_of_if_else x body other = names_append (blocks_in (row body)) (blocks_in (row other))
 
 pub names_after : Option (List Stmt) → List (List ℕ)
 names_after None = []
@@ -37,16 +43,16 @@ names_after (Some other) = block_names other
 for_either : (l : ForLoop) (other : Option (List Stmt)) → names_of (stmts.For (record l { other = other })) ≡ block_names l.body ++
     names_after other
 unfolding hidden row shape-the_row-Stmt-0 names_after
-for_either l None = refl
-for_either l (Some other) = refl
+for_either l None = names_append (blocks_in (row l.body)) []
+for_either l (Some other) = names_append (blocks_in (row l.body)) (blocks_in (row other))
 
 pub names_of_for : (l : ForLoop) → names_of (stmts.For l) ≡ block_names l.body ++ names_after l.other
 names_of_for l = for_either l l.other
 
 pub names_of_block : (name : List ℕ) (required : Bool) (body : List Stmt) →
-    names_of (stmts.Block name required body) ≡ name ∷ block_names body
+    names_of (stmts.Block name required body) ≡ block_names body ++ name ∷ []
 unfolding hidden row shape-the_row-Stmt-0
-names_of_block name required body = refl
+names_of_block name required body = names_append (blocks_in (row body)) _
 
 pub names_of_macro : (m : Macro) → names_of (stmts.Macro m) ≡ block_names m.body
 unfolding hidden row shape-the_row-Stmt-0

@@ -59,31 +59,26 @@ pub record Inner : Type 1 where
   -- the parameters of a macro or of a call's body after their opening bracket, and their end
   pub parameters : Rule (List Parameter)
 
--- Each tag that begins a statement.
-abbrev pub start_of : Tag → Option Start
-start_of tags.If = Some starts.If
-start_of tags.For = Some starts.For
-start_of tags.Break = Some starts.Break
-start_of tags.Continue = Some starts.Continue
-start_of tags.Block = Some starts.Block
-start_of tags.Extends = Some starts.Extends
-start_of tags.Set = Some starts.Set
-start_of tags.Filter = Some starts.Filter
-start_of tags.With = Some starts.With
-start_of tags.Do = Some starts.Do
-start_of tags.Autoescape = Some starts.AutoEscape
-start_of tags.Macro = Some starts.Macro
-start_of tags.Call = Some starts.Call
-start_of tags.Include = Some starts.Include
-start_of tags.Import = Some starts.Import
-start_of tags.From = Some starts.From
-start_of _ = None
+-- Whether a tag begins a statement. The others continue one or end it.
+abbrev pub begins_statement : Tag → Bool
+begins_statement tags.Elif = false
+begins_statement tags.Else = false
+begins_statement tags.Endif = false
+begins_statement tags.Endfor = false
+begins_statement tags.Endblock = false
+begins_statement tags.Endset = false
+begins_statement tags.Endfilter = false
+begins_statement tags.Endwith = false
+begins_statement tags.Endautoescape = false
+begins_statement tags.Endmacro = false
+begins_statement tags.Endcall = false
+begins_statement _ = true
 
 -- what a statement begins with
 abbrev pub a_start : Token → Option Start
 a_start (tokens.Raw text) = Some (starts.Raw text)
 a_start (tokens.Sign sign.VariableStart) = Some starts.Emit
-a_start (tokens.Tag t) = start_of t
+a_start (tokens.Tag t) = if begins_statement t then Some (starts.Tag t) else None
 a_start _ = None
 
 abbrev pub block_end : Rule (Unit {0})
@@ -507,26 +502,31 @@ from_tag i = do
   xs ← imports
   pure (stmts.FromImport template xs)
 
--- what stands after the start of a statement
+-- the rest of a statement after its tag; a tag that begins none has no rest
+abbrev pub tag_statement : Inside → Inner → Bool → Tag → Rule Stmt
+tag_statement i t looping tags.If = if_tag i t looping
+tag_statement i t looping tags.For = for_tag i t looping
+tag_statement i t looping tags.Break = jump looping stmts.Break
+tag_statement i t looping tags.Continue = jump looping stmts.Continue
+tag_statement i t looping tags.Block = block_tag t
+tag_statement i t looping tags.Extends = extends_tag i
+tag_statement i t looping tags.Set = set_tag i t looping
+tag_statement i t looping tags.Filter = filter_tag i t looping
+tag_statement i t looping tags.With = with_tag i t looping
+tag_statement i t looping tags.Do = do_tag i
+tag_statement i t looping tags.Autoescape = autoescape_tag i t looping
+tag_statement i t looping tags.Macro = macro_tag t
+tag_statement i t looping tags.Call = call_tag i t
+tag_statement i t looping tags.Include = include_tag i
+tag_statement i t looping tags.Import = import_tag i
+tag_statement i t looping tags.From = from_tag i
+tag_statement i t looping _ = nothing
+
+-- the rest of a statement after its start
 abbrev pub statement : Inside → Inner → Bool → Start → Rule Stmt
 statement i t looping (starts.Raw text) = pure (stmts.EmitRaw text)
 statement i t looping starts.Emit = emission i
-statement i t looping starts.If = if_tag i t looping
-statement i t looping starts.For = for_tag i t looping
-statement i t looping starts.Break = jump looping stmts.Break
-statement i t looping starts.Continue = jump looping stmts.Continue
-statement i t looping starts.Block = block_tag t
-statement i t looping starts.Extends = extends_tag i
-statement i t looping starts.Set = set_tag i t looping
-statement i t looping starts.Filter = filter_tag i t looping
-statement i t looping starts.With = with_tag i t looping
-statement i t looping starts.Do = do_tag i
-statement i t looping starts.AutoEscape = autoescape_tag i t looping
-statement i t looping starts.Macro = macro_tag t
-statement i t looping starts.Call = call_tag i t
-statement i t looping starts.Include = include_tag i
-statement i t looping starts.Import = import_tag i
-statement i t looping starts.From = from_tag i
+statement i t looping (starts.Tag g) = tag_statement i t looping g
 
 -- statements after these ones, as long as one begins
 abbrev pub more_statements : Inside → Inner → Bool → List Stmt → Rule (List Stmt)

@@ -1,12 +1,9 @@
 -- Which tokens spell which tree.
-use Rattle.std.specs.Prelude.{ℕ, false, List, [], ◌∷◌, ◌++◌, IsTrue}
+use Rattle.std.specs.Prelude.{ℕ, false, List, [], map, IsTrue}
 use Rattle.tm_syntax.specs.declared.token.Token.{Token}
-use Rattle.tm_syntax.specs.declared.tree.Stmt.{Stmt, EmitRaw, EmitExpr, EmitLoop, EmitBlock, EmitSuper, If', For', Break, Continue, Block'}
-use Rattle.tm_syntax.specs.declared.tree.Stmt.{Extends, Set, CaptureBlock', With', Do, AutoEscape', Macro', CallBlock', Row_of-Stmt}
-use Rattle.tm_syntax.specs.declared.tree.Stmt.{Include, Import, FromImport}
-use Rattle.tm_syntax.specs.declared.tree.Stmt.{end_of-Stmt as no_statement}
-use Rattle.tm_syntax.specs.declared.tree.Stmt.{more_of-Stmt as statement, Held-Stmt-If-2 as Otherwise, None' as no_else}
-use Rattle.tm_syntax.specs.declared.tree.Stmt.{Some' as otherwise}
+use Rattle.tm_syntax.specs.Blocks.{blocks_of, blocks_in}
+use Rattle.tm_syntax.specs.Named.{Named}
+use Rattle.tm_syntax.specs.declared.tree.Stmt.{Stmt}
 use Rattle.tm_syntax.specs.declared.tree.Stmt.TheBlock.{hidden-the_row-Stmt-0 as row}
 use Rattle.tm_syntax.specs.declared.tree.Tree.{Tree}
 use Rattle.tm_syntax.specs.declared.tree.Tree.TheVariants as trees
@@ -14,41 +11,15 @@ use Rattle.tm_parser.specs.Distinct.{are_distinct}
 use Rattle.tm_parser.specs.Grammar.{expr, inside}
 use Rattle.tm_parser.specs.Statements.{body, inner}
 
--- the names of all blocks, in the order of the source
-abbrev mutual
-  pub names_of : Stmt → List (List ℕ)
-  names_of (EmitRaw text) = []
-  names_of (EmitExpr x) = []
-  names_of (EmitLoop x) = []
-  names_of (EmitBlock name) = []
-  names_of EmitSuper = []
-  names_of (If' condition _ body other) = names_in body ++ names_in_otherwise other
-  names_of (For' to over condition recursive _ body other) = names_in body ++ names_in_otherwise other
-  names_of Break = []
-  names_of Continue = []
-  names_of (Block' name required _ body) = name ∷ names_in body
-  names_of (Extends x) = []
-  names_of (Set to x) = []
-  names_of (CaptureBlock' becomes filters _ body) = names_in body
-  names_of (With' given _ body) = names_in body
-  names_of (Do x) = []
-  names_of (AutoEscape' x _ body) = names_in body
-  names_of (Macro' name parameters _ body) = names_in body
-  names_of (CallBlock' call parameters _ body) = names_in body
-  names_of (Include x missing) = []
-  names_of (Import x to) = []
-  names_of (FromImport x imports) = []
+abbrev pub names : {A : Type 0} → Named A → List (List ℕ)
+names pairs = map (λ pair. pair.0) pairs
 
-  pub names_in : {n : _} → Row_of-Stmt n → List (List ℕ)
-  names_in no_statement = []
-  names_in (statement s ss) = names_of s ++ names_in ss
-
-  pub names_in_otherwise : Otherwise → List (List ℕ)
-  names_in_otherwise no_else = []
-  names_in_otherwise (otherwise _ body) = names_in body
+-- the names of the blocks in a statement, each after those of the blocks inside it
+abbrev pub names_of : Stmt → List (List ℕ)
+names_of s = names (blocks_of s)
 
 abbrev pub block_names : List Stmt → List (List ℕ)
-block_names statements = names_in (row statements)
+block_names statements = names (blocks_in (row statements))
 
 -- how many brackets, prefixes, else parts and tags may be open at once
 abbrev pub nestings : ℕ

@@ -37,19 +37,6 @@ fn add_names_of<'t>(names: &mut Vec<&'t str>, statement: &'t Stmt) -> Result<(),
         (texts names.new.items ≡ texts names.old.items ++ names_of statement.now) }
 {
     match statement {
-        Stmt::EmitRaw(_)
-        | Stmt::EmitExpr(_)
-        | Stmt::EmitLoop(_)
-        | Stmt::EmitBlock(_)
-        | Stmt::EmitSuper
-        | Stmt::Break
-        | Stmt::Continue
-        | Stmt::Extends(_)
-        | Stmt::Set(_, _)
-        | Stmt::Do(_)
-        | Stmt::Include(_, _)
-        | Stmt::Import(_, _)
-        | Stmt::FromImport(_, _) => Ok(()),
         Stmt::If(_, body, None) => add_names(names, body.as_slice()),
         Stmt::If(_, body, Some(other)) => {
             add_names(names, body.as_slice())?;
@@ -63,13 +50,15 @@ fn add_names_of<'t>(names: &mut Vec<&'t str>, statement: &'t Stmt) -> Result<(),
             }
         }
         Stmt::Block(name, _, body) => {
+            add_names(names, body.as_slice())?;
             names.push(name.as_str())?;
-            add_names(names, body.as_slice())
+            Ok(())
         }
         Stmt::CaptureBlock(_, _, body) => add_names(names, body.as_slice()),
         Stmt::With(_, body) => add_names(names, body.as_slice()),
         Stmt::AutoEscape(_, body) => add_names(names, body.as_slice()),
         Stmt::Macro(declared) => add_names(names, declared.body.as_slice()),
         Stmt::CallBlock(called) => add_names(names, called.body.as_slice()),
+        _ => Ok(()),
     }
 }

@@ -15,7 +15,7 @@ ghost use Rattle.tm_syntax.specs.declared.token.Sign.TheVariants as sign;
 
 use crate::lists::boxed;
 use crate::tables::{
-    Link, POSTFIX_LEVEL, Start, constant_of, link_of, negated_link_of, prefix_of, start_of,
+    Link, POSTFIX_LEVEL, Start, begins_statement, constant_of, link_of, negated_link_of, prefix_of,
     target_link, test_word,
 };
 use std::alloc::Global;
@@ -434,10 +434,7 @@ impl<'t> Cursor<'t> {
         let start = match self.rest {
             [Token::Raw(text), ..] => Start::Raw(text.share()?),
             [Token::Sign(Sign::VariableStart), ..] => Start::Emit,
-            [Token::Tag(tag), ..] => match start_of(*tag) {
-                Some(start) => start,
-                None => return Ok(None),
-            },
+            [Token::Tag(tag), ..] if begins_statement(*tag) => Start::Tag(*tag),
             _ => return Ok(None),
         };
         self.rest = &self.rest[1..];

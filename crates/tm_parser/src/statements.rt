@@ -3,7 +3,7 @@ ghost use Rattle.tm_parser.specs.Parses.{Adds, Parses};
 ghost use Rattle.tm_parser.specs.Grammar.{inside};
 ghost use Rattle.tm_parser.specs.Statements.{autoescape_tag, block_end, body, body_after, captured, do_tag, elif_tag};
 ghost use Rattle.tm_parser.specs.Statements.{else_or_end, else_tag, emission, ended_body, extends_tag, filter_tag, for_body, for_tag, if_tag, inner, jump, rest, set_block, set_tag};
-ghost use Rattle.tm_parser.specs.Statements.{set_value, statement, with_tag};
+ghost use Rattle.tm_parser.specs.Statements.{set_value, statement, tag_statement, with_tag};
 ghost use Rattle.tm_grammar.specs.Combinators.{one_more, provided};
 ghost use Rattle.tm_syntax.specs.declared.tree.Stmt.TheVariants.{Break, Continue};
 
@@ -105,7 +105,7 @@ impl Cursor<'_> {
         match start {
             Start::Raw(text) => add_one(body, Stmt::EmitRaw(text)),
             Start::Emit => self.emission(alloc, depth, body),
-            start => self.other_statement(alloc, depth, looping, start, body),
+            Start::Tag(tag) => self.tag_statement(alloc, depth, looping, tag, body),
         }
     }
 
@@ -121,54 +121,39 @@ impl Cursor<'_> {
         add_emission(body, value)
     }
 
-    /// The same; a call of its own, since the others begin here.
-    #[inline(never)]
-    fn late_emission(
-        &mut self,
-        alloc: Global,
-        depth: u8,
-        body: &mut Items<Stmt>,
-    ) -> Result<(), Error>
-        ensures { Adds result body.new self.new
-            ((one_more (emission (inside depth)) body.old).reads self.old) }
-    {
-        self.emission(alloc, depth, body)
-    }
-
-    /// The statement after its start, whichever it is, at the end of others.
+    /// The statement after its tag, at the end of others.
     #[cycle(statements)]
     #[inline(never)]
-    fn other_statement(
+    fn tag_statement(
         &mut self,
         alloc: Global,
         depth: u8,
         looping: bool,
-        start: Start,
+        tag: Tag,
         body: &mut Items<Stmt>,
     ) -> Result<(), Error>
         ensures { Adds result body.new self.new
-            ((one_more (statement (inside depth) (inner depth) looping start) body.old).reads
+            ((one_more (tag_statement (inside depth) (inner depth) looping tag) body.old).reads
             self.old) }
     {
-        match start {
-            Start::Raw(text) => add_one(body, Stmt::EmitRaw(text)),
-            Start::Emit => self.late_emission(alloc, depth, body),
-            Start::If => self.if_tag(alloc, depth, looping, body),
-            Start::For => self.for_tag(alloc, depth, looping, body),
-            Start::Break => self.break_tag(looping, body),
-            Start::Continue => self.continue_tag(looping, body),
-            Start::Block => self.block_tag(alloc, depth, body),
-            Start::Extends => self.extends_tag(alloc, depth, body),
-            Start::Set => self.set_tag(alloc, depth, looping, body),
-            Start::Filter => self.filter_tag(alloc, depth, looping, body),
-            Start::With => self.with_tag(alloc, depth, looping, body),
-            Start::Do => self.do_tag(alloc, depth, body),
-            Start::AutoEscape => self.autoescape_tag(alloc, depth, looping, body),
-            Start::Macro => self.macro_tag(alloc, depth, body),
-            Start::Call => self.call_tag(alloc, depth, body),
-            Start::Include => self.include_tag(alloc, depth, body),
-            Start::Import => self.import_tag(alloc, depth, body),
-            Start::From => self.from_tag(alloc, depth, body),
+        match tag {
+            Tag::If => self.if_tag(alloc, depth, looping, body),
+            Tag::For => self.for_tag(alloc, depth, looping, body),
+            Tag::Break => self.break_tag(looping, body),
+            Tag::Continue => self.continue_tag(looping, body),
+            Tag::Block => self.block_tag(alloc, depth, body),
+            Tag::Extends => self.extends_tag(alloc, depth, body),
+            Tag::Set => self.set_tag(alloc, depth, looping, body),
+            Tag::Filter => self.filter_tag(alloc, depth, looping, body),
+            Tag::With => self.with_tag(alloc, depth, looping, body),
+            Tag::Do => self.do_tag(alloc, depth, body),
+            Tag::Autoescape => self.autoescape_tag(alloc, depth, looping, body),
+            Tag::Macro => self.macro_tag(alloc, depth, body),
+            Tag::Call => self.call_tag(alloc, depth, body),
+            Tag::Include => self.include_tag(alloc, depth, body),
+            Tag::Import => self.import_tag(alloc, depth, body),
+            Tag::From => self.from_tag(alloc, depth, body),
+            _ => Err(refusal()),
         }
     }
 

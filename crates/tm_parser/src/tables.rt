@@ -37,38 +37,8 @@ pub enum Start {
     Raw(RawText),
     /// The start of an emission.
     Emit,
-    /// The start of an `if`.
-    If,
-    /// The start of a `for`.
-    For,
-    /// The start of a `break`.
-    Break,
-    /// The start of a `continue`.
-    Continue,
-    /// The start of a block.
-    Block,
-    /// The start of an `extends`.
-    Extends,
-    /// The start of a `set`.
-    Set,
-    /// The start of a `filter`.
-    Filter,
-    /// The start of a `with`.
-    With,
-    /// The start of a `do`.
-    Do,
-    /// The start of an `autoescape`.
-    AutoEscape,
-    /// The start of a macro.
-    Macro,
-    /// The start of a call with a body.
-    Call,
-    /// The start of an `include`.
-    Include,
-    /// The start of an `import`.
-    Import,
-    /// The start of a `from`.
-    From,
+    /// A tag that begins a statement.
+    Tag(Tag),
 }
 
 // The levels of operators, from the tightest.
@@ -194,58 +164,15 @@ pub fn test_word(sign: Sign) -> Option<&'static str>
         Sign::True => "true",
         Sign::False => "false",
         Sign::None => "none",
-        Sign::VariableStart
-        | Sign::VariableEnd
-        | Sign::BlockEnd
-        | Sign::OpenRound
-        | Sign::CloseRound
-        | Sign::OpenSquare
-        | Sign::CloseSquare
-        | Sign::OpenCurly
-        | Sign::CloseCurly
-        | Sign::Comma
-        | Sign::Dot
-        | Sign::Colon
-        | Sign::Assign
-        | Sign::Equal
-        | Sign::NotEqual
-        | Sign::Less
-        | Sign::LessOrEqual
-        | Sign::Greater
-        | Sign::GreaterOrEqual
-        | Sign::Plus
-        | Sign::Minus
-        | Sign::Tilde
-        | Sign::Bar
-        | Sign::Star
-        | Sign::Slash
-        | Sign::DoubleSlash
-        | Sign::Percent
-        | Sign::DoubleStar => return None,
+        _ => return None,
     })
 }
 
-/// What a tag begins.
-pub fn start_of(tag: Tag) -> Option<Start>
-    ensures { result ≡ statements.start_of tag }
+/// Whether the tag begins a statement. The others continue one or end it.
+pub fn begins_statement(tag: Tag) -> bool
+    ensures { result ≡ statements.begins_statement tag }
 {
-    Some(match tag {
-        Tag::If => Start::If,
-        Tag::For => Start::For,
-        Tag::Break => Start::Break,
-        Tag::Continue => Start::Continue,
-        Tag::Block => Start::Block,
-        Tag::Extends => Start::Extends,
-        Tag::Set => Start::Set,
-        Tag::Filter => Start::Filter,
-        Tag::With => Start::With,
-        Tag::Do => Start::Do,
-        Tag::Autoescape => Start::AutoEscape,
-        Tag::Macro => Start::Macro,
-        Tag::Call => Start::Call,
-        Tag::Include => Start::Include,
-        Tag::Import => Start::Import,
-        Tag::From => Start::From,
+    match tag {
         Tag::Elif
         | Tag::Else
         | Tag::Endif
@@ -256,6 +183,7 @@ pub fn start_of(tag: Tag) -> Option<Start>
         | Tag::Endwith
         | Tag::Endautoescape
         | Tag::Endmacro
-        | Tag::Endcall => return None,
-    })
+        | Tag::Endcall => false,
+        _ => true,
+    }
 }

@@ -4,6 +4,7 @@ ghost use Rattle.std.specs.Prelude.{option_map};
 ghost use Rattle.tm_meaning.specs.World.{root_of};
 ghost use Rattle.tm_values.specs.Answer.{OrStays};
 ghost use Rattle.tm_values.specs.Val.{Val, boolean};
+ghost use Rattle.tm_parts.specs.declared.halt.Halt.TheVariants.{Stuck};
 ghost use Rattle.tm_parts.specs.Operate.{Doubles, Operates, TakesMember, TestsUndefined};
 ghost use Rattle.tm_meaning.specs.Meaning.{none_waits};
 ghost use Rattle.tm_meaning.specs.Steps.{is_empty};
@@ -509,11 +510,16 @@ impl Activation {
         self.take(count + count)
     }
 
-    /// Takes the topmost operand, where there is one.
-    pub(crate) fn pop(&mut self) -> Option<Value>
-        ensures { MatchOption result ((self.old.operands ≡ []) × (self.new ≡ self.old))
-            (λ v. self.old ≡ record self.new { operands = v ∷ self.new.operands }) }
+    /// Pops the topmost operand. Stuck if there is none.
+    #[inline(always)]
+    pub(crate) fn popped(&mut self) -> Result<Value, Halt>
+        ensures { MatchResult result
+            (λ v. self.old ≡ record self.new { operands = v ∷ self.new.operands })
+            (λ halt. (halt ≡ Stuck) × (self.old.operands ≡ []) × (self.new ≡ self.old)) }
     {
-        self.operands.pop()
+        match self.operands.pop() {
+            Some(value) => Ok(value),
+            None => Err(Halt::Stuck),
+        }
     }
 }

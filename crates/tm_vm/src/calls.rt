@@ -172,9 +172,7 @@ impl Machine {
             (program (H.meaning host.now) (H.code host.now)) base.now self.old)
             self.old self.new result }
     {
-        let Some(value) = self.run.pop() else {
-            return Err(Halt::Stuck);
-        };
+        let value = self.run.popped()?;
         let recursion = self.state.call_innermost(alloc, host, &value)?;
         self.recurse(alloc, host, code, recursion, false)
     }

@@ -62,9 +62,7 @@ impl Machine {
         requires { CanGoOn self.old.run }
         ensures { Silently (push_auto_escape_of base.now self.old) self.old self.new result }
     {
-        let Some(value) = self.run.pop() else {
-            return Err(Halt::Stuck);
-        };
+        let value = self.run.popped()?;
         let chosen = escape_for(base.first, &value)?;
         self.run.push_escape(self.state.escape())?;
         self.state.set_escape(chosen);

@@ -28,9 +28,7 @@ impl Machine {
             self.old self.new result }
     {
         let heard = self.is_audible(base);
-        let Some(value) = self.run.pop() else {
-            return Err(Halt::Stuck);
-        };
+        let value = self.run.popped()?;
         let entry = self
             .state
             .include_run(alloc, host, &value, apart, missing, heard)?;
@@ -48,9 +46,7 @@ impl Machine {
         requires { CanGoOn self.old.run }
         ensures { Silently (export_locals_of self.old) self.old self.new result }
     {
-        let Some(value) = self.run.pop() else {
-            return Err(Halt::Stuck);
-        };
+        let value = self.run.popped()?;
         let module = self.state.module(alloc, value)?;
         self.push_next(module)
     }

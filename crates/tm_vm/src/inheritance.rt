@@ -42,9 +42,7 @@ impl Machine {
         ensures { Loads (H.meaning host.now)
             (load_blocks_of (H.meaning host.now) base.now self.old) self.old self.new result }
     {
-        let Some(name) = self.run.pop() else {
-            return Err(Halt::Stuck);
-        };
+        let name = self.run.popped()?;
         let is_inside = base.captures < self.captures.depth();
         let parent = self
             .state

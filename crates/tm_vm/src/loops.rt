@@ -33,9 +33,7 @@ impl Machine {
             self.old self.new result }
     {
         let number = code.loop_number(self.run.place);
-        let Some(value) = self.run.pop() else {
-            return Err(Halt::Stuck);
-        };
+        let value = self.run.popped()?;
         let items = iterate(alloc, &value, &self.state, host.undefined_behavior())?;
         self.run.begin_loop()?;
         self.state

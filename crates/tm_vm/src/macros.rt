@@ -22,9 +22,7 @@ impl Machine {
         requires { CanGoOn self.old.run }
         ensures { Silently (is_undefined_of self.old) self.old self.new result }
     {
-        let Some(value) = self.run.pop() else {
-            return Err(Halt::Stuck);
-        };
+        let value = self.run.popped()?;
         self.push_next(Value::boolean(value.is_undefined()))
     }
 
@@ -69,12 +67,8 @@ impl Machine {
             name.now place caller self.old) self.old self.new result }
     {
         let _host = host;
-        let Some(names) = self.run.pop() else {
-            return Err(Halt::Stuck);
-        };
-        let Some(closure) = self.run.pop() else {
-            return Err(Halt::Stuck);
-        };
+        let names = self.run.popped()?;
+        let closure = self.run.popped()?;
         let Some(closure) = closure_number(&closure)? else {
             return Err(Halt::Stuck);
         };

@@ -61,9 +61,7 @@ impl Machine {
         ensures { Silently (get_attr_of (H.meaning host.now) name.now self.old)
             self.old self.new result }
     {
-        let Some(value) = self.run.pop() else {
-            return Err(Halt::Stuck);
-        };
+        let value = self.run.popped()?;
         let undefined = host.undefined_behavior();
         let found = attribute(alloc, &value, name.as_str(), &self.state, undefined)?;
         self.push_next(found)
@@ -80,9 +78,7 @@ impl Machine {
         ensures { Silently (unary_of (H.meaning host.now) operator self.old)
             self.old self.new result }
     {
-        let Some(value) = self.run.pop() else {
-            return Err(Halt::Stuck);
-        };
+        let value = self.run.popped()?;
         let given = unary(alloc, operator, &value, host.undefined_behavior())?;
         self.push_next(given)
     }
@@ -99,12 +95,8 @@ impl Machine {
         ensures { Silently (binary_of (H.meaning host.now) operator self.old)
             self.old self.new result }
     {
-        let Some(right) = self.run.pop() else {
-            return Err(Halt::Stuck);
-        };
-        let Some(left) = self.run.pop() else {
-            return Err(Halt::Stuck);
-        };
+        let right = self.run.popped()?;
+        let left = self.run.popped()?;
         let behavior = host.undefined_behavior();
         let given = binary(alloc, operator, left, &right, &self.state, behavior)?;
         self.push_next(given)
@@ -121,12 +113,8 @@ impl Machine {
         ensures { Silently (compare_and_preserve_of (H.meaning host.now) operator self.old)
             self.old self.new result }
     {
-        let Some(right) = self.run.pop() else {
-            return Err(Halt::Stuck);
-        };
-        let Some(left) = self.run.pop() else {
-            return Err(Halt::Stuck);
-        };
+        let right = self.run.popped()?;
+        let left = self.run.popped()?;
         let undefined = host.undefined_behavior();
         let given = binary(alloc, operator, left, &right, &self.state, undefined)?;
         self.run.push(right)?;
@@ -138,12 +126,8 @@ impl Machine {
         requires { CanGoOn self.old.run }
         ensures { Silently (swap_of self.old) self.old self.new result }
     {
-        let Some(top) = self.run.pop() else {
-            return Err(Halt::Stuck);
-        };
-        let Some(below) = self.run.pop() else {
-            return Err(Halt::Stuck);
-        };
+        let top = self.run.popped()?;
+        let below = self.run.popped()?;
         self.run.push(top)?;
         self.push_next(below)
     }
@@ -165,9 +149,7 @@ impl Machine {
         requires { CanGoOn self.old.run }
         ensures { Silently (discard_top_of self.old) self.old self.new result }
     {
-        if self.run.pop().is_none() {
-            return Err(Halt::Stuck);
-        }
+        let _top = self.run.popped()?;
         self.run.advance();
         Ok(Flow::GoOn)
     }
@@ -177,12 +159,8 @@ impl Machine {
         requires { CanGoOn self.old.run }
         ensures { Silently (get_item_of (H.meaning host.now) self.old) self.old self.new result }
     {
-        let Some(key) = self.run.pop() else {
-            return Err(Halt::Stuck);
-        };
-        let Some(value) = self.run.pop() else {
-            return Err(Halt::Stuck);
-        };
+        let key = self.run.popped()?;
+        let value = self.run.popped()?;
         let undefined = host.undefined_behavior();
         let found = item(alloc, &value, &key, &self.state, undefined)?;
         self.push_next(found)
@@ -194,18 +172,10 @@ impl Machine {
         ensures { Silently (slice_instruction_of (H.meaning host.now) self.old)
             self.old self.new result }
     {
-        let Some(by) = self.run.pop() else {
-            return Err(Halt::Stuck);
-        };
-        let Some(stop) = self.run.pop() else {
-            return Err(Halt::Stuck);
-        };
-        let Some(start) = self.run.pop() else {
-            return Err(Halt::Stuck);
-        };
-        let Some(value) = self.run.pop() else {
-            return Err(Halt::Stuck);
-        };
+        let by = self.run.popped()?;
+        let stop = self.run.popped()?;
+        let start = self.run.popped()?;
+        let value = self.run.popped()?;
         let undefined = host.undefined_behavior();
         let part = slice(alloc, &value, &start, &stop, &by, undefined)?;
         self.push_next(part)

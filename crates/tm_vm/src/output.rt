@@ -85,9 +85,7 @@ impl Machine {
         if host.has_formatter() {
             return self.emit_formatted(alloc, host, base, writer);
         }
-        let Some(value) = self.run.pop() else {
-            return Err(Halt::Stuck);
-        };
+        let value = self.run.popped()?;
         self.state.check_value(alloc, host, &value)?;
         self.run.advance();
         self.write_value(base, &value, writer)
@@ -107,9 +105,7 @@ impl Machine {
             (W.written writer.old) (W.written writer.new)
             (W.failures writer.old) (W.failures writer.new) result }
     {
-        let Some(value) = self.run.pop() else {
-            return Err(Halt::Stuck);
-        };
+        let value = self.run.popped()?;
         let formatted = self.state.format(alloc, host, &value)?;
         self.run.advance();
         self.write_text(base, formatted.as_str(), writer)

@@ -17,9 +17,7 @@ impl Machine {
         requires { CanGoOn self.old.run }
         ensures { Silently (store_local_of name.now self.old) self.old self.new result }
     {
-        let Some(value) = self.run.pop() else {
-            return Err(Halt::Stuck);
-        };
+        let value = self.run.popped()?;
         self.state.store(name, value)?;
         self.run.advance();
         Ok(Flow::GoOn)
@@ -30,9 +28,7 @@ impl Machine {
         requires { CanGoOn self.old.run }
         ensures { Silently (unpack_list_of count self.old) self.old self.new result }
     {
-        let Some(value) = self.run.pop() else {
-            return Err(Halt::Stuck);
-        };
+        let value = self.run.popped()?;
         let items = unpack(alloc, &value, count, &self.state)?;
         self.run.operands.push_each(&items)?;
         self.run.advance();
@@ -44,12 +40,8 @@ impl Machine {
         requires { CanGoOn self.old.run }
         ensures { Silently (set_attr_of name.now self.old) self.old self.new result }
     {
-        let Some(object) = self.run.pop() else {
-            return Err(Halt::Stuck);
-        };
-        let Some(value) = self.run.pop() else {
-            return Err(Halt::Stuck);
-        };
+        let object = self.run.popped()?;
+        let value = self.run.popped()?;
         self.state.set_member(alloc, &object, name, value)?;
         self.run.advance();
         Ok(Flow::GoOn)

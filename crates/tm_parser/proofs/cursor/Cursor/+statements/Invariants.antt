@@ -76,8 +76,8 @@ decreases-else_or_end l = nesting_room * l.depth + 4
 abbrev pub decreases-rest : goal.decreases-rest
 decreases-rest l = nesting_room * l.depth + 5
 
-abbrev pub decreases-other_statement : goal.decreases-other_statement
-decreases-other_statement l = nesting_room * l.depth + 6
+abbrev pub decreases-tag_statement : goal.decreases-tag_statement
+decreases-tag_statement l = nesting_room * l.depth + 6
 
 abbrev pub decreases-one_statement : goal.decreases-one_statement
 decreases-one_statement l = nesting_room * l.depth + 7
