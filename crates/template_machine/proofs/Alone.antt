@@ -12,7 +12,7 @@ use Rattle.tm_syntax.specs.Named.{Named, find, name_cmp, put}
 use Rattle.tm_meaning.specs.Calls.{own_blocks}
 use Rattle.tm_meaning.specs.Inheritance.{after_all}
 use Rattle.tm_meaning.specs.declared.stream.TemplateId.{TemplateId}
-use Rattle.tm_tables.specs.Lists.{with_block, with_each}
+use Rattle.tm_blocks.specs.Lists.{with_block, with_each}
 use Rattle.tm_templates.specs.Templates.{carded}
 use Rattle.tm_templates.proofs.Named.{turned}
 

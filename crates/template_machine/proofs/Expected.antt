@@ -2,8 +2,8 @@
 use Rattle.std.proofs.Common.{◌≡◌, refl, subst, sym}
 use Rattle.std.specs.List.Sorted.{IsStrictlySortedBy}
 use Rattle.tm_meaning.specs.World.{Bindings}
-use Rattle.tm_tables.specs.Language.{language_globals}
-use Rattle.tm_tables.specs.Places.{AreOrdered}
+use Rattle.tm_objects.specs.Language.{language_globals}
+use Rattle.tm_scopes.specs.Places.{AreOrdered}
 
 expected : AreOrdered language_globals
 unfolding IsStrictlySortedBy

@@ -8,7 +8,7 @@ use Rattle.tm_syntax.specs.Named.{find}
 use Rattle.tm_meaning.specs.declared.stream.StreamId.{StreamId}
 use Rattle.tm_meaning.specs.declared.stream.TemplateId.{TemplateId}
 use Rattle.tm_meaning.specs.declared.stream.TemplateId.TheVariants.{Own, Entry}
-use Rattle.tm_tables.specs.Stated.{StatedObjects}
+use Rattle.tm_objects.specs.Stated.{StatedObjects}
 use Rattle.tm_meaning.specs.World.{Template, template_at, card_at, card_in, or_is}
 use Rattle.tm_meaning.specs.Calls.{is_required}
 use Rattle.tm_meaning.specs.Tree.{TemplateTree, part_of, tree_at}

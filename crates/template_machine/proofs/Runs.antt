@@ -5,7 +5,7 @@ use Rattle.tm_values.specs.Val.{Val}
 use Rattle.tm_values.specs.declared.error.ErrorKind.{ErrorKind}
 use Rattle.tm_values.specs.declared.error.ErrorKind.TheVariants.{InvalidOperation}
 use Rattle.tm_meaning.specs.World.{World}
-use Rattle.tm_tables.specs.Stated.{StatedObjects}
+use Rattle.tm_objects.specs.Stated.{StatedObjects}
 use Rattle.tm_meaning.specs.Machine.{Capture, Config, Finished, Program, base_of, run_from, running}
 use Rattle.tm_parts.specs.Halts.{failures_after}
 use Rattle.tm_parts.specs.declared.halt.Halt.{Halt}

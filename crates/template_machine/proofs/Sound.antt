@@ -21,7 +21,7 @@ use Rattle.tm_state.specs.declared.calls.CallResult.{CallResult}
 use Rattle.tm_state.specs.declared.calls.CallResult.TheVariants as outcome
 use Rattle.tm_state.specs.declared.saved.Saved.{Saved}
 use Rattle.tm_state.specs.declared.saved.Saved.TheVariants as saved
-use Rattle.tm_tables.specs.Stated.{StatedObjects}
+use Rattle.tm_objects.specs.Stated.{StatedObjects}
 use Rattle.template_machine.specs.Environment.{TemplateValue, code}
 use Rattle.template_machine.specs.Renders.{IsStarted, RunEnds, SoundRecords, forgetting, program_of}
 

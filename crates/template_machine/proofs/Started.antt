@@ -8,12 +8,12 @@ use Rattle.tm_values.specs.declared.error.ErrorKind.{ErrorKind}
 use Rattle.tm_values.specs.declared.escape.AutoEscape.{AutoEscape}
 use Rattle.tm_syntax.specs.Named.{name_cmp}
 use Rattle.tm_meaning.specs.World.{Template, World, template_at}
-use Rattle.tm_tables.specs.Stated.{StatedObjects}
+use Rattle.tm_objects.specs.Stated.{StatedObjects}
 use Rattle.tm_meaning.specs.Calls.{own_blocks}
 use Rattle.tm_meaning.specs.declared.stream.TemplateId.{TemplateId}
 use Rattle.tm_templates.specs.Templates.{Compiled, carded, told_of}
 use Rattle.tm_state.specs.State.{started}
-use Rattle.tm_tables.specs.Lists.{with_each}
+use Rattle.tm_blocks.specs.Lists.{with_each}
 use Rattle.template_machine.specs.Environment.{EnvironmentValue, TemplateValue, host_of, meant}
 use Rattle.template_machine.specs.TemplateRef.{held_id, held_template, IsHeldOf}
 use Rattle.template_machine.specs.declared.template.TemplateRef.{TemplateRef}

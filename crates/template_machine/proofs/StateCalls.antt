@@ -26,7 +26,7 @@ use Rattle.tm_state.specs.declared.saved.SavedBlock.{SavedBlock}
 use Rattle.tm_state.specs.declared.saved.SavedMacro.{SavedMacro}
 use Rattle.tm_state.specs.declared.saved.SavedSuper.{SavedSuper}
 use Rattle.tm_state.specs.declared.nested.NestedRun.{NestedRun}
-use Rattle.tm_tables.specs.Stated.{StatedObjects}
+use Rattle.tm_objects.specs.Stated.{StatedObjects}
 use Rattle.tm_vm.specs.Answers.{ComesTo, HaltsAs, NoFewer, ReachesEnd, program}
 use Rattle.tm_vm.proofs.Loop.{left_below, undone_is}
 use Rattle.tm_safety.proofs.Ends.{run_ends_well}

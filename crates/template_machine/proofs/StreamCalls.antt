@@ -24,7 +24,7 @@ use Rattle.tm_state.specs.State.{after_block, callee_of, put_back}
 use Rattle.tm_state.specs.declared.saved.Saved.TheVariants as saved
 use Rattle.tm_state.specs.declared.saved.SavedBlock.{SavedBlock}
 use Rattle.tm_state.specs.declared.nested.NestedRun.{NestedRun}
-use Rattle.tm_tables.specs.Stated.{StatedObjects}
+use Rattle.tm_objects.specs.Stated.{StatedObjects}
 use Rattle.tm_vm.specs.Answers.{HaltsAs, ReachesEnd}
 use Rattle.tm_vm.proofs.Loop.{undone_is}
 use Rattle.template_machine.specs.Environment.{TemplateValue, code}

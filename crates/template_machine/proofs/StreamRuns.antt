@@ -17,7 +17,7 @@ use Rattle.tm_parts.specs.declared.halt.Halt.{Halt}
 use Rattle.tm_parts.specs.declared.halt.Halt.TheVariants as halt
 use Rattle.tm_shapes.specs.Verified.{IsAccepted}
 use Rattle.tm_safety.specs.Runs.{EndsIn}
-use Rattle.tm_tables.specs.Stated.{StatedObjects}
+use Rattle.tm_objects.specs.Stated.{StatedObjects}
 use Rattle.tm_templates.specs.Templates.{AreAccepted, Compiled, EachAccepted}
 use Rattle.tm_templates.proofs.Accepted.{find_all}
 use Rattle.tm_vm.specs.Answers.{HaltsAs, ReachesEnd}

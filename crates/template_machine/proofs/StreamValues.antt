@@ -11,7 +11,7 @@ use Rattle.tm_meaning.specs.World.{World, Bad, answered, records_of}
 use Rattle.tm_parts.specs.Halts.{error_of}
 use Rattle.tm_parts.specs.declared.halt.Halt.{Halt}
 use Rattle.tm_parts.specs.declared.halt.Halt.TheVariants as halt
-use Rattle.tm_tables.specs.Stated.{StatedObjects}
+use Rattle.tm_objects.specs.Stated.{StatedObjects}
 use Rattle.template_machine.specs.Environment.{TemplateValue}
 use Rattle.template_machine.specs.Renders.{Evaluated, IsValue, StreamEnds, StreamRan, maps_in, value_as_meant, value_at, value_by_memory}
 use Rattle.template_machine.specs.Renders.{StreamValue, value_streamed, value_without_memory}

@@ -14,8 +14,8 @@ use Rattle.tm_meaning.specs.declared.stream.TemplateId.{TemplateId}
 use Rattle.tm_meaning.specs.declared.stream.TemplateId.TheVariants.{Own, Entry}
 use Rattle.tm_meaning.specs.World.{Bindings, HostValue, Template, World, name_of, or_is}
 use Rattle.tm_meaning.specs.Tree.{TemplateTree, Trees, trees_of}
-use Rattle.tm_tables.specs.Language.{language_globals}
-use Rattle.tm_tables.specs.Stated.{Table, StatedObjects, language_functions, with_object, next_number}
+use Rattle.tm_objects.specs.Language.{language_globals}
+use Rattle.tm_objects.specs.Stated.{Table, StatedObjects, language_functions, with_object, next_number}
 use Rattle.tm_templates.specs.Templates.{Compiled, IsExpression, IsOfTree, IsTemplate, empty_template, part_code, told_of, tree_of}
 use Rattle.tm_templates.specs.declared.defaults.EscapeSetting.{EscapeSetting}
 use Rattle.tm_templates.specs.declared.defaults.EscapeSetting.TheVariants as escapes

@@ -2,9 +2,9 @@
 ghost use Rattle.std.specs.Prelude.{◌≡◌, ◌≢◌, ◌<◌, [], ◌∷◌, Some, None, codes, min, OnOk, OnErr, IfOk, IfErr};
 ghost use Rattle.std.specs.Prelude.{MatchOption, MatchResult};
 ghost use Rattle.tm_syntax.specs.Named.{find, put, without};
-ghost use Rattle.tm_tables.specs.Places.{AreOrdered};
-ghost use Rattle.tm_tables.specs.Stated.{no_functions, with_filter, without_filter, with_test, without_test};
-ghost use Rattle.tm_tables.specs.Stated.{with_escaping, with_fallback, with_formatter, with_joining};
+ghost use Rattle.tm_scopes.specs.Places.{AreOrdered};
+ghost use Rattle.tm_objects.specs.Stated.{no_functions, with_filter, without_filter, with_test, without_test};
+ghost use Rattle.tm_objects.specs.Stated.{with_escaping, with_fallback, with_formatter, with_joining};
 ghost use Rattle.tm_templates.specs.Templates.{empty_template, Compiled, EachAccepted, IsRefused};
 ghost use Rattle.tm_values.specs.Answer.{IsLent, OkOrOutOfMemory};
 ghost use Rattle.tm_values.specs.Val.{function};

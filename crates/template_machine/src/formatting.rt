@@ -1,7 +1,7 @@
 //! What values are written as where nothing else is said.
 ghost use Rattle.std.specs.Prelude.{None};
 ghost use Rattle.tm_meaning.specs.World.{formatted};
-ghost use Rattle.tm_tables.specs.Stated.{IsFormatted};
+ghost use Rattle.tm_objects.specs.Stated.{IsFormatted};
 
 use std::alloc::Global;
 use tm_printing::emission_text;

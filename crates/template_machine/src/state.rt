@@ -5,7 +5,7 @@ ghost use Rattle.std.specs.Prelude.{◌≡◌, ◌+◌, [], ◌∷◌, Some, IfE
 ghost use Rattle.tm_syntax.specs.Named.{find, name_cmp, texts_of};
 ghost use Rattle.tm_values.specs.Answer.{IsAnswer, IsLent, OkOrOutOfMemory};
 ghost use Rattle.tm_meaning.specs.World.{emitted, find_name, fuel_levels, name_of, records_of, view_of};
-ghost use Rattle.tm_tables.specs.Known.{AreFound, NamingFails};
+ghost use Rattle.tm_scopes.specs.Known.{AreFound, NamingFails};
 ghost use Rattle.tm_meaning.specs.Calls.{refused};
 ghost use Rattle.tm_meaning.specs.Memory.{is_want_of_memory};
 ghost use Rattle.tm_state.specs.Answers.{Becomes, CallDeeper, CallLies, IsEmitted, KeepsFixed, NeedsRun, StaysInPlace};

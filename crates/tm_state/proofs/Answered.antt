@@ -16,7 +16,7 @@ use Rattle.tm_meaning.specs.declared.reply.Reply.TheVariants.{Value as gives, Fa
 use Rattle.tm_meaning.specs.Calls.{Asked, has, refused, runs, recurs, ask, NestedCall, MakesFurther, replied, as_truth, as_printed}
 use Rattle.tm_meaning.specs.Calls.{further_call, further_calls}
 use Rattle.tm_meaning.specs.declared.reply.Call.{Call}
-use Rattle.tm_tables.specs.Stated.{is_for_memory, IsNamedAnswer}
+use Rattle.tm_objects.specs.Stated.{is_for_memory, IsNamedAnswer}
 use Rattle.tm_state.specs.declared.calls.CallResult.{CallResult}
 use Rattle.tm_state.specs.declared.calls.CallResult.TheVariants as outcome
 use Rattle.tm_state.specs.declared.further.Further.TheVariants as further

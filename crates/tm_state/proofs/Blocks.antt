@@ -17,7 +17,7 @@ use Rattle.tm_meaning.specs.Inheritance.{with_blocks, count_left, load_named, na
 use Rattle.tm_meaning.specs.declared.stream.StreamId.{StreamId}
 use Rattle.tm_meaning.specs.declared.stream.TemplateId.{TemplateId}
 use Rattle.tm_meaning.specs.declared.stream.TemplateId.TheVariants.{Entry}
-use Rattle.tm_tables.specs.Lists.{AreBlocksOf, with_each}
+use Rattle.tm_blocks.specs.Lists.{AreBlocksOf, with_each}
 use Rattle.tm_state.specs.State.{IsNextOf, put_back, saved_super, scoped}
 use Rattle.tm_state.specs.declared.saved.Saved.TheVariants as saved
 use Rattle.tm_state.specs.declared.saved.SavedSuper.{SavedSuper}

@@ -12,7 +12,7 @@ use Rattle.tm_definitions.specs.Verdicts.{Verdict}
 use Rattle.tm_printing.specs.Emits.{emission_answer}
 use Rattle.tm_meaning.specs.Memory.{is_want_of_memory}
 use Rattle.tm_meaning.specs.World.{World, HostValue, View, answered, emitted, formatted, records_of, where_fine}
-use Rattle.tm_tables.specs.Stated.{IsFormatted}
+use Rattle.tm_objects.specs.Stated.{IsFormatted}
 use Rattle.tm_state.specs.Answers.{IsEmitted}
 
 -- OutOfMemory alone is out of memory

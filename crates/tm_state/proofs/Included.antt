@@ -23,8 +23,8 @@ use Rattle.tm_meaning.specs.declared.stream.StreamId.{StreamId}
 use Rattle.tm_meaning.specs.declared.stream.TemplateId.{TemplateId}
 use Rattle.tm_meaning.specs.declared.stream.TemplateId.TheVariants.{Entry}
 use Rattle.tm_meaning.specs.declared.wrapping.Wrapping.TheVariants.{BadInclude}
-use Rattle.tm_tables.specs.Lists.{AreBlocksOf, IsEntry, ListsValue, alone_in}
-use Rattle.tm_tables.specs.declared.template_entry.TemplateEntry.{TemplateEntry}
+use Rattle.tm_blocks.specs.Lists.{AreBlocksOf, IsEntry, ListsValue, alone_in}
+use Rattle.tm_blocks.specs.declared.template_entry.TemplateEntry.{TemplateEntry}
 use Rattle.tm_meaning.specs.Inheritance.{joined}
 use Rattle.tm_values.specs.Records.{RecordData}
 use Rattle.tm_state.specs.Answers.{IsChosen, IsFirstEntry, IsNamed, IsEntryThere, NeedsSuper, OneDeeper}

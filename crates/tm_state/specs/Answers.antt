@@ -9,11 +9,11 @@ use Rattle.std.specs.Borrow.{Bor}
 use Rattle.std.specs.Global.{Box}
 use Rattle.std.specs.declared.rc.Rc.{Rc}
 use Rattle.tm_syntax.specs.Named.{find, put_each}
-use Rattle.tm_tables.specs.Lists.{IsEntry}
-use Rattle.tm_tables.specs.declared.template_entry.TemplateEntry.{TemplateEntry}
+use Rattle.tm_blocks.specs.Lists.{IsEntry}
+use Rattle.tm_blocks.specs.declared.template_entry.TemplateEntry.{TemplateEntry}
 use Rattle.tm_meaning.specs.Inheritance.{joined}
 use Rattle.tm_values.specs.Val.{Val, undefined}
-use Rattle.tm_tables.specs.Stated.{is_for_memory}
+use Rattle.tm_objects.specs.Stated.{is_for_memory}
 use Rattle.tm_meaning.specs.World.{World, HostValue, Object, Stated, Loop, Res, Good, Bad, depth, plain_scope, records_of}
 use Rattle.tm_meaning.specs.Calls.{Asked, has, refused, recurs, runs, NestedCall, MakesFurther, replied, found_call}
 use Rattle.tm_meaning.specs.Calls.{as_printed, as_truth, choices_in, first_found, include_depth, include_frames, is_changed, no_values}

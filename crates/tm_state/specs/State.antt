@@ -16,8 +16,8 @@ use Rattle.tm_meaning.specs.declared.stream.TemplateId.TheVariants as template_i
 use Rattle.tm_meaning.specs.declared.stream.StreamId.{StreamId}
 use Rattle.tm_syntax.specs.declared.instruction.LoopFlags.{LoopFlags}
 use Rattle.tm_tables.specs.Fuel.{Fuel}
-use Rattle.tm_tables.specs.Lists.{ListsValue, with_each}
-use Rattle.tm_tables.specs.Scopes.{exported_of}
+use Rattle.tm_blocks.specs.Lists.{ListsValue, with_each}
+use Rattle.tm_scopes.specs.Scopes.{exported_of}
 use Rattle.tm_state.specs.declared.saved.Saved.{Saved}
 use Rattle.tm_state.specs.declared.saved.Saved.TheVariants as saved
 use Rattle.tm_state.specs.declared.saved.SavedBlock.{SavedBlock}

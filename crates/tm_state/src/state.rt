@@ -10,8 +10,8 @@ ghost use Rattle.tm_meaning.specs.World.{cleared, pop, store, set_member, make_n
 ghost use Rattle.tm_meaning.specs.World.{HostValue, find_name, top_locals, view_of, name_of, Good, Bad, block_of};
 ghost use Rattle.tm_meaning.specs.Calls.{enter_block, given_by, refused, of_loop, told_changed, told_turn};
 ghost use Rattle.tm_definitions.specs.Emitted.{emitted_text};
-ghost use Rattle.tm_tables.specs.Known.{AreFound, NamingFails};
-ghost use Rattle.tm_tables.specs.Scopes.{PushFails};
+ghost use Rattle.tm_scopes.specs.Known.{AreFound, NamingFails};
+ghost use Rattle.tm_scopes.specs.Scopes.{PushFails};
 ghost use Rattle.tm_state.specs.Answers.{KeepsFixedAndNames, CanBeEmitted, Comes};
 ghost use Rattle.tm_state.specs.State.{with_open_loop, exported, nothing_left, started, put_back, saved_of, runs_block, IsBlockOf, scoped};
 

@@ -1,14 +1,1 @@
-pub mod BlockNames
-pub mod Closures
-pub mod Found
-pub mod Known
-pub mod Language
-pub mod Layers
-pub mod Lists
-pub mod Marks
-pub mod Pairs
-pub mod Places
-pub mod Scopes
-pub mod Stated
-pub mod Views
 pub mod Fuel

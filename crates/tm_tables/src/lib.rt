@@ -1,50 +1,15 @@
-//! Scopes, loops, fuel, what objects of the caller see and answer, and what the machine asks of the environment.
+//! The tables of a state: its fuel, and what the crates below it give out of scopes, loops, lists of blocks and objects of the caller.
 #![tactic(auto)]
 
-mod block_names;
-mod block_stack;
-mod callable;
-mod closures;
-mod context;
-mod escape_rule;
-mod fallback;
-mod formatter;
-mod frame;
 mod fuel;
-mod host;
-mod language;
-mod layer;
-mod lists;
-mod loaded;
-mod loaded_names;
-mod loops;
-mod mark;
-mod name_table;
-mod objects;
-mod pairs;
-mod path_join;
-mod plain;
-mod template_entry;
-mod view;
 
-pub use block_names::BlockNames;
-pub use block_stack::BlockStack;
-pub use callable::{Callable, CallableAnswer, Called};
-pub use closures::Closures;
-pub use context::Context;
-pub use escape_rule::EscapeRule;
-pub use fallback::MethodFallback;
-pub use formatter::Formatter;
-pub use frame::{Found, Frame};
 pub use fuel::{Exhausted, FuelTracker};
-pub use host::Host;
-pub use language::language_globals;
-pub use lists::Lists;
-pub use loops::{LoopState, following_at, position_at, previous_at};
-pub use name_table::{NO_PLACE, NameTable};
-pub use objects::{Objects, Parties};
-pub use pairs::Pairs;
-pub use path_join::PathJoin;
-pub use plain::{Answering, Plain};
-pub use template_entry::TemplateEntry;
-pub use view::View;
+pub use tm_blocks::{BlockNames, BlockStack, Lists, TemplateEntry};
+pub use tm_objects::{
+    Answering, Callable, CallableAnswer, Called, EscapeRule, Formatter, Host, MethodFallback,
+    Objects, Parties, PathJoin, Plain, View, language_globals,
+};
+pub use tm_scopes::{
+    Closures, Context, Found, Frame, LoopState, NO_PLACE, NameTable, Pairs, following_at,
+    position_at, previous_at,
+};

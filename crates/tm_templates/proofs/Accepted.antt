@@ -19,8 +19,8 @@ use Rattle.tm_shapes.specs.declared.code.BlockCode.{BlockCode}
 use Rattle.tm_shapes.specs.declared.kind.Form.{Form}
 use Rattle.tm_shapes.specs.declared.kind.Form.TheVariants as forms
 use Rattle.tm_accepted.specs.Laid.{form_of}
-use Rattle.tm_tables.specs.Places.{AreOrdered, IsNameAt, IsNameGap}
-use Rattle.tm_tables.proofs.Places.{added, taken, written}
+use Rattle.tm_scopes.specs.Places.{AreOrdered, IsNameAt, IsNameGap}
+use Rattle.tm_scopes.proofs.Places.{added, taken, written}
 use Rattle.tm_templates.specs.Templates.{AllAccepted, AreAccepted, Compiled, EachAccepted, block_codes, code_or_none, part_code}
 
 -- ---------------------------------------------------------------- maps by name

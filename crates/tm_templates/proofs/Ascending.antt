@@ -7,8 +7,8 @@ use Rattle.tm_shapes.specs.BlockCodes.{compiled_blocks}
 use Rattle.tm_syntax.specs.Named.{Named, by_name, name_cmp, put, put_each}
 use Rattle.tm_shapes.specs.declared.code.BlockCode.{BlockCode}
 use Rattle.tm_syntax.specs.declared.tree.Tree.{Tree}
-use Rattle.tm_tables.specs.Places.{AreOrdered}
-use Rattle.tm_tables.proofs.Places.{ordered-none, ordered-put}
+use Rattle.tm_scopes.specs.Places.{AreOrdered}
+use Rattle.tm_scopes.proofs.Places.{ordered-none, ordered-put}
 use Rattle.tm_templates.specs.Templates.{block_codes}
 
 -- what stands by its name is in order

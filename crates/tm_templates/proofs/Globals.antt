@@ -10,8 +10,8 @@ use Rattle.std.specs.Map.{keys_of}
 use Rattle.tm_values.specs.Val.{Val, undefined}
 use Rattle.tm_meaning.specs.World.{Bindings}
 use Rattle.tm_syntax.specs.Named.{find, name_cmp, put, without}
-use Rattle.tm_tables.specs.Places.{AreOrdered, IsNameAt, IsNameGap}
-use Rattle.tm_tables.proofs.Places.{added, held, ordered-none, ordered-put, searched_in, taken, taken-ordered, written}
+use Rattle.tm_scopes.specs.Places.{AreOrdered, IsNameAt, IsNameGap}
+use Rattle.tm_scopes.proofs.Places.{added, held, ordered-none, ordered-put, searched_in, taken, taken-ordered, written}
 use Rattle.tm_templates.specs.Globals.{AreNamesOf}
 
 -- ---------------------------------------------------------------- names of what is put in and taken out

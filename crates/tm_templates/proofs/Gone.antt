@@ -7,7 +7,7 @@ use Rattle.std.specs.Map.{keys_of}
 use Rattle.std.specs.declared.cmp.Ordering.TheVariants.{Less}
 use Rattle.tm_syntax.specs.Named.{Named, find, name_cmp, without}
 use Rattle.tm_syntax.proofs.Named.{same_text}
-use Rattle.tm_tables.specs.Places.{AreOrdered}
+use Rattle.tm_scopes.specs.Places.{AreOrdered}
 
 module _ {A : Type 0} where
   abbrev AreAbove : List ℕ → Named A → Type 0

@@ -2,7 +2,7 @@
 use Rattle.std.specs.Map.{keys_of}
 use Rattle.std.specs.Prelude.{◌≡◌, ℕ, List}
 use Rattle.tm_meaning.specs.World.{Bindings}
-use Rattle.tm_tables.specs.Places.{AreOrdered}
+use Rattle.tm_scopes.specs.Places.{AreOrdered}
 
 -- These are the names of values by name, and they ascend.
 pub record AreNamesOf (names : List (List ℕ)) (values : Bindings) : Type 0 where

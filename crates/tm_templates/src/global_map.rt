@@ -2,7 +2,7 @@
 ghost use Rattle.std.specs.Map.{keys_of};
 ghost use Rattle.std.specs.Prelude.{◌≡◌, ◌≢◌, ◌<◌, [], ◌∷◌, None, Some, IfOk, OnOk, OnErr, IfErr, MatchResult, length, slice_get};
 ghost use Rattle.tm_syntax.specs.Named.{find, name_cmp, put, without};
-ghost use Rattle.tm_tables.specs.Places.{AreOrdered, IsNameAt, IsNameGap};
+ghost use Rattle.tm_scopes.specs.Places.{AreOrdered, IsNameAt, IsNameGap};
 ghost use Rattle.tm_values.specs.Answer.{OkOrOutOfMemory};
 ghost use Rattle.tm_values.specs.declared.error.ErrorKind.TheVariants.{OutOfMemory};
 

@@ -2,7 +2,7 @@
 ghost use Rattle.std.specs.Prelude.{◌≡◌, ◌≢◌, ◌<◌, [], ◌∷◌, None, Some, OnOk, OnErr, IfErr, MatchOption, MatchResult, length, slice_get};
 ghost use Rattle.tm_syntax.specs.Named.{find, put, name_cmp, without};
 ghost use Rattle.tm_values.specs.Answer.{IsLent};
-ghost use Rattle.tm_tables.specs.Places.{AreOrdered, IsNameAt, IsNameGap};
+ghost use Rattle.tm_scopes.specs.Places.{AreOrdered, IsNameAt, IsNameGap};
 ghost use Rattle.tm_templates.specs.Templates.{EachAccepted};
 
 use crate::compiled::CompiledTemplate;
@@ -30,7 +30,7 @@ impl<'source> Model for Templates<'source> {
 
     ghost coded = { Prim.hlevel (codes, coded_Val, expression.the_row.coded, statement.the_row.coded) };
 
-    ghost use Rattle.tm_tables.specs.Places.{AreOrdered};
+    ghost use Rattle.tm_scopes.specs.Places.{AreOrdered};
     ghost use Rattle.tm_templates.specs.Templates.{EachAccepted};
 
     ghost view = { λ a. a.entries.items };

@@ -6,11 +6,11 @@ use Rattle.mj.specs.Program.{input_of, named}
 use Rattle.mj.proofs.Added.{is_found}
 use Rattle.mj.proofs.Rendered.{started, is_meant_by, is_refused}
 use Rattle.mj.proofs.Lists.{passed}
-use Rattle.tm_tables.specs.contracts.callable.BoxDynCallableCallable.TheImpl as callables
-use Rattle.tm_tables.specs.contracts.fallback.BoxDynMethodFallbackMethodFallback.TheImpl as fallbacks
-use Rattle.tm_tables.specs.contracts.formatter.BoxDynFormatterFormatter.TheImpl as formatters
-use Rattle.tm_tables.specs.contracts.escape_rule.BoxDynEscapeRuleEscapeRule.TheImpl as rules
-use Rattle.tm_tables.specs.contracts.path_join.BoxDynPathJoinPathJoin.TheImpl as joins
+use Rattle.tm_objects.specs.contracts.callable.BoxDynCallableCallable.TheImpl as callables
+use Rattle.tm_objects.specs.contracts.fallback.BoxDynMethodFallbackMethodFallback.TheImpl as fallbacks
+use Rattle.tm_objects.specs.contracts.formatter.BoxDynFormatterFormatter.TheImpl as formatters
+use Rattle.tm_objects.specs.contracts.escape_rule.BoxDynEscapeRuleEscapeRule.TheImpl as rules
+use Rattle.tm_objects.specs.contracts.path_join.BoxDynPathJoinPathJoin.TheImpl as joins
 use Rattle.mj.proofs.render.render_in.Goals as goal
 
 pub returns : goal.returns

@@ -1,7 +1,7 @@
 use Rattle.std.proofs.Common.{◌≡◌, ◌≤◌, ◌-◌, false}
 use Rattle.tm_syntax.specs.Named.{put_each}
 use Rattle.tm_meaning.specs.Calls.{replied, by_depths, further_calls}
-use Rattle.tm_tables.specs.Stated.{is_for_memory}
+use Rattle.tm_objects.specs.Stated.{is_for_memory}
 use Rattle.tm_state.specs.Answers.{shown}
 use Rattle.tm_state.proofs.state.StateData.follow.Given as goal
 

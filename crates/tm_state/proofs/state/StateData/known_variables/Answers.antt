@@ -2,7 +2,7 @@ use Rattle.std.proofs.Common.{sym, ap}
 use Rattle.std.proofs.lemmas.Result.{IfOk-weaker}
 use Rattle.tm_syntax.specs.Named.{texts_of}
 use Rattle.tm_meaning.specs.World.{World, view_of}
-use Rattle.tm_tables.proofs.Known.{known-in}
+use Rattle.tm_scopes.proofs.Known.{known-in}
 use Rattle.tm_state.proofs.state.StateData.known_variables.Goals as goal
 
 pub returns-clause-found : goal.returns-clause-found

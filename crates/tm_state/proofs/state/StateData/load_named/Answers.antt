@@ -2,7 +2,7 @@ use Rattle.std.proofs.Common.{◌≡◌, ◌∙◌, ◌++◌, ◌∷◌, [], Som
 use Rattle.tm_syntax.specs.Named.{find}
 use Rattle.tm_syntax.specs.Names.{is_among}
 use Rattle.tm_meaning.specs.World.{World}
-use Rattle.tm_tables.specs.Lists.{AreBlocksOf, ListsValue}
+use Rattle.tm_blocks.specs.Lists.{AreBlocksOf, ListsValue}
 use Rattle.tm_state.proofs.Blocks.{fewer_into, loads_into}
 use Rattle.tm_state.proofs.state.StateData.load_named.Goals as goal
 

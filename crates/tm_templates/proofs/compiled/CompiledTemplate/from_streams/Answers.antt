@@ -1,5 +1,5 @@
 use Rattle.std.proofs.Common.{subst, sym}
-use Rattle.tm_tables.specs.Places.{AreOrdered}
+use Rattle.tm_scopes.specs.Places.{AreOrdered}
 use Rattle.tm_templates.specs.Templates.{given_blocks}
 use Rattle.tm_templates.proofs.Ascending.{by_name-ordered}
 use Rattle.tm_templates.proofs.compiled.CompiledTemplate.from_streams.Goals as goal

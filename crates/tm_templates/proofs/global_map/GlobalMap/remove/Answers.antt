@@ -1,4 +1,4 @@
-use Rattle.tm_tables.proofs.Places.{find-gap, without-gap}
+use Rattle.tm_scopes.proofs.Places.{find-gap, without-gap}
 use Rattle.tm_templates.proofs.Globals.{taken_out}
 use Rattle.tm_templates.proofs.global_map.GlobalMap.remove.Goals as goal
 

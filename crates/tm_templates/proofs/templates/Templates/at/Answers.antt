@@ -2,7 +2,7 @@ use Rattle.std.proofs.Common.{◌<◌, length, refl, subst, sym}
 use Rattle.std.proofs.lemmas.Option.{slice_get_read}
 use Rattle.std.specs.Cmp.Lexicographic.{bytes_decides}
 use Rattle.tm_syntax.specs.Named.{Named}
-use Rattle.tm_tables.proofs.Places.{held}
+use Rattle.tm_scopes.proofs.Places.{held}
 use Rattle.tm_templates.specs.Templates.{Compiled}
 use Rattle.tm_templates.proofs.templates.Templates.at.Goals as goal
 

@@ -1,5 +1,5 @@
 use Rattle.std.proofs.Common.{subst, sym}
-use Rattle.tm_tables.proofs.Places.{ordered_without_names}
+use Rattle.tm_scopes.proofs.Places.{ordered_without_names}
 use Rattle.tm_templates.specs.Templates.{EachAccepted}
 use Rattle.tm_templates.proofs.templates.Templates.clear.Goals as goal
 

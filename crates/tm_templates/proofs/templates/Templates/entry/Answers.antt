@@ -3,8 +3,8 @@ use Rattle.std.specs.Cmp.Lexicographic.{bytes_decides, texts_ties}
 use Rattle.std.specs.Ordering.{is_eq}
 use Rattle.std.specs.declared.cmp.Ordering.TheVariants.{Equal}
 use Rattle.tm_syntax.specs.Named.{Named, find, name_cmp}
-use Rattle.tm_tables.proofs.Places.{find-read, find-gap}
-use Rattle.tm_tables.specs.Places.{IsNameAt}
+use Rattle.tm_scopes.proofs.Places.{find-read, find-gap}
+use Rattle.tm_scopes.specs.Places.{IsNameAt}
 use Rattle.tm_templates.specs.Templates.{Compiled}
 use Rattle.tm_templates.proofs.templates.Templates.entry.Goals as goal
 

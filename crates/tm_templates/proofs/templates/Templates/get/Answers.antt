@@ -1,7 +1,7 @@
 use Rattle.std.proofs.Common.{◌≡◌, Some, subst, sym}
 use Rattle.tm_syntax.specs.Named.{Named, find}
-use Rattle.tm_tables.proofs.Places.{find-read, find-gap}
-use Rattle.tm_tables.specs.Places.{IsNameAt}
+use Rattle.tm_scopes.proofs.Places.{find-read, find-gap}
+use Rattle.tm_scopes.specs.Places.{IsNameAt}
 use Rattle.tm_templates.specs.Templates.{Compiled}
 use Rattle.tm_templates.proofs.templates.Templates.get.Goals as goal
 

@@ -1,7 +1,7 @@
 use Rattle.std.proofs.Common.{is_ok, subst, sym, ◌∙◌}
 use Rattle.tm_syntax.specs.Named.{Named}
-use Rattle.tm_tables.proofs.Places.{written, written-ordered, added, added-ordered}
-use Rattle.tm_tables.specs.Places.{AreOrdered}
+use Rattle.tm_scopes.proofs.Places.{written, written-ordered, added, added-ordered}
+use Rattle.tm_scopes.specs.Places.{AreOrdered}
 use Rattle.tm_templates.specs.Templates.{Compiled, EachAccepted}
 use Rattle.tm_templates.proofs.Accepted.{added_accepted, written_accepted}
 use Rattle.tm_templates.proofs.templates.Templates.insert.Goals as goal

@@ -1,7 +1,7 @@
 use Rattle.std.proofs.Common.{subst, sym}
 use Rattle.tm_syntax.specs.Named.{Named}
-use Rattle.tm_tables.proofs.Places.{ordered-none}
-use Rattle.tm_tables.specs.Places.{AreOrdered}
+use Rattle.tm_scopes.proofs.Places.{ordered-none}
+use Rattle.tm_scopes.specs.Places.{AreOrdered}
 use Rattle.tm_templates.specs.Templates.{Compiled, EachAccepted}
 use Rattle.tm_templates.proofs.templates.Templates.new.Goals as goal
 

@@ -1,7 +1,7 @@
 use Rattle.std.proofs.Common.{ℕ, List, rules}
 use Rattle.std.proofs.lemmas.Fn.{always_returns_same}
 use Rattle.tm_syntax.specs.Named.{name_cmp}
-use Rattle.tm_tables.proofs.Places.{searched_in}
+use Rattle.tm_scopes.proofs.Places.{searched_in}
 use Rattle.tm_templates.specs.Templates.{Compiled}
 use Rattle.tm_templates.proofs.templates.Templates.place.Goals as goal
 

@@ -1,6 +1,6 @@
 use Rattle.std.proofs.Common.{length, refl, sym}
 use Rattle.std.proofs.lemmas.Option.{slice_get_read}
-use Rattle.tm_tables.proofs.Places.{stands_lent}
+use Rattle.tm_scopes.proofs.Places.{stands_lent}
 use Rattle.tm_templates.proofs.templates.Templates.place_from.Goals as goal
 
 pub returns-in-Some : goal.returns-in-Some

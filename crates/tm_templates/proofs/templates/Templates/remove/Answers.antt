@@ -1,8 +1,8 @@
 use Rattle.std.proofs.Common.{◌∙◌, ap, subst, sym}
 use Rattle.tm_syntax.specs.Named.{Named, find}
 use Rattle.tm_syntax.proofs.Named.{find_others, without_absent}
-use Rattle.tm_tables.proofs.Places.{find-gap, taken, taken-ordered, without-gap}
-use Rattle.tm_tables.specs.Places.{AreOrdered}
+use Rattle.tm_scopes.proofs.Places.{find-gap, taken, taken-ordered, without-gap}
+use Rattle.tm_scopes.specs.Places.{AreOrdered}
 use Rattle.tm_templates.specs.Templates.{Compiled, EachAccepted}
 use Rattle.tm_templates.proofs.Accepted.{taken_accepted}
 use Rattle.tm_templates.proofs.Gone.{gone}

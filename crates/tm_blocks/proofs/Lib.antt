@@ -1,0 +1,4 @@
+pub mod Listed
+pub mod Chain
+pub mod Hashes
+pub mod Alone

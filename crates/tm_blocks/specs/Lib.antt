@@ -1,0 +1,3 @@
+pub mod BlockNames
+pub mod Layers
+pub mod Lists

@@ -1,0 +1,255 @@
+//! The lists of blocks that a state has, their places, and the names of the templates that it loaded.
+ghost use Rattle.std.specs.Prelude.{◌≡◌, ◌+◌, ◌∷◌, ◌++◌, [], slice_get, List, Some, MatchOption, IfErr, IfOk, OnErr, OnOk};
+ghost use Rattle.tm_meaning.specs.Inheritance.{place_in};
+ghost use Rattle.tm_meaning.specs.declared.stream.TemplateId.{TemplateId as Template};
+ghost use Rattle.tm_syntax.specs.Named.{find, put};
+ghost use Rattle.tm_syntax.specs.Names.{is_among};
+ghost use Rattle.tm_blocks.specs.Lists.{IsListed, alone_in, listed_at, loaded_part, no_lists, with_each};
+ghost use Rattle.tm_values.specs.Answer.{OkOrOutOfMemory};
+ghost use Rattle.tm_values.specs.declared.error.ErrorKind.TheVariants.{OutOfMemory};
+
+use crate::block_names::BlockNames;
+use crate::loaded::Loaded;
+use std::alloc::{AllocError, Global};
+use std::marker::Model;
+use std::mem;
+use std::rc::Rc;
+use tm_meaning::TemplateId;
+use tm_scopes::NameTable;
+use tm_syntax::Name;
+use tm_values::{Error, ErrorKind};
+
+/// What is loaded, with an owner more. Fails by OutOfMemory alone.
+fn shared(alloc: Global, loaded: Loaded) -> Result<Rc<Loaded>, Error>
+    ensures { OkOrOutOfMemory result (λ made. made.value ≡ loaded) }
+{
+    match Rc::new(alloc, loaded) {
+        Ok(made) => Ok(made),
+        Err(_) => Err(Error::from(ErrorKind::OutOfMemory)),
+    }
+}
+
+/// The lists of blocks by name, the places in them that aren't the child's, and the names of the templates that were
+/// loaded, in order. Copies share the lists and the names, until one of them gets more. A contract sees all three.
+pub struct Lists {
+    loaded: Option<Rc<Loaded>>,
+    places: NameTable<usize>,
+}
+
+// By hand: one call for each owner, in place of a drop of each part.
+impl Drop for Lists {
+    fn drop(self) {
+        let Lists {
+            loaded: _loaded,
+            places: _places,
+        } = self;
+    }
+}
+
+impl Model for Lists {
+    ghost use Rattle.tm_blocks.specs.Lists.{ListsValue, loaded_in};
+
+    ghost Value = { ListsValue };
+
+    ghost view = { λ s. record {
+      blocks = (loaded_in s.loaded).blocks;
+      places = s.places;
+      loaded = (loaded_in s.loaded).names;
+    } };
+}
+
+impl Lists {
+    /// No lists and no names; this takes no memory.
+    pub fn new(alloc: Global) -> Lists
+        ensures { result ≡ no_lists }
+    {
+        Lists {
+            loaded: None,
+            places: NameTable::new(alloc),
+        }
+    }
+
+    /// The template at a place of the list of a name, where there is one, and whether it is alone there.
+    pub fn at(&self, name: &Name, place: usize) -> Option<(&TemplateId, bool)>
+        ensures { MatchOption result (listed_at name.now place self.now.blocks ≡ None)
+            (λ r. IsListed r.0.now r.1 name.now place self.now.blocks) }
+    {
+        match &self.loaded {
+            Some(loaded) => loaded.as_ref().at(name, place),
+            None => None,
+        }
+    }
+
+    /// The place after this one in the list of a name, toward the root, and the template there, where there is one.
+    pub fn after(&self, name: &Name, place: usize) -> Option<(usize, &TemplateId)>
+        ensures { MatchOption result (listed_at name.now (place + 1) self.now.blocks ≡ None)
+            (λ r. (r.0 ≡ place + 1) × ((l : List Template) × (find name.now self.now.blocks ≡ Some l)
+            × (slice_get l (place + 1) ≡ Some r.1.now))) }
+    {
+        match &self.loaded {
+            Some(loaded) => loaded.as_ref().after(name, place),
+            None => None,
+        }
+    }
+
+    /// The place in the list of a name.
+    pub fn place(&self, name: &str) -> usize
+        ensures { result ≡ place_in name.now self.now.places }
+    {
+        match self.places.get(name) {
+            Some(place) => *place,
+            None => 0,
+        }
+    }
+
+    /// Whether a name was loaded. Makes log n comparisons for n names.
+    pub fn is_loaded(&self, name: &str) -> bool
+        ensures { result ≡ is_among name.now self.now.loaded }
+    {
+        match &self.loaded {
+            Some(loaded) => loaded.as_ref().has(name),
+            None => false,
+        }
+    }
+
+    /// The places, with this one in the list of a name. Fails by OutOfMemory alone.
+    pub fn places_with(
+        &self,
+        alloc: Global,
+        name: Name,
+        place: usize,
+    ) -> Result<NameTable<usize>, Error>
+        ensures { OkOrOutOfMemory result (λ places. places ≡ put name place self.now.places) }
+    {
+        let mut places = self.places.copy(alloc)?;
+        places.insert(name, place)?;
+        Ok(places)
+    }
+
+    /// These are the places from here on; gives those that were.
+    pub fn replace_places(&mut self, places: NameTable<usize>) -> NameTable<usize>
+        ensures before { result ≡ self.old.places }
+        ensures now { self.new ≡ record self.old { places = places } }
+    {
+        mem::replace(&mut self.places, places)
+    }
+
+    /// These are the places from here on, and those that were stand in their place.
+    pub fn swap_places(&mut self, places: &mut NameTable<usize>)
+        ensures before { places.new ≡ self.old.places }
+        ensures now { self.new ≡ record self.old { places = places.old } }
+    {
+        mem::swap(&mut self.places, places);
+    }
+
+    /// A template's blocks of these names stand after those that are there. Fails by OutOfMemory alone, and then all
+    /// stays as it was.
+    pub fn append(
+        &mut self,
+        alloc: Global,
+        template: &TemplateId,
+        names: &Rc<BlockNames>,
+    ) -> Result<(), Error>
+        ensures ok { OnOk result (self.new ≡ record self.old {
+          blocks = with_each template.now names.now.value self.old.blocks;
+        }) }
+        ensures kind { IfErr result (λ e. e ≡ OutOfMemory ∷ []) }
+        ensures err { OnErr result (self.new ≡ self.old) }
+    {
+        if names.as_ref().is_empty() {
+            return Ok(());
+        }
+        if let Some(loaded) = &mut self.loaded {
+            if let Some(own) = Rc::get_mut(loaded) {
+                return own.append(template, names);
+            }
+        }
+        let mut own = self.copy_loaded(alloc)?;
+        own.append(template, names)?;
+        self.loaded = Some(shared(alloc, own)?);
+        Ok(())
+    }
+
+    /// The name is loaded from here on. Fails by OutOfMemory alone, and then all stays as it was.
+    pub fn add_loaded(&mut self, alloc: Global, name: Name) -> Result<(), Error>
+        ensures ok { OnOk result
+            (self.new ≡ record self.old { loaded = self.old.loaded ++ name ∷ [] }) }
+        ensures kind { IfErr result (λ e. e ≡ OutOfMemory ∷ []) }
+        ensures err { OnErr result (self.new ≡ self.old) }
+    {
+        if let Some(loaded) = &mut self.loaded {
+            if let Some(own) = Rc::get_mut(loaded) {
+                return own.add(alloc, name);
+            }
+        }
+        let mut own = self.copy_loaded(alloc)?;
+        own.add(alloc, name)?;
+        self.loaded = Some(shared(alloc, own)?);
+        Ok(())
+    }
+
+    /// The lists of a template's blocks alone, of these names, with no places; the names that were loaded stay. Fails by
+    /// OutOfMemory alone.
+    #[tactic(auto, using(crate::proofs::Alone::each_alone))]
+    pub fn own(
+        &self,
+        alloc: Global,
+        template: &TemplateId,
+        names: &Rc<BlockNames>,
+    ) -> Result<Lists, Error>
+        ensures { OkOrOutOfMemory result (λ own. own ≡ record {
+          blocks = alone_in template.now names.now.value;
+          places = [];
+          loaded = self.now.loaded;
+        }) }
+    {
+        let mut own = self.names_alone(alloc)?;
+        let has_no_blocks = names.as_ref().is_empty();
+        if has_no_blocks {
+            return Ok(own);
+        }
+        names.as_ref().ascend();
+        own.append(alloc, template, names)?;
+        Ok(own)
+    }
+
+    /// The names that were loaded, without lists and places. Fails by OutOfMemory alone.
+    fn names_alone(&self, alloc: Global) -> Result<Lists, Error>
+        ensures { OkOrOutOfMemory result
+            (λ alone. alone ≡ record no_lists { loaded = self.now.loaded }) }
+    {
+        let Some(loaded) = &self.loaded else {
+            return Ok(Lists::new(alloc));
+        };
+        let names = loaded.as_ref().names_alone(alloc)?;
+        Ok(Lists {
+            loaded: Some(shared(alloc, names)?),
+            places: NameTable::new(alloc),
+        })
+    }
+
+    /// A copy of what is loaded, which nothing else owns. Fails by OutOfMemory alone.
+    fn copy_loaded(&self, alloc: Global) -> Result<Loaded, Error>
+        ensures { OkOrOutOfMemory result (λ copy. copy ≡ loaded_part self.now) }
+    {
+        match &self.loaded {
+            Some(loaded) => loaded.as_ref().copy(alloc),
+            None => Ok(Loaded::new(alloc)),
+        }
+    }
+
+    /// The same lists and names, which are shared, and a copy of the places. Fails by OutOfMemory alone.
+    #[inline(always)]
+    pub fn copy(&self, alloc: Global) -> Result<Lists, Error>
+        ensures { OkOrOutOfMemory result (λ copy. copy ≡ self.now) }
+    {
+        let loaded = match &self.loaded {
+            Some(loaded) => Some(loaded.clone()?),
+            None => None,
+        };
+        Ok(Lists {
+            loaded,
+            places: self.places.copy(alloc)?,
+        })
+    }
+}

@@ -1,0 +1,5 @@
+use Rattle.std.proofs.Common.{rules}
+use Rattle.tm_objects.proofs.callable.CallableAnswer.value.Goals as goal
+
+pub returns : goal.returns
+returns c = search rules fits 100

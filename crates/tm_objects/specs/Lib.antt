@@ -1,0 +1,3 @@
+pub mod Language
+pub mod Stated
+pub mod Views

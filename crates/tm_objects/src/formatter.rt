@@ -1,0 +1,27 @@
+//! What writes values in place of the default formatter.
+ghost use Rattle.std.specs.Prelude.{List};
+ghost use Rattle.tm_meaning.specs.World.{Format};
+ghost use Rattle.tm_objects.specs.Stated.{IsFormatted};
+
+use crate::view::View;
+use std::alloc::Global;
+use tm_values::{Error, Value};
+
+/// An object of the caller that is asked what an emitted value is written as. What it means is a function of the
+/// value and of what it sees.
+pub trait Formatter: Drop {
+    ghost formats: { Self → Format };
+
+    /// The text that it states for a value, or the fault that it states; OutOfMemory where there is no memory for
+    /// it, alone or after EvalBlock, BadInclude or InvalidOperation.
+    fn format(&self, alloc: Global, value: &Value, view: &View<'_>) -> Result<String, Error>
+        ensures { IsFormatted result (formats self.now value.now view.now) };
+}
+
+impl Formatter for Box<dyn Formatter> {
+    ghost formats = { λ b. (Formatter-box b).formats b.value };
+
+    fn format(&self, alloc: Global, value: &Value, view: &View<'_>) -> Result<String, Error> {
+        (**self).format(alloc, value, view)
+    }
+}

@@ -1,0 +1,43 @@
+//! Callables that look at nothing but their arguments.
+ghost use Rattle.std.specs.Prelude.{◌≡◌, List};
+ghost use Rattle.tm_values.specs.Val.{Val};
+ghost use Rattle.tm_meaning.specs.World.{Stated};
+ghost use Rattle.tm_objects.specs.Stated.{IsStated};
+
+use crate::callable::{Callable, CallableAnswer};
+use crate::view::View;
+use std::alloc::Global;
+use tm_values::Value;
+
+/// What answers by its arguments alone.
+pub trait Answering: Drop {
+    ghost answers: { Self → List Val → Stated };
+
+    /// What it states of these arguments; OutOfMemory where there is no memory for it, alone or after
+    /// EvalBlock, BadInclude or InvalidOperation.
+    fn answer(&self, alloc: Global, args: &[Value]) -> CallableAnswer
+        ensures { IsStated result (answers self.now args.now) };
+}
+
+/// A callable of what answers by its arguments alone.
+#[derive(Drop)]
+pub struct Plain<F: Drop> {
+    answering: F,
+}
+
+impl<F: Drop> Plain<F> {
+    /// A callable of this.
+    pub fn new(answering: F) -> Plain<F>
+        ensures { result ≡ record { answering = answering } }
+    {
+        Plain { answering }
+    }
+}
+
+impl<F: Answering> Callable for Plain<F> {
+    ghost answers = { λ p args view. F.answers p.answering args };
+
+    fn call(&self, alloc: Global, args: &[Value], _view: &View<'_>) -> CallableAnswer {
+        self.answering.answer(alloc, args)
+    }
+}

@@ -1,0 +1,15 @@
+use Rattle.std.proofs.Common.{arith, ap, length}
+use Rattle.tm_meaning.specs.World.{Scopes}
+use Rattle.tm_scopes.proofs.Framed.{height-framed}
+use Rattle.tm_scopes.proofs.context.Context.depth.Goals as goal
+
+pub returns : goal.returns
+returns c =
+    omega (
+      arith,
+      c.len.ensures,
+      height-framed c.self.inside.marks.items c.self.inside.pairs.items,
+      c.saturating_add.ensures,
+      ap (λ (scopes : Scopes). length scopes.frames) c.self.view_is,
+      ap (λ (scopes : Scopes). scopes.outer) c.self.view_is,
+    )

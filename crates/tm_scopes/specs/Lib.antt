@@ -1,0 +1,7 @@
+pub mod Closures
+pub mod Found
+pub mod Known
+pub mod Marks
+pub mod Pairs
+pub mod Places
+pub mod Scopes

@@ -1,5 +1,0 @@
-use Rattle.tm_tables.proofs.Hashes.{ascends}
-use Rattle.tm_tables.proofs.block_names.BlockNames.ascend.Goals as goal
-
-pub returns : goal.returns
-returns c = ascends c.self.inside.by_hash.items c.args.self.now c.self.view_is

@@ -1,5 +1,0 @@
-use Rattle.std.proofs.Common.{◌≡◌, take}
-use Rattle.tm_tables.proofs.loaded.copy_layers.Given as goal
-
-abbrev pub invariant-loop-layer : goal.invariant-loop-layer
-invariant-loop-layer l = l.copy.items ≡ take l.layer-index l.layers

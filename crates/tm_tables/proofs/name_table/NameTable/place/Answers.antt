@@ -1,5 +1,0 @@
-use Rattle.tm_tables.proofs.Places.{find-gap}
-use Rattle.tm_tables.proofs.name_table.NameTable.place.Goals as goal
-
-pub returns-in-Err : goal.returns-in-Err
-returns-in-Err t c = find-gap c.args.name.now c.args.self.now c.in-Err.field-0 c.in-Err.ensures

@@ -1,5 +1,0 @@
-use Rattle.std.proofs.Common.{rules}
-use Rattle.tm_tables.proofs.objects.Objects.pop.Goals as goal
-
-pub returns : goal.returns
-returns g c = search rules fits 100

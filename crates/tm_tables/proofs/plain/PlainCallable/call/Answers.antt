@@ -1,5 +1,0 @@
-use Rattle.std.proofs.Common.{rules}
-use Rattle.tm_tables.proofs.plain.PlainCallable.call.Goals as goal
-
-pub returns : goal.returns
-returns g c = search rules fits 100

@@ -1,5 +1,0 @@
-use Rattle.std.proofs.Common.{rules}
-use Rattle.tm_tables.proofs.view.ViewRecords.following_item.Goals as goal
-
-pub returns : goal.returns
-returns c = search rules fits 100
