@@ -1,7 +1,7 @@
 -- What each instruction does once it is paid for.
 use Rattle.std.specs.Prelude.{ℕ, zero, suc, ◌+◌, pos, List, [], ◌∷◌, ◌++◌, length, nat_lt, nat_eq, Option, Some, None, Bool, true, false}
 use Rattle.std.specs.Prelude.{◌&&◌, slice_get, if◌then◌else◌}
-use Rattle.tm_values.specs.Val.{Val, undefined, none, boolean, number, list, list_of, text_in}
+use Rattle.tm_values.specs.Val.{Val, undefined, none, boolean, number}
 use Rattle.tm_values.specs.declared.escape.AutoEscape.{AutoEscape}
 use Rattle.tm_syntax.specs.declared.instruction.CaptureMode.{CaptureMode}
 use Rattle.tm_syntax.specs.declared.instruction.LoopFlags.{LoopFlags}

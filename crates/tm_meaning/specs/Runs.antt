@@ -1,17 +1,16 @@
 -- What the runs of streams mean, and renders.
 use Rattle.std.specs.Prelude.{ℕ, zero, suc, ◌+◌, ◌^◌, ◌-◌, List, [], ◌∷◌, Option, Some, None, Bool, true, false}
 use Rattle.std.specs.Prelude.{nat_eq, slice_get, length}
-use Rattle.tm_values.specs.Val.{Val, number}
+use Rattle.tm_values.specs.Val.{Val}
 use Rattle.tm_values.specs.declared.error.ErrorKind.{ErrorKind}
 use Rattle.tm_values.specs.declared.error.ErrorKind.TheVariants.{InvalidOperation}
-use Rattle.tm_syntax.specs.Forms.{item}
 use Rattle.tm_syntax.specs.Loops.{first_numbers, FoundLoop, stream_loops, FoundMacro, stream_macros}
 use Rattle.tm_meaning.specs.World.{choose, TemplateId, StreamId, root_of, World, HostValue, Res, Good, Bad, tick, template_at, plain_scope}
-use Rattle.tm_meaning.specs.Calls.{whole, macro_of, has, runs, own_blocks}
+use Rattle.tm_meaning.specs.Calls.{whole, macro_of, own_blocks}
 use Rattle.tm_meaning.specs.Inheritance.{names_left}
 use Rattle.tm_meaning.specs.Tree.{StreamTree, statements, expression, empty, Trees}
-use Rattle.tm_meaning.specs.Meaning.{Run, Ending, left_by, Outcome, Nests, Again, Under, ended, use_it, after, block_tag, eval, assign}
-use Rattle.tm_meaning.specs.Meaning.{take_parameters, call, loop_over, exec_all, done, fault}
+use Rattle.tm_meaning.specs.Meaning.{Run, Ending, left_by, Outcome, Nests, Again, Under, ended, use_it, block_tag, eval, assign}
+use Rattle.tm_meaning.specs.Meaning.{take_parameters, loop_over, exec_all, done, fault}
 
 -- ---------------------------------------------------------------- runs
 abbrev pub failed : ErrorKind → Run → List ℕ → World → Outcome

@@ -1,0 +1,34 @@
+use Rattle.std.proofs.Common.{refl}
+use Rattle.std.specs.Fmt.{digits}
+use Rattle.tm_rows.proofs.block_trees.layout_rows.Goals as goal
+
+pub returns-clause-base : goal.returns-clause-base
+unfolding digits
+returns-clause-base c = (refl, refl)
+
+pub returns-clause-eleven : goal.returns-clause-eleven
+returns-clause-eleven c = (refl, refl)
+
+pub returns-clause-nine : goal.returns-clause-nine
+returns-clause-nine c = (refl, refl)
+
+pub returns-clause-name : goal.returns-clause-name
+returns-clause-name c = (refl, refl)
+
+pub returns-clause-mid : goal.returns-clause-mid
+returns-clause-mid c = (refl, refl)
+
+pub returns-clause-over_mid : goal.returns-clause-over_mid
+returns-clause-over_mid c = (refl, refl)
+
+pub returns-clause-joined : goal.returns-clause-joined
+returns-clause-joined c = (refl, refl)
+
+pub returns-clause-twice : goal.returns-clause-twice
+returns-clause-twice c = (refl, refl)
+
+pub returns-clause-within : goal.returns-clause-within
+returns-clause-within c = (refl, refl, refl, refl)
+
+pub returns-clause-too_deep : goal.returns-clause-too_deep
+returns-clause-too_deep c = (refl, refl, refl, refl)

@@ -1,0 +1,16 @@
+pub mod Rows
+pub mod LoopRows
+pub mod CallRows
+pub mod FilterRows
+pub mod FurtherRows
+pub mod MacroRows
+pub mod MacroTrees
+pub mod BlockTrees
+pub mod BlockRows
+pub mod IncludeTrees
+pub mod ExpressionRows
+pub mod SpreadRows
+pub mod ObjectRows
+pub mod OperatorRows
+pub mod GuardRows
+pub mod GuardTrees
