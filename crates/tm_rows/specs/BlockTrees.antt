@@ -90,10 +90,6 @@ laid_out body = among layouts body
 abbrev pub with_q : Body → Body → Page
 with_q q body = among (template (codes "q") q ∷ []) body
 
--- It writes this text and fails with this chain, after so many charges.
-abbrev pub FailsAfter : Page → List ℕ → List ErrorKind → ℕ → Type 0
-FailsAfter p t chain charges = Says p 1000 t (1000 - charges) chain
-
 -- the name of the template after the page, and the places of its lists of blocks
 abbrev pub PageEndsIn : Page → List ℕ → Type 0
 PageEndsIn p name = After (λ w. name_of (host_of p) w ≡ name) p

@@ -140,14 +140,31 @@ ran p fuel = said_by (ended p fuel)
 abbrev pub Says : Page → ℕ → List ℕ → ℕ → List ErrorKind → Type 0
 Says p fuel t left chain = (meant p (Some fuel) ≡ said t left chain) × (ran p (Some fuel) ≡ said t left chain)
 
--- The same under each of these fuels, of which none is left.
-abbrev pub SaysUnderEach : Page → List ℕ → List ℕ → List ErrorKind → Type 0
-SaysUnderEach p fuels t chain =
-    (each (λ n. meant p (Some n)) fuels ≡ each (λ n. said t 0 chain) fuels) × (each (λ n. ran p (Some n)) fuels ≡ each (λ n. said t 0 chain) fuels)
+-- the fuel that pays for this many charges and no more
+abbrev pub fuel_for : ℕ → ℕ
+fuel_for charges = charges
 
--- The same with so much fuel that it isn't out: how many charges there are.
+-- The page pays just these charges and writes this text.
+abbrev pub Pays : Page → ℕ → List ℕ → Type 0
+Pays p charges t = Says p (fuel_for charges) t 0 []
+
+-- The page pays these charges, writes this text, and stops as no fuel is left for the next charge.
+abbrev pub StopsAt : Page → ℕ → List ℕ → Type 0
+StopsAt p charges t = Says p (fuel_for charges) t 0 (kind.OutOfFuel ∷ [])
+
+-- The same, whichever of these charges is the last that is paid.
+abbrev pub StopsAtEach : Page → List ℕ → List ℕ → Type 0
+StopsAtEach p charges t =
+    (each (λ n. meant p (Some (fuel_for n))) charges ≡ each (λ n. said t 0 (kind.OutOfFuel ∷ [])) charges)
+    × (each (λ n. ran p (Some (fuel_for n))) charges ≡ each (λ n. said t 0 (kind.OutOfFuel ∷ [])) charges)
+
+-- The page writes this text and pays this many charges, with fuel to spare.
 abbrev pub Charges : Page → List ℕ → ℕ → Type 0
 Charges p t charges = Says p 1000 t (1000 - charges) []
+
+-- The page fails with this chain after this text and this many charges, with fuel to spare.
+abbrev pub FailsAfter : Page → List ℕ → List ErrorKind → ℕ → Type 0
+FailsAfter p t chain charges = Says p 1000 t (1000 - charges) chain
 
 abbrev pub Fails : Page → List ℕ → List ErrorKind → Type 0
 Fails p t chain = ((meant p None).text ≡ t) × ((meant p None).chain ≡ chain) × ((ran p None).text ≡ t) × ((ran p None).chain ≡ chain)

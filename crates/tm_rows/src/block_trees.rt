@@ -9,10 +9,10 @@ ghost use Rattle.tm_syntax.specs.declared.tree.Stmt.{EmitBlock, EmitSuper};
 ghost use Rattle.tm_syntax.specs.declared.instruction.CaptureMode.TheVariants.{Capture};
 ghost use Rattle.tm_syntax.specs.declared.instruction.Instruction.TheVariants as i;
 ghost use Rattle.tm_rows.specs.BlockRows.{run_before, extending, capital, one_left};
-ghost use Rattle.tm_rows.specs.Rows.{Charges, Fails, Says, Shows, said, literal, literal_number, raw, one, x};
+ghost use Rattle.tm_rows.specs.Rows.{Charges, Fails, FailsAfter, Says, Shows, StopsAt, fuel_for, said, literal, literal_number, raw, one, x};
 ghost use Rattle.tm_rows.specs.FilterRows.{with_limit};
 ghost use Rattle.tm_rows.specs.MacroTrees.{called, m, paged};
-ghost use Rattle.tm_rows.specs.BlockTrees.{FailsAfter, PageEndsIn, AtChildren, of_base, of_mid, over_mid, over_mid_joined, mid_alone};
+ghost use Rattle.tm_rows.specs.BlockTrees.{PageEndsIn, AtChildren, of_base, of_mid, over_mid, over_mid_joined, mid_alone};
 ghost use Rattle.tm_rows.specs.BlockTrees.{of_either, in_round, in_block_before, in_macro, after_macro, extends_only, two_parents};
 ghost use Rattle.tm_rows.specs.BlockTrees.{in_capture, extends_itself, of_chain, of_supers, self_after, only_block, super_of_one};
 ghost use Rattle.tm_rows.specs.BlockTrees.{super_member, self_of_one, self_as_value, self_while_waiting, super_as_value};
@@ -24,8 +24,8 @@ ghost use Rattle.tm_rows.specs.BlockTrees.{macro_of_child, escaped_by_child, cal
 /// state after has the last parent's name.
 pub fn layout_rows()
     ensures base { Charges of_base (codes "B:[x" ++ decimal 1 ++ codes "]") 13 }
-    ensures eleven { Says of_base 11 (codes "B:[x") 0 (OutOfFuel ∷ []) }
-    ensures nine { Says of_base 9 (codes "B:[") 0 (EvalBlock ∷ OutOfFuel ∷ []) }
+    ensures fuel_ends_in_the_block { StopsAt of_base 11 (codes "B:[x") }
+    ensures fuel_ends_in_the_parent_block { Says of_base (fuel_for 9) (codes "B:[") 0 (EvalBlock ∷ OutOfFuel ∷ []) }
     ensures name { PageEndsIn of_base (codes "base") }
     ensures mid { Charges mid_alone (codes "B:mx") 8 }
     ensures over_mid { Charges over_mid (codes "B:cmx") 11 }

@@ -3,7 +3,7 @@ ghost use Rattle.std.specs.Prelude.{[], ◌∷◌, codes, pos, true, false};
 ghost use Rattle.tm_values.specs.Val.{boolean, number, undefined};
 ghost use Rattle.tm_values.specs.declared.error.ErrorKind.TheVariants.{InvalidOperation, OutOfFuel, UndefinedError};
 ghost use Rattle.tm_values.specs.declared.error.ErrorKind.TheVariants.{UnknownBlock, UnknownFilter, UnknownFunction};
-ghost use Rattle.tm_rows.specs.Rows.{Charges, x};
+ghost use Rattle.tm_rows.specs.Rows.{Charges, fuel_for, x};
 ghost use Rattle.tm_rows.specs.ExpressionRows.{Ends, EvaluatesTo, EvaluationFails, alone, sum, between, without_else, member_of_none};
 ghost use Rattle.tm_rows.specs.ExpressionRows.{super_alone, self_alone, loop_alone, without_filter, including_one};
 
@@ -11,8 +11,8 @@ ghost use Rattle.tm_rows.specs.ExpressionRows.{super_alone, self_alone, loop_alo
 /// the silent undefined value.
 pub fn expression_rows()
     ensures sum { EvaluatesTo sum (number (pos 2)) 3 }
-    ensures three { Ends sum 3 (number (pos 2) ∷ []) 0 [] }
-    ensures two { Ends sum 2 [] 0 (OutOfFuel ∷ []) }
+    ensures paid { Ends sum (fuel_for 3) (number (pos 2) ∷ []) 0 [] }
+    ensures before_the_sum { Ends sum (fuel_for 2) [] 0 (OutOfFuel ∷ []) }
     ensures between { EvaluatesTo between (boolean true) 7 }
     ensures name { EvaluatesTo (alone x) (undefined false) 1 }
     ensures without_else { EvaluatesTo without_else (undefined true) 3 }

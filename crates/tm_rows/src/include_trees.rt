@@ -9,14 +9,14 @@ ghost use Rattle.tm_values.specs.declared.error.ErrorKind.TheVariants.{InvalidOp
 ghost use Rattle.tm_values.specs.declared.error.ErrorKind.TheVariants.{TemplateNotFound};
 ghost use Rattle.tm_values.specs.declared.error.ErrorKind.TheVariants.{UndefinedError};
 ghost use Rattle.tm_values.specs.declared.error.ErrorKind.TheVariants.{UnknownFilter};
-ghost use Rattle.tm_rows.specs.Rows.{Charges, Fails, Restores, Says, Shows, literal};
+ghost use Rattle.tm_rows.specs.Rows.{Charges, Fails, FailsAfter, Restores, Says, Shows, fuel_for, literal};
 ghost use Rattle.tm_rows.specs.Rows.{literal_number, said, x};
 ghost use Rattle.tm_rows.specs.FilterRows.{with_limit};
 ghost use Rattle.tm_syntax.specs.declared.instruction.Instruction.TheVariants as i;
 ghost use Rattle.tm_rows.specs.BlockRows.{one_left, run_before, closures_before, own_before};
 ghost use Rattle.tm_rows.specs.BlockRows.{stores_j, imports_under_closure, negated_text};
 ghost use Rattle.tm_rows.specs.IncludeTrees.{includes_within, sets_apart, encloses_apart, sees_loop};
-ghost use Rattle.tm_rows.specs.BlockTrees.{PageEndsIn, FailsAfter, GivesTwice};
+ghost use Rattle.tm_rows.specs.BlockTrees.{PageEndsIn, GivesTwice};
 ghost use Rattle.tm_rows.specs.IncludeTrees.{ChargesOf, bad_includes, beside_itself};
 ghost use Rattle.tm_rows.specs.IncludeTrees.{block_heard, block_unheard, blocks_apart};
 ghost use Rattle.tm_rows.specs.IncludeTrees.{child_twice, closure_again, closure_apart};
@@ -37,7 +37,7 @@ ghost use Rattle.tm_rows.specs.IncludeTrees.{super_of_another};
 /// page's scopes, name and escape are there after it.
 pub fn include_rows()
     ensures text { Charges (including (codes "i")) (codes "ab" ++ decimal 1) 5 }
-    ensures three { Says (including (codes "i")) 3 (codes "ab") 0 (BadInclude ∷ OutOfFuel ∷ []) }
+    ensures fuel_ends_inside { Says (including (codes "i")) (fuel_for 3) (codes "ab") 0 (BadInclude ∷ OutOfFuel ∷ []) }
     ensures within { Shows (with_limit 12 (including (codes "i"))) (codes "ab" ++ decimal 1) }
     ensures too_deep { Fails (with_limit 11 (including (codes "i"))) [] (InvalidOperation ∷ []) }
     ensures nested { Shows (with_limit 23 includes_within) (codes "ab" ++ decimal 1) }

@@ -3,9 +3,9 @@ ghost use Rattle.std.specs.Prelude.{[], ◌∷◌, ◌++◌, true, false, codes,
 ghost use Rattle.std.specs.Fmt.{decimal};
 ghost use Rattle.tm_values.specs.Val.{boolean, function, map, no_pairs, number};
 ghost use Rattle.tm_values.specs.declared.error.ErrorKind.TheVariants.{CannotUnpack, InvalidOperation, MissingArgument, UndefinedError};
-ghost use Rattle.tm_values.specs.declared.error.ErrorKind.TheVariants.{UnknownFunction, UnknownMethod, OutOfFuel, WriteFailure, BadStream};
+ghost use Rattle.tm_values.specs.declared.error.ErrorKind.TheVariants.{UnknownFunction, UnknownMethod, WriteFailure, BadStream};
 ghost use Rattle.tm_values.specs.declared.error.ErrorKind.TheVariants.{OutOfMemory};
-ghost use Rattle.tm_rows.specs.Rows.{Says, SaysUnderEach, Charges, Shows, Fails, LeavesNames, Lacks, Restores, empty, text_alone, two_names};
+ghost use Rattle.tm_rows.specs.Rows.{Pays, StopsAt, StopsAtEach, Charges, Shows, Fails, FailsAfter, LeavesNames, Lacks, Restores, empty, text_alone, two_names};
 ghost use Rattle.tm_rows.specs.Rows.{one_name, nothing, with_value, hello, either_text, of_three, empty_condition};
 ghost use Rattle.tm_rows.specs.Rows.{shown, a, a_and_b_c, a_or_x, not_equal, a_b, literal_number, three_in_a_row};
 ghost use Rattle.tm_rows.specs.Rows.{false_before_fault, no_value, one_condition, two_conditions, in_block};
@@ -45,17 +45,17 @@ ghost use Rattle.tm_values.specs.declared.error.ErrorKind.TheVariants.{BadStream
 /// `Hello {{ name }}!` with the name World takes 4 charges; with fewer units of fuel it ends where the fuel does.
 pub fn hello_rows()
     ensures charges { Charges hello (codes "Hello World!") 4 }
-    ensures four { Says hello 4 (codes "Hello World!") 0 [] }
-    ensures three { Says hello 3 (codes "Hello World") 0 (OutOfFuel ∷ []) }
-    ensures two { Says hello 2 (codes "Hello ") 0 (OutOfFuel ∷ []) }
-    ensures one { Says hello 1 (codes "Hello ") 0 (OutOfFuel ∷ []) }
-    ensures zero { Says hello 0 [] 0 (OutOfFuel ∷ []) }
+    ensures paid { Pays hello 4 (codes "Hello World!") }
+    ensures before_the_mark { StopsAt hello 3 (codes "Hello World") }
+    ensures before_the_emission { StopsAt hello 2 (codes "Hello ") }
+    ensures before_the_look_up { StopsAt hello 1 (codes "Hello ") }
+    ensures before_the_text { StopsAt hello 0 [] }
     ensures no_fuel_set { Shows hello (codes "Hello World!") }
 {}
 
 /// A template with nothing in it, `x`, and `{{ "}}" }}`, whose tree is the same with brackets round the literal.
 pub fn text_rows()
-    ensures empty { Says empty 0 [] 0 [] }
+    ensures empty { Pays empty 0 [] }
     ensures text { Charges (text_alone (codes "x")) (codes "x") 1 }
     ensures literal { Charges (shown (literal (codes "}}")) nothing) (codes "}}") 2 }
 {}
@@ -63,14 +63,12 @@ pub fn text_rows()
 /// `{{ a }}{{ b }}` with the names A and B, and with x and an undefined one, takes 4
 /// charges; with fewer units of fuel it ends where the fuel does.
 pub fn two_names_rows()
-    ensures four { Says two_names 4 (codes "AB") 0 [] }
-    ensures three { Says two_names 3 (codes "A") 0 (OutOfFuel ∷ []) }
-    ensures two { Says two_names 2 (codes "A") 0 (OutOfFuel ∷ []) }
-    ensures one { Says two_names 1 [] 0 (OutOfFuel ∷ []) }
-    ensures charges_of_one { Charges one_name (codes "x") 4 }
-    ensures three_of_one { Says one_name 3 (codes "x") 0 (OutOfFuel ∷ []) }
-    ensures two_of_one { Says one_name 2 (codes "x") 0 (OutOfFuel ∷ []) }
-    ensures one_of_one { Says one_name 1 [] 0 (OutOfFuel ∷ []) }
+    ensures paid { Pays two_names 4 (codes "AB") }
+    ensures after_the_first { StopsAtEach two_names (2 ∷ 3 ∷ []) (codes "A") }
+    ensures before_the_first { StopsAt two_names 1 [] }
+    ensures undefined_paid { Charges one_name (codes "x") 4 }
+    ensures undefined_not_reached { StopsAtEach one_name (2 ∷ 3 ∷ []) (codes "x") }
+    ensures before_the_only_text { StopsAt one_name 1 [] }
 {}
 
 /// `{% if a %}x{% else %}y{% endif %}`, `{% if a %}1{% elif b %}2{% else %}3{% endif %}` and `{% if a %}{% endif %}`.
@@ -116,7 +114,7 @@ pub fn block_rows()
     ensures charges { Charges (in_block 500) (codes "xy") 5 }
     ensures deep_enough { Charges (in_block 2) (codes "xy") 5 }
     ensures too_deep { Fails (in_block 1) [] (InvalidOperation ∷ []) }
-    ensures out_of_fuel { Says (in_block 500) 2 (codes "x") 0 (OutOfFuel ∷ []) }
+    ensures out_of_fuel { StopsAt (in_block 500) 2 (codes "x") }
     ensures not_reached { Charges block_not_reached (codes "[") 3 }
     ensures fault { Fails fault_in_block (codes "x") (UnknownFunction ∷ []) }
     ensures restores { Restores fault_in_block }
@@ -138,7 +136,7 @@ pub fn scope_rows()
 /// and how texts are escaped that a set block takes or that are emitted under `{% autoescape e %}`.
 pub fn capture_rows()
     ensures set_block { Charges set_block (codes "a" ++ decimal 1) 7 }
-    ensures fuel_ends_inside { Says set_block 2 [] 0 (OutOfFuel ∷ []) }
+    ensures fuel_ends_inside { StopsAt set_block 2 [] }
     ensures fault_inside { Fails fault_in_capture (codes "b") (UnknownFunction ∷ []) }
     ensures not_unpacked { Fails set_block_of_two [] (CannotUnpack ∷ []) }
     ensures not_safe { Charges (set_under (literal_truth false)) (codes "&lt;") 7 }
@@ -152,21 +150,10 @@ pub fn capture_rows()
 /// `{% for x in [1,2] %}{{ x }}{% endfor %}` with each fuel up to 14, loops without items, that are left or go on early, and `loop`.
 pub fn loop_rows()
     ensures charges { Charges each_number (decimal 1 ++ decimal 2) 14 }
-    ensures enough { Says each_number 14 (decimal 1 ++ decimal 2) 0 [] }
-    ensures last { Says each_number 13 (decimal 1 ++ decimal 2) 0 (OutOfFuel ∷ []) }
-    ensures twelve { Says each_number 12 (decimal 1 ++ decimal 2) 0 (OutOfFuel ∷ []) }
-    ensures eleven { Says each_number 11 (decimal 1) 0 (OutOfFuel ∷ []) }
-    ensures ten { Says each_number 10 (decimal 1) 0 (OutOfFuel ∷ []) }
-    ensures nine { Says each_number 9 (decimal 1) 0 (OutOfFuel ∷ []) }
-    ensures eight { Says each_number 8 (decimal 1) 0 (OutOfFuel ∷ []) }
-    ensures seven { Says each_number 7 (decimal 1) 0 (OutOfFuel ∷ []) }
-    ensures six { Says each_number 6 [] 0 (OutOfFuel ∷ []) }
-    ensures five { Says each_number 5 [] 0 (OutOfFuel ∷ []) }
-    ensures four { Says each_number 4 [] 0 (OutOfFuel ∷ []) }
-    ensures three { Says each_number 3 [] 0 (OutOfFuel ∷ []) }
-    ensures two { Says each_number 2 [] 0 (OutOfFuel ∷ []) }
-    ensures one { Says each_number 1 [] 0 (OutOfFuel ∷ []) }
-    ensures zero { Says each_number 0 [] 0 (OutOfFuel ∷ []) }
+    ensures paid { Pays each_number 14 (decimal 1 ++ decimal 2) }
+    ensures after_both { StopsAtEach each_number (12 ∷ 13 ∷ []) (decimal 1 ++ decimal 2) }
+    ensures after_the_first { StopsAtEach each_number (7 ∷ 8 ∷ 9 ∷ 10 ∷ 11 ∷ []) (decimal 1) }
+    ensures before_the_first { StopsAtEach each_number (below 7) [] }
     ensures no_round { Charges no_round (codes "E") 4 }
     ensures broken { Charges broken_round [] 6 }
     ensures capture { Charges break_in_capture (codes "[]") 11 }
@@ -180,7 +167,7 @@ pub fn loop_rows()
 /// holds for none, and what `loop` is in the body and in the condition.
 pub fn loop_condition_rows()
     ensures alone { Charges chosen_alone (decimal 2) 29 }
-    ensures last { Says chosen_alone 28 (decimal 2) 0 (OutOfFuel ∷ []) }
+    ensures last { StopsAt chosen_alone 28 (decimal 2) }
     ensures chosen { Charges (chosen 1) (decimal 2) 30 }
     ensures none { Charges (chosen 2) (codes "E") 23 }
     ensures index { Charges chosen_index (decimal 1) 30 }
@@ -249,7 +236,7 @@ pub fn spread_rows()
     ensures both { Charges sum_of_both (decimal 3) 7 }
     ensures undefined { Charges (sum_of_items x) (decimal 0) 4 }
     ensures strict { Charges (under Strict (sum_of_items x)) (decimal 0) 4 }
-    ensures number { Says (sum_of_items (literal_number 5)) 1000 [] 998 (InvalidOperation ∷ []) }
+    ensures number { FailsAfter (sum_of_items (literal_number 5)) [] (InvalidOperation ∷ []) 2 }
     ensures filter { Charges spread_to_filter (codes "b") 7 }
 {}
 
@@ -272,8 +259,8 @@ pub fn spread_keyword_rows()
 /// `{{ [sum][0](1, 2) }}`, `{{ sum(1)(2) }}` and `{{ "x"() }}`.
 pub fn callee_rows()
     ensures item { Charges called_item (decimal 3) 8 }
-    ensures number { Says called_number 1000 [] 996 (InvalidOperation ∷ []) }
-    ensures text { Says called_text 1000 [] 998 (InvalidOperation ∷ []) }
+    ensures number { FailsAfter called_number [] (InvalidOperation ∷ []) 4 }
+    ensures text { FailsAfter called_text [] (InvalidOperation ∷ []) 2 }
 {}
 
 /// `{% filter upper %}a{{ "1" }}b{% endfilter %}`, `{% filter upper|substr(1) %}ab{% endfilter %}`,
@@ -288,7 +275,7 @@ pub fn filter_block_rows()
     ensures safe { Charges safe_in_html (codes "<b>&lt;i&gt;") 7 }
     ensures set_block { Charges set_filtered (codes "B") 8 }
     ensures broken { Charges break_in_filter (codes "!") 8 }
-    ensures fuel_ends_inside { Says two_filters 4 [] 0 (OutOfFuel ∷ []) }
+    ensures fuel_ends_inside { StopsAt two_filters 4 [] }
     ensures fault_inside { Fails fault_in_filter (codes "a") (UnknownFilter ∷ []) }
 {}
 
@@ -404,7 +391,7 @@ pub fn recursion_rows()
     ensures tree { Shows tree_in_place (codes "1(2())3()") }
     ensures as_value { Shows tree_as_value (codes "1[2[]]3[]") }
     ensures after_its_end { Shows called_after_its_end (codes "123") }
-    ensures unwritten { SaysUnderEach line_as_value (below 22) [] (OutOfFuel ∷ []) }
-    ensures written { SaysUnderEach line_as_value (22 ∷ 23 ∷ []) (codes "12") (OutOfFuel ∷ []) }
-    ensures paid { Says line_as_value 24 (codes "12") 0 [] }
+    ensures unwritten { StopsAtEach line_as_value (below 22) [] }
+    ensures written { StopsAtEach line_as_value (22 ∷ 23 ∷ []) (codes "12") }
+    ensures paid { Pays line_as_value 24 (codes "12") }
 {}

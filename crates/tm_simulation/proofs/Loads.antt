@@ -11,7 +11,7 @@ use Rattle.tm_meaning.specs.Inheritance.{load, names_left}
 use Rattle.tm_meaning.specs.Meaning.{Run, so_far, use_it}
 use Rattle.tm_meaning.specs.declared.stream.TemplateId.{TemplateId}
 use Rattle.tm_simulation.specs.Chains.{Arises, by_join}
-use Rattle.tm_simulation.proofs.Parents.{count_loaded}
+use Rattle.tm_meaning.proofs.Loaded.{count_loaded}
 use Rattle.tm_simulation.proofs.Advances.{Advances, Kept, advances_same}
 use Rattle.tm_simulation.proofs.RunAdvances.{loading_kept}
 use Rattle.tm_simulation.proofs.Gives.{Gives, OutcomeKeeps, parents_left, ends_from, ends_fault, refused_arises}

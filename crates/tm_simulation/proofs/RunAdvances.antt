@@ -14,7 +14,8 @@ use Rattle.tm_meaning.specs.Calls.{scopes_after}
 use Rattle.tm_meaning.specs.declared.stream.TemplateId.{TemplateId}
 use Rattle.tm_meaning.specs.declared.mark.LoopMark.{LoopMark}
 use Rattle.tm_simulation.specs.Kept.{shape, shapes, Differs, in_closure_too, but}
-use Rattle.tm_simulation.proofs.Parents.{blocks_same, blocks_after, names_same, count_fewer}
+use Rattle.tm_simulation.proofs.Parents.{blocks_same, blocks_after, names_same}
+use Rattle.tm_meaning.proofs.Loaded.{count_fewer}
 use Rattle.tm_meaning.specs.Inheritance.{with_blocks, names_left}
 use Rattle.tm_meaning.specs.World.{HostValue, Template}
 use Rattle.tm_meaning.specs.declared.stream.TemplateId.TheVariants.{Entry as entry}

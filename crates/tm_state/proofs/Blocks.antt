@@ -1,18 +1,16 @@
 -- The parents that are loaded, and the blocks after those that run.
-use Rattle.std.proofs.Common.{◌≡◌, ◌∙◌, ◌+◌, ◌-◌, ◌≤◌, ℕ, suc, List, [], ◌∷◌, ◌++◌, length, Some, Bool, true, false, refl, sym, ap, arith, cond, subst}
-use Rattle.std.specs.Prelude.{◌||◌, drop, if◌then◌else◌, slice_get}
+use Rattle.std.proofs.Common.{◌≡◌, ◌∙◌, ◌+◌, ◌-◌, ◌≤◌, ℕ, List, [], ◌∷◌, ◌++◌, length, Some, false, refl, sym, ap, arith, subst}
+use Rattle.std.specs.Prelude.{drop, slice_get}
 use Rattle.std.specs.Borrow.{Bor}
 use Rattle.std.specs.declared.alloc.Global.{Global}
 use Rattle.std.specs.declared.rc.Rc.{Rc}
-use Rattle.std.specs.BTreeMap.{is_at}
 use Rattle.std.specs.Map.{keys_of}
-use Rattle.std.proofs.lemmas.Slice.Eq.{bytes_eq-Decides}
-use Rattle.tm_syntax.specs.Named.{Named, name_cmp, same_name, find}
+use Rattle.tm_syntax.specs.Named.{Named, find}
 use Rattle.tm_syntax.specs.Names.{is_among}
-use Rattle.tm_syntax.proofs.Named.{same_text}
+use Rattle.tm_meaning.proofs.Loaded.{count_loaded}
 use Rattle.tm_values.specs.Val.{undefined}
 use Rattle.tm_meaning.specs.Calls.{outermost}
-use Rattle.tm_meaning.specs.World.{World, HostValue, Card, Scope, Template, Good, block_of, plain_scope}
+use Rattle.tm_meaning.specs.World.{World, HostValue, Card, Scope, Good, block_of, plain_scope}
 use Rattle.tm_meaning.specs.Inheritance.{with_blocks, count_left, load_named, names_left, place_in}
 use Rattle.tm_meaning.specs.declared.stream.StreamId.{StreamId}
 use Rattle.tm_meaning.specs.declared.stream.TemplateId.{TemplateId}
@@ -21,66 +19,6 @@ use Rattle.tm_blocks.specs.Lists.{AreBlocksOf, with_each}
 use Rattle.tm_state.specs.State.{IsNextOf, put_back, saved_super, scoped}
 use Rattle.tm_state.specs.declared.saved.Saved.TheVariants as saved
 use Rattle.tm_state.specs.declared.saved.SavedSuper.{SavedSuper}
-
--- ---------------------------------------------------------------- names that are left
-among_more : (x : List ℕ) (names more : List (List ℕ)) → is_among x names ≡ true → is_among x (names ++ more) ≡ true
-among_more x [] more h = absurd (cc h)
-among_more x (y ∷ ys) more h = either (same_name x y) (is_among x ys) (is_among x (ys ++ more)) h (among_more x ys more)
-  where
-    either : (a b c : Bool) → (a || b) ≡ true → (b ≡ true → c ≡ true) → (a || c) ≡ true
-    either true b c h k = refl
-    either false b c h k = k h
-
-among_last : (x : List ℕ) (names : List (List ℕ)) → is_among x (names ++ x ∷ []) ≡ true
-among_last x [] = ap (λ b. b || false) ((bytes_eq-Decides x x).1 refl)
-among_last x (y ∷ ys) = either_last (same_name x y) (is_among x (ys ++ x ∷ [])) (among_last x ys)
-  where
-    either_last : (a b : Bool) → b ≡ true → (a || b) ≡ true
-    either_last true b h = refl
-    either_last false b h = h
-
-fewer_by : (b c : Bool) (n m : ℕ) → (b ≡ true → c ≡ true) → m ≤ n → (if c then m else suc m) ≤ (if b then n else suc n)
-fewer_by true true n m h l = l
-fewer_by true false n m h l = let e = h refl in absurd (cc e)
-fewer_by false true n m h l = omega (arith, l)
-fewer_by false false n m h l = omega (arith, l)
-
-count_fewer : (ts : Named Template) (names more : List (List ℕ)) → count_left ts (names ++ more) ≤ count_left ts names
-count_fewer [] names more = omega arith
-count_fewer (t ∷ ts) names more =
-    fewer_by (is_among t.0 names) (is_among t.0 (names ++ more)) (count_left ts names) (count_left ts (names ++ more))
-    (among_more t.0 names more) (count_fewer ts names more)
-
-one_by : (b c : Bool) (n m : ℕ) → b ≡ false → c ≡ true → m ≤ n → (if c then m else suc m) + 1 ≤ (if b then n else suc n)
-one_by true c n m h k l = absurd (cc h)
-one_by false true n m h k l = omega (arith, l)
-one_by false false n m h k l = absurd (cc k)
-
-less_by : (b c : Bool) (n m : ℕ) → (b ≡ true → c ≡ true) → m + 1 ≤ n → (if c then m else suc m) + 1 ≤ (if b then n else suc n)
-less_by true true n m h l = l
-less_by true false n m h l = let e = h refl in absurd (cc e)
-less_by false true n m h l = omega (arith, l)
-less_by false false n m h l = omega (arith, l)
-
-loaded_by : (p : List ℕ × Template) (ts : Named Template) (x : List ℕ) (t : Template) (names : List (List ℕ)) (b : Bool) →
-    is_at (name_cmp x) p.0 ≡ b → cond b (Some p.1) (find x ts) ≡ Some t → is_among x names ≡ false →
-    (find x ts ≡ Some t → count_left ts (names ++ x ∷ []) + 1 ≤ count_left ts names) →
-    count_left (p ∷ ts) (names ++ x ∷ []) + 1 ≤ count_left (p ∷ ts) names
-loaded_by p ts x t names true at found fresh more =
-    let same = same_text x p.0 at in
-    one_by (is_among p.0 names) (is_among p.0 (names ++ x ∷ [])) (count_left ts names) (count_left ts (names ++ x ∷ []))
-    (ap (λ y. is_among y names) (sym same) ∙ fresh) (ap (λ y. is_among y (names ++ x ∷ [])) (sym same) ∙ among_last x names)
-    (count_fewer ts names (x ∷ []))
-loaded_by p ts x t names false at found fresh more =
-    less_by (is_among p.0 names) (is_among p.0 (names ++ x ∷ [])) (count_left ts names) (count_left ts (names ++ x ∷ []))
-    (among_more p.0 names (x ∷ [])) (more found)
-
--- a template that is there and was not loaded is one less
-pub count_loaded : (ts : Named Template) (x : List ℕ) (t : Template) (names : List (List ℕ)) → find x ts ≡ Some t →
-    is_among x names ≡ false → count_left ts (names ++ x ∷ []) + 1 ≤ count_left ts names
-count_loaded [] x t names found fresh = absurd (cc found)
-count_loaded (p ∷ ts) x t names found fresh =
-    loaded_by p ts x t names (is_at (name_cmp x) p.0) refl found fresh (λ e. count_loaded ts x t names e fresh)
 
 -- ---------------------------------------------------------------- a parent
 by_names : (t : TemplateId) (bs : Named Card) (ls : Named (List TemplateId)) → with_blocks t bs ls ≡ with_each t (keys_of bs) ls

@@ -50,60 +50,7 @@ fn charge(instruction: &Instruction) -> u64
         | Instruction::Return
         | Instruction::LoadBlocks
         | Instruction::ExportLocals => 0,
-        Instruction::EmitRaw(_)
-        | Instruction::Emit
-        | Instruction::Lookup(_)
-        | Instruction::LoadConst(_)
-        | Instruction::GetAttr(_)
-        | Instruction::GetItem
-        | Instruction::Slice
-        | Instruction::BuildList(_)
-        | Instruction::BuildTuple(_)
-        | Instruction::BuildMap(_)
-        | Instruction::BuildKwargs(_)
-        | Instruction::MergeKwargs(_)
-        | Instruction::UnpackLists(_)
-        | Instruction::Eq
-        | Instruction::Ne
-        | Instruction::Lt
-        | Instruction::Lte
-        | Instruction::Gt
-        | Instruction::Gte
-        | Instruction::In
-        | Instruction::CompareAndPreserve(_)
-        | Instruction::Add
-        | Instruction::Sub
-        | Instruction::StringConcat
-        | Instruction::Mul
-        | Instruction::Div
-        | Instruction::IntDiv
-        | Instruction::Rem
-        | Instruction::Pow
-        | Instruction::Neg
-        | Instruction::Not
-        | Instruction::IsUndefined
-        | Instruction::Swap
-        | Instruction::Jump(_)
-        | Instruction::JumpIfFalse(_)
-        | Instruction::JumpIfFalseOrPop(_)
-        | Instruction::JumpIfTrueOrPop(_)
-        | Instruction::CallFunction(_, _)
-        | Instruction::CallMethod(_, _)
-        | Instruction::CallObject(_)
-        | Instruction::ApplyFilter(_, _, _)
-        | Instruction::PerformTest(_, _, _)
-        | Instruction::CallBlock(_)
-        | Instruction::FastSuper
-        | Instruction::StoreLocal(_)
-        | Instruction::Enclose(_)
-        | Instruction::GetClosure
-        | Instruction::UnpackList(_)
-        | Instruction::SetAttr(_)
-        | Instruction::Iterate(_)
-        | Instruction::FastRecurse
-        | Instruction::Include(_)
-        | Instruction::IncludeModule
-        | Instruction::EndCapture => 1,
+        _ => 1,
     }
 }
 

@@ -42,7 +42,7 @@ use Rattle.tm_meaning.specs.Instructions.{awaiting}
 use Rattle.tm_meaning.specs.Calls.{enter_include, enter_super, undone}
 use Rattle.tm_meaning.specs.declared.run_text.RunText.{RunText}
 use Rattle.tm_meaning.specs.Machine.{Restart}
-use Rattle.tm_state.proofs.Blocks.{count_loaded}
+use Rattle.tm_meaning.proofs.Loaded.{count_loaded}
 use Rattle.tm_vm.specs.declared.flow.Flow.{Flow}
 use Rattle.tm_vm.specs.declared.flow.Flow.TheVariants as flow
 
