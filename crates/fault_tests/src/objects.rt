@@ -4,7 +4,7 @@ ghost use Rattle.tm_definitions.specs.Members.{or_undefined};
 ghost use Rattle.tm_meaning.specs.declared.reply.Reply.TheVariants.{Value as gives};
 ghost use Rattle.tm_meaning.specs.declared.reply.Reply.TheVariants.{Further as asks_for};
 ghost use Rattle.tm_meaning.specs.declared.reply.Call.TheVariants as further;
-ghost use Rattle.tm_objects.specs.Stated.{IsStated, just};
+ghost use Rattle.tm_tables.specs.Stated.{IsStated, just};
 ghost use Rattle.fault_tests.specs.declared.objects.Asking.TheVariants.{First, Filter, Macro, Block};
 
 use std::alloc::Global;

@@ -9,7 +9,7 @@ ghost use Rattle.tm_meaning.specs.declared.reply.Reply.TheVariants.{Value as giv
 ghost use Rattle.tm_meaning.specs.declared.reply.Reply.TheVariants.{Fault as faults};
 ghost use Rattle.tm_meaning.specs.declared.reply.Reply.TheVariants.{Further as asks_for};
 ghost use Rattle.tm_meaning.specs.declared.reply.Call.TheVariants as further;
-ghost use Rattle.tm_objects.specs.Stated.{just, keeping};
+ghost use Rattle.tm_tables.specs.Stated.{just, keeping};
 ghost use Rattle.render_tests.specs.Asked.{swapped};
 ghost use Rattle.library_tests.specs.declared.library.Asking.TheVariants.{Title, Kept, Filter};
 ghost use Rattle.library_tests.specs.declared.library.Asking.TheVariants.{Macro, Block};

@@ -10,7 +10,7 @@ use Rattle.tm_compiler.specs.Spells.{SpellsNone}
 use Rattle.tm_templates.specs.Templates.{Compiled, IsOfTree, IsTemplate, IsRefused}
 use Rattle.tm_templates.proofs.Accepted.{put_all}
 use Rattle.tm_templates.proofs.Streams.{of_source}
-use Rattle.tm_objects.specs.Stated.{StatedObjects}
+use Rattle.tm_tables.specs.Stated.{StatedObjects}
 use Rattle.template_machine.specs.Environment.{AreOfTrees, EnvironmentValue, IsTemplateOf}
 use Rattle.mj_words.specs.CommandLine.{Text}
 use Rattle.mj.specs.Program.{AreAdded, BeginWith, SpellNone}

@@ -17,7 +17,7 @@ use Rattle.tm_output.specs.Counts.{Tally}
 use Rattle.tm_templates.specs.Defaults.{escape_by_name, escape_of}
 use Rattle.tm_templates.specs.declared.defaults.EscapeSetting.{EscapeSetting}
 use Rattle.tm_templates.specs.declared.defaults.EscapeSetting.TheVariants as setting
-use Rattle.tm_objects.specs.Stated.{Join, Table, StatedObjects, language_functions, stated_of}
+use Rattle.tm_tables.specs.Stated.{Join, Table, StatedObjects, language_functions, stated_of}
 use Rattle.tm_templates.specs.Templates.{Compiled, IsOfTree}
 use Rattle.tm_templates.proofs.Accepted.{find_all}
 use Rattle.tm_meaning.specs.declared.stream.TemplateId.{TemplateId}

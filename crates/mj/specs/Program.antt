@@ -22,7 +22,7 @@ use Rattle.tm_templates.specs.Defaults.{escape_by_name}
 use Rattle.tm_templates.specs.Templates.{Compiled, IsTemplate}
 use Rattle.tm_meaning.specs.declared.stream.TemplateId.TheVariants.{Entry}
 use Rattle.template_machine.specs.Environment.{IsOfTrees, TemplateValue, expected_environment, greatest_limit}
-use Rattle.tm_objects.specs.Stated.{StatedObjects, language_alone}
+use Rattle.tm_tables.specs.Stated.{StatedObjects, language_alone}
 use Rattle.template_machine.specs.Renders.{meaning}
 use Rattle.mj_words.specs.CommandLine.{Text, ArgumentsValue, asked, asked_of, is_input}
 use Rattle.mj_words.specs.declared.arguments.Arguments.{Arguments}

@@ -3,7 +3,7 @@ ghost use Rattle.std.specs.Prelude.{pos};
 ghost use Rattle.tm_values.specs.Val.{number};
 ghost use Rattle.tm_values.specs.declared.escape.AutoEscape.TheVariants.{Html};
 ghost use Rattle.tm_meaning.specs.declared.reply.Reply.TheVariants.{Value as gives};
-ghost use Rattle.tm_objects.specs.Stated.{just};
+ghost use Rattle.tm_tables.specs.Stated.{just};
 
 use std::alloc::Global;
 use template_machine::*;

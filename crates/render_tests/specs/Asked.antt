@@ -10,7 +10,7 @@ use Rattle.tm_values.specs.declared.escape.AutoEscape.TheVariants as escapes
 use Rattle.tm_syntax.specs.Named.{same_name}
 use Rattle.tm_meaning.specs.World.{Fallback, Format, formatted}
 use Rattle.tm_meaning.specs.declared.reply.Reply.TheVariants.{Value as gives, Fault as faults}
-use Rattle.tm_objects.specs.Stated.{Join, just, keeping}
+use Rattle.tm_tables.specs.Stated.{Join, just, keeping}
 
 -- the method's name
 abbrev pub named : Fallback

@@ -8,7 +8,7 @@ ghost use Rattle.tm_syntax.specs.Named.{find};
 ghost use Rattle.tm_definitions.specs.Members.{or_undefined};
 ghost use Rattle.tm_meaning.specs.World.{find_name};
 ghost use Rattle.tm_meaning.specs.declared.reply.Reply.TheVariants.{Value as gives, Fault as faults};
-ghost use Rattle.tm_objects.specs.Stated.{IsStated, just, keeping};
+ghost use Rattle.tm_tables.specs.Stated.{IsStated, just, keeping};
 ghost use Rattle.render_tests.specs.Found.{as_safe, in_capitals, of_first, of_text, part_of, reply_of, reply_of_found};
 ghost use Rattle.render_tests.specs.declared.party.Party.TheVariants.{Second, Last, Keeper, Reader, Title, Seen, Faulty};
 ghost use Rattle.render_tests.specs.Found.{again_with, capitals_twice, first_text, found_at, further_with};

@@ -1,1 +1,2 @@
 pub mod Fuel
+pub mod Stated
