@@ -6,11 +6,11 @@ pub returns-clause-base : goal.returns-clause-base
 unfolding digits
 returns-clause-base c = (refl, refl)
 
-pub returns-clause-eleven : goal.returns-clause-eleven
-returns-clause-eleven c = (refl, refl)
+pub returns-clause-fuel_ends_in_the_block : goal.returns-clause-fuel_ends_in_the_block
+returns-clause-fuel_ends_in_the_block c = (refl, refl)
 
-pub returns-clause-nine : goal.returns-clause-nine
-returns-clause-nine c = (refl, refl)
+pub returns-clause-fuel_ends_in_the_parent_block : goal.returns-clause-fuel_ends_in_the_parent_block
+returns-clause-fuel_ends_in_the_parent_block c = (refl, refl)
 
 pub returns-clause-name : goal.returns-clause-name
 returns-clause-name c = (refl, refl)

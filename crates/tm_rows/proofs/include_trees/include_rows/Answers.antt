@@ -6,8 +6,8 @@ pub returns-clause-text : goal.returns-clause-text
 unfolding digits
 returns-clause-text c = (refl, refl)
 
-pub returns-clause-three : goal.returns-clause-three
-returns-clause-three c = (refl, refl)
+pub returns-clause-fuel_ends_inside : goal.returns-clause-fuel_ends_inside
+returns-clause-fuel_ends_inside c = (refl, refl)
 
 pub returns-clause-within : goal.returns-clause-within
 unfolding digits
