@@ -37,6 +37,11 @@ use Rattle.tm_simulation.proofs.Evaluates.{eval_gives, truth_gives}
 use Rattle.tm_simulation.proofs.Includes.{include_ends, import_gives, import_names_gives}
 use Rattle.tm_simulation.proofs.Declares.{declared_gives, caller_gives, call_gives, take_parameters_give}
 
+-- What every statement ends by: its parts, each of which keeps what it has to.
+ruleset ends = (ends_use, ends_here, ends_do, choose_ends, ends_leave, ends_next, kept_same, tick_gives, truth_gives, innermost_asks,
+    super_asks, emitted_gives, place_ends, eval_gives, set_gives, tag_ends, assign_gives, import_gives, import_names_gives, include_ends,
+    declared_gives, load_does, waits_ends)
+
 -- ---------------------------------------------------------------- statements
 module _ (u : Under) (nest_ends : (k : Callee) (heard : Bool) (out : List ℕ) (w : World) → RunEnds u.host w (u.nests k heard out w))
     (again_ends : (n : ℕ) (items : List Val) (run : Run) (out : List ℕ) (w : World) →
@@ -63,31 +68,20 @@ module _ (u : Under) (nest_ends : (k : Callee) (heard : Bool) (out : List ℕ) (
 
   mutual
     pub exec_ends : (at : Numbers) (s : Stmt) (run : Run) (out : List ℕ) (w : World) → OutcomeKeeps u.host run.parent w (exec u at s run out w)
-    exec_ends at (EmitRaw t) run out w = ends_use u.host w (tick w) run out _ (tick_gives _ u.host w)
-        (λ _ world1. ends_here u.host world1 world1 run (say run t out) (kept_same world1))
-    exec_ends at (EmitExpr e) run out w = ends_use u.host w (eval u run e w) run out _ (eval_gives u nest_ends again_ends run e w)
-        (λ v world1. emit_ends run out v world1)
-    exec_ends at (EmitLoop e) run out w =
-        ends_use u.host w (eval u run e w) run out _ (eval_gives u nest_ends again_ends run e w)
-        (λ v world1. ends_use u.host world1 (tick world1) run out _ (tick_gives _ u.host world1)
-        (λ _ world2. place_ends u nest_ends again_ends world2 run out _ (innermost_asks _ u.host v world2)))
+    exec_ends at (EmitRaw t) run out w = search (ends, nest_ends, again_ends)
+    exec_ends at (EmitExpr e) run out w = search (ends, nest_ends, again_ends)
+    exec_ends at (EmitLoop e) run out w = search (ends, nest_ends, again_ends)
     exec_ends at (If' c _ body other) run out w =
         ends_use u.host w (eval u run c w) run out _ (eval_gives u nest_ends again_ends run c w) (λ v world1.
         ends_use u.host world1 (tick world1) run out _ (tick_gives _ u.host world1) (λ _ world2.
         ends_use u.host world2 (truth u.host v world2) run out _ (truth_gives _ u.host v world2) (λ b world3.
         choose_ends u.host world3 b _ _ (after_first_ends other run world3 _ (execs_end at body run out world3))
         (else_ends (pasts at body) other run out world3))))
-    exec_ends at (EmitBlock b) run out w = ends_use u.host w (tick w) run out _ (tick_gives _ u.host w)
-        (λ _ world1. tag_ends u nest_ends again_ends run b out world1)
-    exec_ends at EmitSuper run out w = ends_use u.host w (tick w) run out _ (tick_gives _ u.host w)
-        (λ _ world1. place_ends u nest_ends again_ends world1 run out _ (super_asks _ u.host world1))
-    exec_ends at (Extends e) run out w =
-        ends_use u.host w (eval u run e w) run out _ (eval_gives u nest_ends again_ends run e w) (λ v world1.
-        waits_ends u.host world1 run out _ (load_does u.host v run.parent run.inside world1))
-    exec_ends at (Block' b required _ body) run out w = ends_use u.host w (tick w) run out _ (tick_gives _ u.host w)
-        (λ _ world1. tag_ends u nest_ends again_ends run b out world1)
-    exec_ends at (Set t e) run out w = ends_use u.host w (set_to u run t e w) run out _ (set_gives u nest_ends again_ends run t e w)
-        (λ _ world1. ends_here u.host world1 world1 run out (kept_same world1))
+    exec_ends at (EmitBlock b) run out w = search (ends, nest_ends, again_ends)
+    exec_ends at EmitSuper run out w = search (ends, nest_ends, again_ends)
+    exec_ends at (Extends e) run out w = search (ends, nest_ends, again_ends)
+    exec_ends at (Block' b required _ body) run out w = search (ends, nest_ends, again_ends)
+    exec_ends at (Set t e) run out w = search (ends, nest_ends, again_ends)
     exec_ends at (With' given _ body) run out w =
         let s = plain_scope (undefined false) in
         ends_within u.host w s (nat_lt (depth w.scopes) u.host.limit) run out _ (λ room.
@@ -107,8 +101,8 @@ module _ (u : Under) (nest_ends : (k : Callee) (heard : Bool) (out : List ℕ) (
         (assign_gives u nest_ends again_ends run1 t item world2) (λ _ world3. execs_end (within_loop c at) body run1 out1 world3)) vs run
         out)
         (λ run1 out1 world2. after_loop_ends (pasts (within_loop c at) body) other (has_none vs) run1 out1 world2))
-    exec_ends at Break run out w = ends_leave u.host w run out
-    exec_ends at Continue run out w = ends_next u.host w run out
+    exec_ends at Break run out w = search (ends, nest_ends, again_ends)
+    exec_ends at Continue run out w = search (ends, nest_ends, again_ends)
     exec_ends at (CaptureBlock' becomes filters _ body) run out w =
         captured_ends u.host w run out (exec_all u at body (capturing true run) [] w) _ (execs_end at body (capturing true run) [] w)
         (λ run1 x world1.
@@ -122,25 +116,16 @@ module _ (u : Under) (nest_ends : (k : Callee) (heard : Bool) (out : List ℕ) (
         (escape_gives _ u.host run.first v world1) (λ x world2.
         closing_ends u.host world2 (with_escape x world2) (with_escape world2.escape) (advances_escaped x world2) (kept_unescaped x world2)
         (λ y. refl) (exec_all u at body run out (with_escape x world2)) (execs_end at body run out (with_escape x world2))))
-    exec_ends at (Do e) run out w = ends_use u.host w (eval u run e w) run out _ (eval_gives u nest_ends again_ends run e w)
-        (λ _ world1. ends_here u.host world1 world1 run out (kept_same world1))
-    exec_ends at (Macro' x ps _ body) run out w =
-        ends_use u.host w (declared u.host at.macros (macro_head x ps body) w) run out _
-        (declared_gives u.host at.macros (macro_head x ps body) w) (λ v world1.
-        ends_use u.host world1 (assign u run (To x) v world1) run out _ (assign_gives u nest_ends again_ends run (To x) v world1)
-        (λ _ world2. ends_here u.host world2 world2 run out (kept_same world2)))
+    exec_ends at (Do e) run out w = search (ends, nest_ends, again_ends)
+    exec_ends at (Macro' x ps _ body) run out w = search (ends, nest_ends, again_ends)
     exec_ends at (CallBlock' e ps _ body) run out w =
         let m = macro_head (codes "caller") ps body in
         let last = caller_gives u.host at.macros m in
         ends_use u.host w (call u run (with_caller u.host at.macros m) e w) run out _ (call_gives u nest_ends again_ends _ last run e w)
         (λ v world1. emit_ends run out v world1)
-    exec_ends at (Include e missing) run out w = include_ends u nest_ends again_ends run true e missing out w
-    exec_ends at (Import e t) run out w =
-        ends_use u.host w (import u run e t w) run out _ (import_gives u nest_ends again_ends run e t w)
-        (λ _ world1. ends_here u.host world1 world1 run out (kept_same world1))
-    exec_ends at (FromImport e xs) run out w =
-        ends_use u.host w (import_names u run e xs w) run out _ (import_names_gives u nest_ends again_ends run e xs w)
-        (λ _ world1. ends_here u.host world1 world1 run out (kept_same world1))
+    exec_ends at (Include e missing) run out w = search (ends, nest_ends, again_ends)
+    exec_ends at (Import e t) run out w = search (ends, nest_ends, again_ends)
+    exec_ends at (FromImport e xs) run out w = search (ends, nest_ends, again_ends)
 
     pub execs_end : {n : _} → (at : Numbers) (ss : Row_of-Stmt n) (run : Run) (out : List ℕ) (w : World) →
         OutcomeKeeps u.host run.parent w (exec_all u at ss run out w)
