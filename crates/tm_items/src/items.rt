@@ -1,5 +1,5 @@
 //! A list of items.
-ghost use Rattle.std.specs.Prelude.{◌≡◌, [], ◌∷◌, ◌++◌, ◌<◌, length, slice_get, slice_set, ◌↔◌, IsTrue, MatchOption, OnOk, OnErr, OnSome};
+ghost use Rattle.std.specs.Prelude.{◌≡◌, [], ◌∷◌, ◌++◌, ◌<◌, ◌≤◌, length, slice_get, slice_set, ◌↔◌, IsTrue, MatchOption, OnOk, OnErr, OnSome};
 ghost use Rattle.std.specs.Option.{option_copied};
 
 use std::alloc::{AllocError, Global};
@@ -56,6 +56,14 @@ impl<T> Items<T> {
         items
     }
 
+    /// Frees an empty list, also where its items can't be dropped.
+    pub fn destroy_empty(self)
+        requires { length self ≡ 0 }
+    {
+        let Items { items } = self;
+        items.destroy_empty();
+    }
+
     /// The items, lent.
     pub fn as_slice(&self) -> &[T]
         ensures { result.now ≡ self.now }
@@ -92,6 +100,22 @@ impl<T> Items<T> {
             (λ last. self.old ≡ self.new ++ last ∷ []) }
     {
         self.items.pop()
+    }
+}
+
+impl<T> Items<T> {
+    ghost use Rattle.std.specs.Borrow.{LendsIf, sem};
+    ghost use Rattle.tm_items.specs.contracts.items.Items.{the_row};
+
+    /// The item at a place, counted from 0, lent to be written; `None` where there is none.
+    pub fn get_mut(&mut self, at: usize) -> Option<&mut T>
+        ensures* writes_back { sem 𝓛
+            (LendsIf (the_row T.row) T.row self.entry result (slice_set self.old at) self.old) }
+        ensures value { MatchOption result
+            (length self.old ≤ at)
+            (λ item. slice_get self.old at ≡ Some item.now) }
+    {
+        self.items.get_mut(at)
     }
 }
 

@@ -1,5 +1,5 @@
 -- What each form of an expression weighs as the program holds it, and lists that are joined.
-use Rattle.std.proofs.Common.{arith, ◌≡◌, ◌+◌, ◌++◌, ℕ, suc, List, [], ◌∷◌, refl}
+use Rattle.std.proofs.Common.{arith, ◌≡◌, ◌+◌, ◌++◌, ℕ, suc, List, [], ◌∷◌, refl, ap, length, slice_get, slice_set, Some, ◌<◌, ◌≤◌, zero}
 use denote.Hole.Carrier.{hidden}
 use Rattle.tm_syntax.specs.declared.tree.UnaryOperator.{UnaryOperator}
 use Rattle.tm_syntax.specs.declared.tree.BinaryOperator.{BinaryOperator}
@@ -29,6 +29,24 @@ use Rattle.tm_syntax.specs.Dropping.{pair_weight, condition_weight, comparison_w
 pub joined : {X : Type 0} (μ : X → ℕ) (xs ys : List X) → total μ (xs ++ ys) ≡ total μ xs + total μ ys
 joined μ [] ys = omega arith
 joined μ (x ∷ xs) ys = omega (arith, joined μ xs ys)
+
+-- An item weighs less than its list. The first part is trivially true: it gives a tactic the list's weight to match.
+pub item_weighs : {X : Type 0} (μ : X → ℕ) (xs : List X) (i : ℕ) (x : X) → slice_get xs i ≡ Some x → (total μ xs ≡ total μ xs) × (μ x < total μ xs)
+item_weighs μ [] i x h = absurd (cc)
+item_weighs μ (z ∷ xs) zero x h = let e : z ≡ x = cc in (refl, omega (arith, ap μ e))
+item_weighs μ (z ∷ xs) (suc i) x h = (refl, omega (arith, (item_weighs μ xs i x h).1))
+
+-- an item of a list is another one
+pub set_weighs : {X : Type 0} (μ : X → ℕ) (xs : List X) (i : ℕ) (x y : X) → slice_get xs i ≡ Some x →
+    total μ (slice_set xs i y) + μ x ≡ total μ xs + μ y
+set_weighs μ [] i x y h = absurd (cc)
+set_weighs μ (z ∷ xs) zero x y h = let e : z ≡ x = cc in omega (arith, ap μ e)
+set_weighs μ (z ∷ xs) (suc i) x y h = omega (arith, set_weighs μ xs i x y h)
+
+-- A list is no longer than it weighs. The first part is trivially true: it gives a tactic the list's weight to match.
+pub no_longer : {X : Type 0} (μ : X → ℕ) (xs : List X) → (total μ xs ≡ total μ xs) × (length xs ≤ total μ xs)
+no_longer μ [] = (refl, omega arith)
+no_longer μ (x ∷ xs) = (refl, omega (arith, (no_longer μ xs).1))
 
 -- ---------------------------------------------------------------- rows
 pub exprs_are : (xs : List Expr) → exprs_row (exprs xs) ≡ total weight xs
@@ -80,45 +98,45 @@ unfolding hidden hidden-the_row-Expr-0
 of_conditional x cs = omega (arith, conditions_are cs)
 
 -- ---------------------------------------------------------------- what stands in them
-pub of_plain : (x : Expr) → argument_weight (a.Plain x) ≡ suc (weight x)
+pub of_plain : (x : Expr) → argument_weight (a.Plain x) ≡ weight x
 unfolding hidden hidden-the_row-Expr-0
 of_plain x = refl
 
-pub of_spread : (x : Expr) → argument_weight (a.Spread x) ≡ suc (weight x)
+pub of_spread : (x : Expr) → argument_weight (a.Spread x) ≡ weight x
 unfolding hidden hidden-the_row-Expr-0
 of_spread x = refl
 
-pub of_named : (name : List ℕ) (x : Expr) → keyword_weight (k.Named name x) ≡ suc (weight x)
+pub of_named : (name : List ℕ) (x : Expr) → keyword_weight (k.Named name x) ≡ weight x
 unfolding hidden hidden-the_row-Expr-0
 of_named name x = refl
 
-pub of_spread_keywords : (x : Expr) → keyword_weight (k.Spread x) ≡ suc (weight x)
+pub of_spread_keywords : (x : Expr) → keyword_weight (k.Spread x) ≡ weight x
 unfolding hidden hidden-the_row-Expr-0
 of_spread_keywords x = refl
 
 -- ---------------------------------------------------------------- steps
-pub of_item : (x : Expr) → step_weight (s.Item x) ≡ suc (weight x)
+pub of_item : (x : Expr) → step_weight (s.Item x) ≡ weight x
 unfolding hidden hidden-the_row-Expr-0
 of_item x = refl
 
-pub of_slice : (x y z : Expr) → step_weight (s.Slice x y z) ≡ suc (suc (suc (weight x + weight y + weight z)))
+pub of_slice : (x y z : Expr) → step_weight (s.Slice x y z) ≡ weight x + weight y + weight z
 unfolding hidden hidden-the_row-Expr-0
 of_slice x y z = refl
 
-pub of_binary : (op : BinaryOperator) (x : Expr) → step_weight (s.Binary op x) ≡ suc (weight x)
+pub of_binary : (op : BinaryOperator) (x : Expr) → step_weight (s.Binary op x) ≡ weight x
 unfolding hidden hidden-the_row-Expr-0
 of_binary op x = refl
 
 pub of_compare : (op : BinaryOperator) (x : Expr) (cs : List Comparison) →
-    step_weight (s.Compare op x cs) ≡ suc (weight x + total comparison_weight cs)
+    step_weight (s.Compare op x cs) ≡ weight x + total comparison_weight cs
 unfolding hidden hidden-the_row-Expr-0
 of_compare op x cs = omega (arith, comparisons_are cs)
 
-pub of_and : (x : Expr) → step_weight (s.And x) ≡ suc (weight x)
+pub of_and : (x : Expr) → step_weight (s.And x) ≡ weight x
 unfolding hidden hidden-the_row-Expr-0
 of_and x = refl
 
-pub of_or : (x : Expr) → step_weight (s.Or x) ≡ suc (weight x)
+pub of_or : (x : Expr) → step_weight (s.Or x) ≡ weight x
 unfolding hidden hidden-the_row-Expr-0
 of_or x = refl
 
@@ -129,3 +147,5 @@ pub ruleset of_expr = (exprs_are, pairs_are, passed, of_unary, of_chain, of_cond
 pub ruleset of_part = (of_plain, of_spread, of_named, of_spread_keywords)
 
 pub ruleset of_step = (passed, of_item, of_slice, of_binary, of_compare, of_and, of_or)
+
+pub ruleset in_lists = (joined, item_weighs, set_weighs)

@@ -1,8 +1,8 @@
 //! Syntax trees. What goes on with a value is a list. Lists of different levels of operators lie in
 //! one another within one nesting of the source, so a tree is as deep as its source nests, times
 //! these levels.
-ghost use Rattle.std.specs.Prelude.{suc, ◌≡◌, ◌+◌, false, MatchOption};
-ghost use Rattle.tm_syntax.specs.Dropping.{GrewAtMost, total, weight, pair_weight};
+ghost use Rattle.std.specs.Prelude.{◌≡◌, ◌+◌, ◌<◌, ◌≤◌, ◌↔◌, false, IsTrue, IsFalse, MatchOption};
+ghost use Rattle.tm_syntax.specs.Dropping.{Exchanged, total, weight, pair_weight};
 ghost use Rattle.tm_syntax.specs.Dropping.{argument_weight, keyword_weight, step_weight};
 ghost use Rattle.tm_syntax.specs.Dropping.{condition_weight, comparison_weight};
 ghost use Rattle.tm_syntax.specs.Forms.{is_named_call};
@@ -10,7 +10,7 @@ ghost use Rattle.tm_syntax.specs.declared.tree.Expr.TheVariants as exprs;
 
 use crate::name::Name;
 use crate::raw_text::RawText;
-use std::alloc::AllocFailed;
+use std::mem;
 use tm_items::{Boxed, Items};
 use tm_values::Value;
 
@@ -73,7 +73,7 @@ pub enum Application {
     NegatedTest,
 }
 
-/// An expression. What it holds drops by a list of what is left.
+/// An expression. Its drop takes no memory, and the same stack at all depths.
 #[cycle(expr)]
 pub enum Expr {
     /// A name.
@@ -326,42 +326,14 @@ impl Drop for Tree {
     }
 }
 
-// What an expression holds is dropped by a list, so that a deep one takes no deep stack.
+// By hand: what an expression holds is dropped by exchanges in its own boxes and lists, so that a drop
+// takes no memory, which may be refused, and a deep expression no deep stack.
 impl Drop for Expr {
     #[cycle(dropping)]
-    #[tactic(auto, using(crate::proofs::Dropping::of_expr))]
     fn drop(self) {
         match self {
             Expr::Var(_) | Expr::Const(_) | Expr::SelfBlock(_) => {}
-            Expr::List(items) => drop_all(items.into_vec()),
-            Expr::Tuple(items) => drop_all(items.into_vec()),
-            Expr::Map(pairs) => {
-                let pairs = pairs.into_vec();
-                let mut left = Vec::new(*pairs.allocator());
-                put_pairs(pairs, &mut left);
-                drop_all(left);
-            }
-            Expr::Call(_, given, named) => {
-                let given = given.into_vec();
-                let mut left = Vec::new(*given.allocator());
-                put_passed(given, named.into_vec(), &mut left);
-                drop_all(left);
-            }
-            Expr::Unary(_, operand) => drop(operand.into_inner()),
-            Expr::Chain(first, after) => {
-                let after = after.into_vec();
-                let mut left = Vec::new(*after.allocator());
-                put(first.into_inner(), &mut left);
-                put_steps(after, &mut left);
-                drop_all(left);
-            }
-            Expr::Conditional(value, conditions) => {
-                let conditions = conditions.into_vec();
-                let mut left = Vec::new(*conditions.allocator());
-                put(value.into_inner(), &mut left);
-                put_conditions(conditions, &mut left);
-                drop_all(left);
-            }
+            whole => drop_parts(whole),
         }
     }
 }
@@ -387,169 +359,336 @@ impl Expr {
         }
     }
 
-    // Whether expressions may stand in it.
-    fn may_hold(&self) -> bool {
-        !matches!(self, Expr::Var(_) | Expr::Const(_) | Expr::SelfBlock(_))
+    // Whether expressions may stand in it. A leaf is one in which none may.
+    #[tactic(auto, using(crate::proofs::Dropping::of_expr))]
+    fn may_hold(&self) -> bool
+        ensures { IsTrue result ↔ (0 < weight self.now) }
+    {
+        match self {
+            Expr::Var(_) | Expr::Const(_) | Expr::SelfBlock(_) => false,
+            Expr::List(_)
+            | Expr::Tuple(_)
+            | Expr::Map(_)
+            | Expr::Call(_, _, _)
+            | Expr::Unary(_, _)
+            | Expr::Chain(_, _)
+            | Expr::Conditional(_, _) => true,
+        }
     }
 
-    // Puts aside what it holds.
+    // Exchanges its last part that may hold others for another expression, and says whether it has
+    // one. The leaves in lists behind that part are dropped, so that no list is searched twice.
     #[cycle(dropping)]
     #[tactic(auto, using(crate::proofs::Dropping::of_expr))]
-    fn put_parts(self, left: &mut Vec<Expr>)
-        ensures { GrewAtMost (weight self) left.old.items left.new.items }
+    fn exchange(&mut self, other: &mut Expr) -> bool
+        ensures no_more { weight self.new + weight other.new ≤ weight self.old + weight other.old }
+        ensures taken { IsTrue result
+            → (0 < weight other.new) × (weight other.new < weight self.old) }
+        ensures left { IsFalse result → (weight self.new ≤ 1) × (other.new ≡ other.old) }
+        ensures kept { 0 < weight self.old → 0 < weight self.new }
+    {
+        match self {
+            Expr::Var(_) | Expr::Const(_) | Expr::SelfBlock(_) => false,
+            Expr::List(items) => exchange_item(items, other),
+            Expr::Tuple(items) => exchange_item(items, other),
+            Expr::Map(pairs) => exchange_in_pairs(pairs, other),
+            Expr::Call(_, given, named) => exchange_passed(given, named, other),
+            Expr::Unary(_, operand) => exchange_boxed(operand, other),
+            Expr::Chain(first, after) => exchange_in_steps(after, other)
+                || exchange_boxed(first, other),
+            Expr::Conditional(value, conditions) => {
+                exchange_in_conditions(conditions, other) || exchange_boxed(value, other)
+            }
+        }
+    }
+
+    // Drops an expression that has no part but leaves.
+    #[cycle(dropping)]
+    #[tactic(auto, using(crate::proofs::Dropping::of_expr, crate::proofs::Dropping::no_longer))]
+    fn drop_shell(self)
+        requires { weight self ≤ 1 }
     {
         match self {
             Expr::Var(_) | Expr::Const(_) | Expr::SelfBlock(_) => {}
-            Expr::List(items) => put_exprs(items.into_vec(), left),
-            Expr::Tuple(items) => put_exprs(items.into_vec(), left),
-            Expr::Map(pairs) => put_pairs(pairs.into_vec(), left),
-            Expr::Call(_, given, named) => put_passed(given.into_vec(), named.into_vec(), left),
-            Expr::Unary(_, operand) => put(operand.into_inner(), left),
+            Expr::List(items) => items.destroy_empty(),
+            Expr::Tuple(items) => items.destroy_empty(),
+            Expr::Map(pairs) => pairs.destroy_empty(),
+            Expr::Call(_, given, named) => {
+                given.destroy_empty();
+                named.destroy_empty();
+            }
+            Expr::Unary(_, operand) => drop(operand.into_inner()),
             Expr::Chain(first, after) => {
-                put(first.into_inner(), left);
-                put_steps(after.into_vec(), left);
+                drop(first.into_inner());
+                after.destroy_empty();
             }
             Expr::Conditional(value, conditions) => {
-                put(value.into_inner(), left);
-                put_conditions(conditions.into_vec(), left);
+                drop(value.into_inner());
+                conditions.destroy_empty();
             }
         }
     }
 }
 
-// Drops expressions one by one. What each holds joins those that are left.
-#[inline(never)]
-#[cycle(dropping)]
-#[tactic(auto, using(crate::proofs::Dropping::joined))]
-fn drop_all(mut left: Vec<Expr>) {
-    while let Some(expr) = left.pop() {
-        expr.put_parts(&mut left);
-    }
-    left.destroy_empty();
+// A leaf that holds nothing at all.
+fn leaf() -> Expr
+    ensures { weight result ≡ 0 }
+{
+    Expr::Const(Value::none())
 }
 
-// Puts an expression aside where it may hold others. Else it is dropped at once, and so it is where
-// there is no memory for the list.
+// Drops an expression by exchanges. On the way down each expression hangs in the place of the part
+// that is worked on, and on the way up it is taken out of there again: so a drop takes no memory, and
+// the same stack at all depths.
 #[inline(never)]
 #[cycle(dropping)]
-#[tactic(auto, using(crate::proofs::Dropping::joined))]
-fn put(expr: Expr, left: &mut Vec<Expr>)
-    ensures { GrewAtMost (suc (weight expr)) left.old.items left.new.items }
-{
-    if expr.may_hold() {
-        if let Err(AllocFailed { value }) = left.push(expr) {
-            drop(value);
+fn drop_parts(whole: Expr) {
+    let mut current = whole;
+    let mut above = leaf();
+    while current.may_hold() {
+        while current.exchange(&mut above) {
+            mem::swap(&mut current, &mut above);
         }
-    } else {
-        drop(expr);
+        let next = mem::replace(&mut above, leaf());
+        mem::replace(&mut current, next).drop_shell();
+        let _has_above = current.exchange(&mut above);
+    }
+    current.drop_shell();
+    above.drop_shell();
+}
+
+// Drops a step that has no part but leaves.
+#[cycle(dropping)]
+#[tactic(auto, using(crate::proofs::Dropping::of_step, crate::proofs::Dropping::no_longer))]
+fn drop_step(shell: Step)
+    requires { step_weight shell ≡ 0 }
+{
+    match shell {
+        Step::Attribute(_name) => {}
+        Step::Item(value) => drop(value.into_inner()),
+        Step::Apply(_application, _name, given, named) => {
+            given.destroy_empty();
+            named.destroy_empty();
+        }
+        Step::Call(given, named) => {
+            given.destroy_empty();
+            named.destroy_empty();
+        }
+        Step::Slice(start, stop, step) => {
+            drop(start.into_inner());
+            drop(stop.into_inner());
+            drop(step.into_inner());
+        }
+        Step::Binary(_operator, right) => drop(right.into_inner()),
+        Step::Compare(_operator, right, comparisons) => {
+            drop(right.into_inner());
+            comparisons.destroy_empty();
+        }
+        Step::And(right) => drop(right.into_inner()),
+        Step::Or(right) => drop(right.into_inner()),
+    }
+}
+
+// Exchanges what a box holds for another expression, where it is no leaf.
+fn exchange_boxed(operand: &mut Boxed<Expr>, other: &mut Expr) -> bool
+    ensures { Exchanged result (weight operand.old) (weight operand.new) other.old other.new }
+{
+    let holds = operand.get().may_hold();
+    if holds {
+        operand.swap(other);
+    }
+    holds
+}
+
+// Exchanges the last item that is no leaf for another expression.
+#[cycle(dropping)]
+#[tactic(auto, using(crate::proofs::Dropping::in_lists, crate::proofs::Replaced::exprs))]
+fn exchange_item(items: &mut Items<Expr>, other: &mut Expr) -> bool
+    ensures { Exchanged result
+        (total weight items.old) (total weight items.new) other.old other.new }
+{
+    while let Some(last) = items.get_mut(items.len().saturating_sub(1)) {
+        if last.may_hold() {
+            mem::swap(last, other);
+            return true;
+        }
+        if let Some(last) = items.pop() {
+            drop(last);
+        }
+    }
+    false
+}
+
+// Exchanges the last part of pairs that is no leaf for another expression.
+#[cycle(dropping)]
+#[tactic(auto, using(crate::proofs::Dropping::in_lists, crate::proofs::Replaced::pairs))]
+fn exchange_in_pairs(pairs: &mut Items<Pair>, other: &mut Expr) -> bool
+    ensures { Exchanged result
+        (total pair_weight pairs.old) (total pair_weight pairs.new) other.old other.new }
+{
+    while let Some(last) = pairs.get_mut(pairs.len().saturating_sub(1)) {
+        if exchange_boxed(&mut last.value, other) || exchange_boxed(&mut last.key, other) {
+            return true;
+        }
+        if let Some(Pair { key, value }) = pairs.pop() {
+            drop(key.into_inner());
+            drop(value.into_inner());
+        }
+    }
+    false
+}
+
+// Exchanges the last part of arguments that is no leaf for another expression.
+#[cycle(dropping)]
+#[tactic(auto, using(crate::proofs::Dropping::in_lists, crate::proofs::Dropping::of_part))]
+fn exchange_passed(
+    given: &mut Items<Argument>,
+    named: &mut Items<Keyword>,
+    other: &mut Expr,
+) -> bool
+    ensures { Exchanged result
+        (total argument_weight given.old + total keyword_weight named.old)
+        (total argument_weight given.new + total keyword_weight named.new)
+        other.old other.new }
+{
+    exchange_in_keywords(named, other) || exchange_in_arguments(given, other)
+}
+
+#[cycle(dropping)]
+#[tactic(auto, using(crate::proofs::Dropping::in_lists, crate::proofs::Replaced::arguments, crate::proofs::Dropping::of_part))]
+fn exchange_in_arguments(given: &mut Items<Argument>, other: &mut Expr) -> bool
+    ensures { Exchanged result
+        (total argument_weight given.old) (total argument_weight given.new) other.old other.new }
+{
+    while let Some(last) = given.get_mut(given.len().saturating_sub(1)) {
+        if exchange_argument(last, other) {
+            return true;
+        }
+        match given.pop() {
+            Some(Argument::Plain(value)) => drop(value.into_inner()),
+            Some(Argument::Spread(value)) => drop(value.into_inner()),
+            None => {}
+        }
+    }
+    false
+}
+
+#[tactic(auto, using(crate::proofs::Dropping::of_part))]
+fn exchange_argument(argument: &mut Argument, other: &mut Expr) -> bool
+    ensures { Exchanged result
+        (argument_weight argument.old) (argument_weight argument.new) other.old other.new }
+{
+    match argument {
+        Argument::Plain(value) => exchange_boxed(value, other),
+        Argument::Spread(value) => exchange_boxed(value, other),
     }
 }
 
 #[cycle(dropping)]
-#[tactic(auto, using(crate::proofs::Dropping::joined))]
-fn put_exprs(mut exprs: Vec<Expr>, left: &mut Vec<Expr>)
-    ensures { GrewAtMost (total weight exprs.items) left.old.items left.new.items }
+#[tactic(auto, using(crate::proofs::Dropping::in_lists, crate::proofs::Replaced::keywords, crate::proofs::Dropping::of_part))]
+fn exchange_in_keywords(named: &mut Items<Keyword>, other: &mut Expr) -> bool
+    ensures { Exchanged result
+        (total keyword_weight named.old) (total keyword_weight named.new) other.old other.new }
 {
-    while let Some(expr) = exprs.pop() {
-        put(expr, left);
+    while let Some(last) = named.get_mut(named.len().saturating_sub(1)) {
+        if exchange_keyword(last, other) {
+            return true;
+        }
+        match named.pop() {
+            Some(Keyword::Named(_name, value)) => drop(value.into_inner()),
+            Some(Keyword::Spread(value)) => drop(value.into_inner()),
+            None => {}
+        }
     }
-    exprs.destroy_empty();
+    false
+}
+
+#[tactic(auto, using(crate::proofs::Dropping::of_part))]
+fn exchange_keyword(keyword: &mut Keyword, other: &mut Expr) -> bool
+    ensures { Exchanged result
+        (keyword_weight keyword.old) (keyword_weight keyword.new) other.old other.new }
+{
+    match keyword {
+        Keyword::Named(_, value) => exchange_boxed(value, other),
+        Keyword::Spread(value) => exchange_boxed(value, other),
+    }
 }
 
 #[cycle(dropping)]
-#[tactic(auto, using(crate::proofs::Dropping::joined))]
-fn put_pairs(mut pairs: Vec<Pair>, left: &mut Vec<Expr>)
-    ensures { GrewAtMost (total pair_weight pairs.items) left.old.items left.new.items }
+#[tactic(auto, using(crate::proofs::Dropping::in_lists, crate::proofs::Replaced::conditions))]
+fn exchange_in_conditions(conditions: &mut Items<Condition>, other: &mut Expr) -> bool
+    ensures { Exchanged result
+        (total condition_weight conditions.old) (total condition_weight conditions.new)
+        other.old other.new }
 {
-    while let Some(Pair { key, value }) = pairs.pop() {
-        put(key.into_inner(), left);
-        put(value.into_inner(), left);
+    while let Some(last) = conditions.get_mut(conditions.len().saturating_sub(1)) {
+        if exchange_boxed(&mut last.otherwise, other) || exchange_boxed(&mut last.test, other) {
+            return true;
+        }
+        if let Some(Condition { test, otherwise }) = conditions.pop() {
+            drop(test.into_inner());
+            drop(otherwise.into_inner());
+        }
     }
-    pairs.destroy_empty();
+    false
 }
 
 #[cycle(dropping)]
-#[tactic(auto, using(crate::proofs::Dropping::joined, crate::proofs::Dropping::of_part))]
-fn put_passed(mut given: Vec<Argument>, mut named: Vec<Keyword>, left: &mut Vec<Expr>)
-    ensures { GrewAtMost
-        (total argument_weight given.items + total keyword_weight named.items)
-        left.old.items left.new.items }
+#[tactic(auto, using(crate::proofs::Dropping::in_lists, crate::proofs::Replaced::comparisons))]
+fn exchange_in_comparisons(comparisons: &mut Items<Comparison>, other: &mut Expr) -> bool
+    ensures { Exchanged result
+        (total comparison_weight comparisons.old) (total comparison_weight comparisons.new)
+        other.old other.new }
 {
-    while let Some(argument) = given.pop() {
-        let value = match argument {
-            Argument::Plain(value) => value,
-            Argument::Spread(value) => value,
-        };
-        put(value.into_inner(), left);
+    while let Some(last) = comparisons.get_mut(comparisons.len().saturating_sub(1)) {
+        if exchange_boxed(&mut last.right, other) {
+            return true;
+        }
+        if let Some(Comparison { operator: _, right }) = comparisons.pop() {
+            drop(right.into_inner());
+        }
     }
-    given.destroy_empty();
-    while let Some(keyword) = named.pop() {
-        let value = match keyword {
-            Keyword::Named(_name, value) => value,
-            Keyword::Spread(value) => value,
-        };
-        put(value.into_inner(), left);
-    }
-    named.destroy_empty();
+    false
 }
 
 #[cycle(dropping)]
-#[tactic(auto, using(crate::proofs::Dropping::joined))]
-fn put_conditions(mut conditions: Vec<Condition>, left: &mut Vec<Expr>)
-    ensures { GrewAtMost (total condition_weight conditions.items) left.old.items left.new.items }
+#[tactic(auto, using(crate::proofs::Dropping::in_lists, crate::proofs::Replaced::steps))]
+fn exchange_in_steps(steps: &mut Items<Step>, other: &mut Expr) -> bool
+    ensures { Exchanged result
+        (total step_weight steps.old) (total step_weight steps.new) other.old other.new }
 {
-    while let Some(Condition { test, otherwise }) = conditions.pop() {
-        put(test.into_inner(), left);
-        put(otherwise.into_inner(), left);
+    while let Some(last) = steps.get_mut(steps.len().saturating_sub(1)) {
+        if exchange_in_step(last, other) {
+            return true;
+        }
+        if let Some(step) = steps.pop() {
+            drop_step(step);
+        }
     }
-    conditions.destroy_empty();
-}
-
-#[cycle(dropping)]
-#[tactic(auto, using(crate::proofs::Dropping::joined))]
-fn put_comparisons(mut comparisons: Vec<Comparison>, left: &mut Vec<Expr>)
-    ensures { GrewAtMost (total comparison_weight comparisons.items) left.old.items left.new.items }
-{
-    while let Some(Comparison { operator: _, right }) = comparisons.pop() {
-        put(right.into_inner(), left);
-    }
-    comparisons.destroy_empty();
-}
-
-#[cycle(dropping)]
-#[tactic(auto, using(crate::proofs::Dropping::joined))]
-fn put_steps(mut steps: Vec<Step>, left: &mut Vec<Expr>)
-    ensures { GrewAtMost (total step_weight steps.items) left.old.items left.new.items }
-{
-    while let Some(step) = steps.pop() {
-        put_step(step, left);
-    }
-    steps.destroy_empty();
+    false
 }
 
 #[cycle(dropping)]
 #[tactic(auto, using(crate::proofs::Dropping::of_step))]
-fn put_step(step: Step, left: &mut Vec<Expr>)
-    ensures { GrewAtMost (step_weight step) left.old.items left.new.items }
+fn exchange_in_step(step: &mut Step, other: &mut Expr) -> bool
+    ensures { Exchanged result
+        (step_weight step.old) (step_weight step.new) other.old other.new }
 {
     match step {
-        Step::Attribute(_name) => {}
-        Step::Item(value) => put(value.into_inner(), left),
-        Step::Apply(_application, _name, given, named) => {
-            put_passed(given.into_vec(), named.into_vec(), left)
-        }
-        Step::Call(given, named) => put_passed(given.into_vec(), named.into_vec(), left),
+        Step::Attribute(_) => false,
+        Step::Item(value) => exchange_boxed(value, other),
+        Step::Apply(_, _, given, named) => exchange_passed(given, named, other),
+        Step::Call(given, named) => exchange_passed(given, named, other),
         Step::Slice(start, stop, step) => {
-            put(start.into_inner(), left);
-            put(stop.into_inner(), left);
-            put(step.into_inner(), left);
+            exchange_boxed(step, other)
+                || exchange_boxed(stop, other)
+                || exchange_boxed(start, other)
         }
-        Step::Binary(_operator, right) => put(right.into_inner(), left),
-        Step::Compare(_operator, right, comparisons) => {
-            put(right.into_inner(), left);
-            put_comparisons(comparisons.into_vec(), left);
+        Step::Binary(_, right) => exchange_boxed(right, other),
+        Step::Compare(_, right, comparisons) => {
+            exchange_in_comparisons(comparisons, other) || exchange_boxed(right, other)
         }
-        Step::And(right) => put(right.into_inner(), left),
-        Step::Or(right) => put(right.into_inner(), left),
+        Step::And(right) => exchange_boxed(right, other),
+        Step::Or(right) => exchange_boxed(right, other),
     }
 }
