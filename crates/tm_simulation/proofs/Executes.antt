@@ -38,9 +38,31 @@ use Rattle.tm_simulation.proofs.Includes.{include_ends, import_gives, import_nam
 use Rattle.tm_simulation.proofs.Declares.{declared_gives, caller_gives, call_gives, take_parameters_give}
 
 -- What every statement ends by: its parts, each of which keeps what it has to.
-ruleset ends = (ends_use, ends_here, ends_do, choose_ends, ends_leave, ends_next, kept_same, tick_gives, truth_gives, innermost_asks,
-    super_asks, emitted_gives, place_ends, eval_gives, set_gives, tag_ends, assign_gives, import_gives, import_names_gives, include_ends,
-    declared_gives, load_does, waits_ends)
+ruleset ends = (
+  ends_use,
+  ends_here,
+  ends_do,
+  choose_ends,
+  ends_leave,
+  ends_next,
+  kept_same,
+  tick_gives,
+  truth_gives,
+  innermost_asks,
+  super_asks,
+  emitted_gives,
+  place_ends,
+  eval_gives,
+  set_gives,
+  tag_ends,
+  assign_gives,
+  import_gives,
+  import_names_gives,
+  include_ends,
+  declared_gives,
+  load_does,
+  waits_ends,
+)
 
 -- ---------------------------------------------------------------- statements
 module _ (u : Under) (nest_ends : (k : Callee) (heard : Bool) (out : List ℕ) (w : World) → RunEnds u.host w (u.nests k heard out w))
