@@ -2,6 +2,7 @@
 import importlib.machinery
 import importlib.util
 import os
+import shutil
 import subprocess
 import sys
 
@@ -10,6 +11,8 @@ ROOT = os.path.dirname(os.path.dirname(os.path.realpath(__file__)))
 
 def toolchain():
     """Loads the module of the command `rt`, whose crates can be checked and built."""
+    if not shutil.which("rt"):
+        sys.exit("the command `rt` of the Rattle kit isn't on the path")
     page = subprocess.run(["rt", "doc"], capture_output=True, text=True, check=True).stdout.strip()
     sys.dont_write_bytecode = True
     loader = importlib.machinery.SourceFileLoader("rt", f"{os.path.dirname(page)}/bin/rt")
