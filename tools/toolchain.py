@@ -1,0 +1,39 @@
+"""What the tools share: the toolchain's own module, and which libraries of tools/build are up to date."""
+import importlib.machinery
+import importlib.util
+import os
+import shutil
+import subprocess
+import sys
+
+ROOT = os.path.dirname(os.path.dirname(os.path.realpath(__file__)))
+
+
+def toolchain():
+    """Loads the module of the command `rt`, whose crates can be checked and built."""
+    if not shutil.which("rt"):
+        sys.exit("the command `rt` of the Rattle kit isn't on the path")
+    page = subprocess.run(["rt", "doc"], capture_output=True, text=True, check=True).stdout.strip()
+    sys.dont_write_bytecode = True
+    loader = importlib.machinery.SourceFileLoader("rt", f"{os.path.dirname(page)}/bin/rt")
+    made = importlib.util.module_from_spec(importlib.util.spec_from_loader("rt", loader))
+    loader.exec_module(made)
+    # Kits that share work between checkouts do so only if they are told to; other kits have no such call.
+    getattr(made, "share_work", lambda is_shared: None)(True)
+    made.rtlib.Crate = made.Crate
+    return made
+
+
+def library(crate):
+    """The path of the library that tools/build makes of `crate`."""
+    return f"{crate.folder}/out/program/{crate.name}.rlib"
+
+
+def kept(crate):
+    """The path of the file that holds the checksum of the sources which that library was made from."""
+    return f"{crate.folder}/out/program/stamp"
+
+
+def is_kept(rtlib, crate):
+    """Whether the library was made from the sources as they are now."""
+    return os.path.isdir(library(crate)) and rtlib.text_of(kept(crate)) == crate.stamp()
