@@ -510,6 +510,14 @@ impl Activation {
         self.take(count + count)
     }
 
+    /// Pops the topmost operand, if there is one.
+    pub(crate) fn pop(&mut self) -> Option<Value>
+        ensures { MatchOption result ((self.old.operands ≡ []) × (self.new ≡ self.old))
+            (λ v. self.old ≡ record self.new { operands = v ∷ self.new.operands }) }
+    {
+        self.operands.pop()
+    }
+
     /// Pops the topmost operand. Stuck if there is none.
     #[inline(always)]
     pub(crate) fn popped(&mut self) -> Result<Value, Halt>

@@ -85,7 +85,9 @@ impl Machine {
         if host.has_formatter() {
             return self.emit_formatted(alloc, host, base, writer);
         }
-        let value = self.run.popped()?;
+        let Some(value) = self.run.pop() else {
+            return Err(Halt::Stuck);
+        };
         self.state.check_value(alloc, host, &value)?;
         self.run.advance();
         self.write_value(base, &value, writer)
@@ -105,7 +107,9 @@ impl Machine {
             (W.written writer.old) (W.written writer.new)
             (W.failures writer.old) (W.failures writer.new) result }
     {
-        let value = self.run.popped()?;
+        let Some(value) = self.run.pop() else {
+            return Err(Halt::Stuck);
+        };
         let formatted = self.state.format(alloc, host, &value)?;
         self.run.advance();
         self.write_text(base, formatted.as_str(), writer)
