@@ -1,24 +1,18 @@
--- Where a number on top counts more operands than there are, or none, the run is stuck.
-use Rattle.std.proofs.Common.{◌≡◌, ℕ, ◌<◌, List, [], ◌∷◌, length, Option, Some, None, Bool, true, Result, refl, sym, subst, ◌∙◌}
+-- Operands that don't matter to what a call comes to.
+use Rattle.std.proofs.Common.{◌≡◌, ℕ, List, [], ◌∷◌, Option, Some, None, Bool, true, Result, refl, sym, subst, ◌∙◌}
 use Rattle.std.proofs.Common.{ap}
 use Rattle.tm_values.specs.Val.{Val}
 use Rattle.tm_meaning.specs.World.{World}
 use Rattle.tm_syntax.specs.declared.instruction.LoopPlace.{LoopPlace}
 use Rattle.tm_meaning.specs.Calls.{Asked, has, refused, runs, recurs}
-use Rattle.tm_meaning.specs.Machine.{Activation, Capture, Config, Next, Program, asked, recursion, place_of_loop, new_capture, stuck}
+use Rattle.tm_meaning.specs.Machine.{Activation, Capture, Config, Next, Program, asked, recursion, place_of_loop, new_capture}
 use Rattle.tm_meaning.specs.Machine.{on_taken, take_n, taken}
-use Rattle.tm_meaning.specs.Instructions.{on_count, take_counted}
+use Rattle.tm_meaning.specs.Instructions.{take_counted}
 use Rattle.tm_parts.specs.declared.halt.Halt.{Halt}
-use Rattle.tm_vm.specs.Answers.{Needed, Needs, TakesCounted}
+use Rattle.tm_runs.specs.Runs.{TakesCounted}
+use Rattle.tm_vm.specs.Answers.{Needed, Needs}
 use Rattle.tm_vm.specs.declared.flow.Flow.{Flow}
-use Rattle.tm_parts.proofs.Operands.{taken_too_many}
 
-pub no_count : (o : Option ℕ) (us : List Val) (w : World) (f : List Val → List Val → Next) →
-    ((n : ℕ) → o ≡ Some n → length us < n) → on_count o w (λ n. take_n n us w f) ≡ stuck w
-no_count None us w f few = refl
-no_count (Some n) us w f few = ap (λ t. on_taken t w f) (taken_too_many n [] us (few n refl))
-
--- ---------------------------------------------------------------- operands that don't matter to what a call comes to
 abbrev over : List Val → Config → Config
 over us c = record c { run = record c.run { operands = us } }
 

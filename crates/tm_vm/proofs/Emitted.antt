@@ -17,21 +17,18 @@ use Rattle.tm_output.specs.Counts.{AppendsBeginning}
 use Rattle.tm_state.specs.Answers.{KeepsFixedAndNames}
 use Rattle.tm_vm.specs.Answers.{SameStanding, output}
 use Rattle.tm_vm.proofs.Ground.{standing_same}
-use Rattle.tm_vm.specs.AtOnce.{Attempted, AttemptedUntold, IsAtOnce, captured_of, paid, written_of}
+use Rattle.tm_runs.specs.Attempts.{captured_of, written_of}
+use Rattle.tm_vm.specs.AtOnce.{Attempted, AttemptedUntold, IsAtOnce, paid}
 use Rattle.tm_parts.specs.Outgoing.{IsPut, IsPutInPart}
 use Rattle.tm_output.specs.Pieces.{beginning_nothing}
 use Rattle.tm_vm.proofs.Loop.{kept_same}
-use Rattle.tm_vm.proofs.Performed.{chosen, not_chosen, nothing_written}
+use Rattle.tm_runs.proofs.Paid.{chosen, emitted_known, not_chosen}
+use Rattle.tm_vm.proofs.Performed.{nothing_written}
 
 -- where there is no formatter
 pub no_formatter : (found : Option Format) → is_some found ≡ false → found ≡ None
 no_formatter None e = refl
 no_formatter (Some f) e = absurd (cc e)
-
--- no formatter is asked, and nothing refuses
-pub emitted_known : (host : HostValue) (v : Val) (w : World) → host.formatter ≡ None → refusal_of host.undefined Emission v ≡ None →
-    emission_verdict w.escape (records_of w) v ≡ Ok tt → emitted host v w ≡ Good (emitted_text w.escape (records_of w) v) w
-emitted_known host v w none defined fine = rw (defined, none, fine) refl
 
 -- a value on top is emitted where no capture is open
 goes_on : (host : HostValue) (f : Base) (old new : Config) (v : Val) (rest : List Val) (text : List ℕ) → old.captures ≡ [] →

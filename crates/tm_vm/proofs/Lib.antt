@@ -1,7 +1,6 @@
 pub mod Ground
 pub mod Shift
-pub mod Leaves
-pub mod Left
+pub mod LeafCalls
 pub mod Loop
 pub mod Used
 pub mod Performed
@@ -11,5 +10,4 @@ pub mod Counted
 pub mod Called
 pub mod Returned
 pub mod StepsAtOnce
-pub mod Texts
 pub mod Exported

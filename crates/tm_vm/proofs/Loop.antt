@@ -28,7 +28,8 @@ use Rattle.tm_state.specs.declared.nested.NestedRun.{NestedRun}
 use Rattle.tm_vm.specs.declared.flow.Flow.{Flow}
 use Rattle.tm_vm.specs.declared.flow.Flow.TheVariants as flow
 use Rattle.tm_vm.specs.Answers.{BeginsRun, ComesTo, Did, Enters, HaltsAs, KeepsGround, NoFewer, ReachesEnd, KeepsBaseScopes, SameStanding}
-use Rattle.tm_vm.specs.Answers.{finished_at, output}
+use Rattle.tm_runs.specs.Runs.{finished_at}
+use Rattle.tm_vm.specs.Answers.{output}
 use Rattle.tm_vm.proofs.Ground.{below_first, below_include, below_owning, ground_then, include_long, outermost_long, outermost_twice, owning_long, standing}
 use Rattle.tm_state.specs.Answers.{KeepsFixed, KeepsFixedAndNames, OneDeeper, call_of}
 use Rattle.tm_state.specs.declared.saved.Saved.{Saved}

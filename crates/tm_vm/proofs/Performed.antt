@@ -10,8 +10,7 @@ use Rattle.tm_meaning.specs.Instructions.{call_block_of}
 use Rattle.tm_meaning.specs.Machine.{Config, Next, More, Program, after, asked_in_place, audible, first_run, nested, with_world}
 use Rattle.tm_meaning.specs.Meaning.{none_waits}
 use Rattle.tm_meaning.specs.declared.stream.StreamId.{StreamId}
-use Rattle.std.proofs.Common.{◌-◌, nat_le}
-use Rattle.std.proofs.lemmas.Bool.Decides.{nat_tests}
+use Rattle.std.proofs.Common.{◌-◌}
 use Rattle.tm_meaning.specs.Steps.{act, charge_of, effect, pay, step}
 use Rattle.tm_syntax.specs.declared.instruction.Instruction.{Instruction}
 use Rattle.tm_state.specs.Answers.{KeepsFixed, KeepsFixedAndNames, OneDeeper, fixed_of}
@@ -24,18 +23,19 @@ use Rattle.tm_meaning.specs.declared.base.Base.{Base}
 use Rattle.tm_output.specs.Pieces.{appends_nothing, beginning_nothing}
 use Rattle.tm_parts.specs.declared.halt.Halt.{Halt}
 use Rattle.tm_parts.specs.declared.halt.Halt.TheVariants as halt
-use Rattle.tm_meaning.specs.World.{CanPay, World, Good, choose}
+use Rattle.tm_meaning.specs.World.{CanPay, World, Good}
 use Rattle.tm_state.specs.State.{IsSaved, runs_block, saved_of}
 use Rattle.tm_state.specs.declared.saved.Saved.{Saved}
 use Rattle.tm_state.specs.declared.saved.Saved.TheVariants as saved
 use Rattle.tm_state.specs.declared.nested.RunOf.TheVariants as run_of
 use Rattle.tm_vm.specs.Answers.{Depths, Did, Enters, entered, Performs, WritesNext, Silently, Opens, Shifts, Needs, Loads, Finishes}
-use Rattle.tm_vm.specs.Answers.{NoFewer, KeepsBaseScopes, Names, output}
-use Rattle.tm_vm.specs.AtOnce.{Attempted, IsAtOnce, IsCharged, IsFree, IsPaid, attempt_of, captured_of, free_attempt_of, paid}
-use Rattle.tm_vm.specs.AtOnce.{written_of}
+use Rattle.tm_vm.specs.Answers.{KeepsBaseScopes, Names, output}
+use Rattle.tm_runs.proofs.Paid.{chosen, pays_nothing, pays_one}
+use Rattle.tm_runs.specs.Attempts.{attempt_of, captured_of, free_attempt_of, written_of}
+use Rattle.tm_vm.specs.AtOnce.{Attempted, IsAtOnce, IsCharged, IsFree, IsPaid, paid}
 use Rattle.tm_output.specs.declared.target.TargetFailed.{TargetFailed}
-use Rattle.tm_vm.specs.declared.at_once.Attempt.{Attempt}
-use Rattle.tm_vm.specs.declared.at_once.Attempt.TheVariants.{Done, DoneFree, Left, WriterFailed, NoMemory}
+use Rattle.tm_runs.specs.declared.attempt.Attempt.{Attempt}
+use Rattle.tm_runs.specs.declared.attempt.Attempt.TheVariants.{Done, DoneFree, Left, WriterFailed, NoMemory}
 use Rattle.tm_state.specs.declared.nested.NestedRun.{NestedRun}
 use Rattle.tm_vm.specs.declared.flow.Flow.{Flow}
 use Rattle.tm_vm.specs.declared.flow.Flow.TheVariants as flow
@@ -278,14 +278,6 @@ same_entry : (p : Program) (e d : NestedRun) (b : World) (c : Config) → e ≡ 
     Enters p e c n
 same_entry p e d b c same is n at = subst (λ x. Enters p x c n) (sym same) (b, is, at)
 
-pub chosen : (b : Bool) (x y : Unit {0} → Next) → b ≡ true → choose b x y ≡ x tt
-chosen true x y e = refl
-chosen false x y e = absurd cc
-
-pub not_chosen : (b : Bool) (x y : Unit {0} → Next) → b ≡ false → choose b x y ≡ y tt
-not_chosen true x y e = absurd cc
-not_chosen false x y e = refl
-
 both : (a b : Bool) → a ≡ true → b ≡ true → a && b ≡ true
 both true b d e = e
 both false b d e = absurd cc
@@ -477,9 +469,6 @@ read_at (y ∷ ys) zero x within read = ap (λ z. Some z) (sym (read y))
 read_at (y ∷ ys) (suc n) x within read = read_at ys n x (omega (arith, within)) read
 
 -- ---------------------------------------------------------------- at once
-pub pays_one : (x : Instruction) (w : World) → charge_of x ≡ 1 → CanPay 1 w.fuel → pay x w ≡ Good tt (record w { fuel = w.fuel - 1 })
-pays_one x w one more = let enough : nat_le 1 w.fuel ≡ true = grind (arith, nat_tests) in rw (one, enough) refl
-
 paid_keeps : (w : World) → KeepsFixedAndNames w (record w { fuel = w.fuel - 1 })
 paid_keeps w = record { same_id = refl; same_fuel_set = refl; no_more_fuel = omega arith; same_loaded = refl }
 
@@ -491,9 +480,6 @@ pub done_at_once : {told now : Option (List ℕ)} {failures count : ℕ} (p : Pr
     Performs p f (step p f old) old new told now failures count result
 done_at_once p f x old new result found one more h =
     step_done p f x old (paid old) new result found (pays_one x old.world one more) (paid_keeps old.world) refl h
-
-pub pays_nothing : (x : Instruction) (w : World) → charge_of x ≡ 0 → pay x w ≡ Good tt w
-pays_nothing x w free = rw free refl
 
 -- the instruction at the place is free and did its part at once
 pub done_free : {told now : Option (List ℕ)} {failures count : ℕ} (p : Program) (f : Base) (x : Instruction)

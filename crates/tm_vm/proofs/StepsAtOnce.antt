@@ -7,8 +7,8 @@ use Rattle.tm_meaning.specs.Steps.{charge_of, effect}
 use Rattle.tm_meaning.specs.declared.base.Base.{Base}
 use Rattle.tm_parts.specs.declared.halt.Halt.TheVariants as halt
 use Rattle.tm_vm.specs.AtOnce.{Attempted, IsPaid, StepAttempted, no_memory, paid}
-use Rattle.tm_vm.specs.declared.at_once.Attempt.{Attempt}
-use Rattle.tm_vm.specs.declared.at_once.Attempt.TheVariants.{Done, DoneFree, Left, WriterFailed, NoMemory}
+use Rattle.tm_runs.specs.declared.attempt.Attempt.{Attempt}
+use Rattle.tm_runs.specs.declared.attempt.Attempt.TheVariants.{Done, DoneFree, Left, WriterFailed, NoMemory}
 use Rattle.tm_vm.specs.declared.flow.Flow.TheVariants as flow
 use Rattle.tm_vm.proofs.Performed.{done_at_once, done_free, wrote}
 use Rattle.tm_vm.proofs.Weight.{paid_for}

@@ -1,21 +1,15 @@
 -- What the machine's functions answer, beside what the definitions say.
-use Rattle.std.specs.Prelude.{◌≡◌, ◌+◌, ◌<◌, ◌≤◌, ◌^◌, ◌-◌, ◌*◌, ℕ, List, [], ◌∷◌, length, Option, None, Some, Result, Ok, Err, Bool, true}
-use Rattle.std.specs.Prelude.{false, drop, Vec, map as each}
-use Rattle.std.specs.Rc.{rc_str_bytes}
-use Rattle.std.specs.declared.rc.RcStr.{RcStr}
-use Rattle.std.specs.declared.alloc.Global.{Global}
+use Rattle.std.specs.Prelude.{◌≡◌, ◌+◌, ◌<◌, ◌≤◌, ◌-◌, ◌*◌, ℕ, List, [], ◌∷◌, length, Option, None, Some, Result, Ok, Err, Bool, true}
+use Rattle.std.specs.Prelude.{false, drop}
 use Rattle.std.specs.Io.KnownBytes.{Appends}
 use Rattle.tm_meaning.specs.Memory.{is_want_of_memory}
 use Rattle.tm_syntax.specs.declared.instruction.Instruction.{Instruction}
 use Rattle.tm_meaning.specs.World.{World, HostValue, Named, Scopes}
 use Rattle.tm_meaning.specs.Calls.{Asked, outermost}
-use Rattle.tm_values.specs.declared.error.ErrorKind.TheVariants.{OutOfMemory}
-use Rattle.tm_meaning.specs.Machine.{Caches, take_n, stuck}
-use Rattle.tm_meaning.specs.Machine.{Return, Activation, Capture, Config, End, Finished, Failed, Stuck, Next, More, Over, Restart, Nest, Program}
+use Rattle.tm_meaning.specs.Machine.{Return, Activation, Capture, Config, End, Failed, Stuck, Next, More, Over, Restart, Nest, Program}
 use Rattle.tm_meaning.specs.Machine.{Back, back_to, first_run, nested, running, recursion, place_of_loop, asked, waiting, new_capture, restarted}
-use Rattle.tm_values.specs.Val.{Val}
 use Rattle.tm_state.specs.declared.calls.Recursion.{Recursion}
-use Rattle.tm_meaning.specs.Instructions.{jump_if_true_or_pop_of, jump_if_false_or_pop_of, take_counted}
+use Rattle.tm_meaning.specs.Instructions.{jump_if_true_or_pop_of, jump_if_false_or_pop_of}
 use Rattle.tm_meaning.specs.Steps.{Leads, final, step}
 use Rattle.tm_meaning.specs.declared.base.Base.{Base}
 use Rattle.tm_meaning.specs.declared.stream.StreamId.{StreamId}
@@ -29,6 +23,7 @@ use Rattle.tm_meaning.specs.Inheritance.{names_left}
 use Rattle.tm_meaning.specs.declared.stream.TemplateId.{TemplateId}
 use Rattle.tm_state.specs.declared.calls.CallResult.{CallResult}
 use Rattle.tm_state.specs.declared.nested.NestedRun.{NestedRun}
+use Rattle.tm_runs.specs.Runs.{finished_at}
 use Rattle.tm_vm.specs.declared.flow.Flow.{Flow}
 use Rattle.tm_vm.specs.declared.flow.Flow.TheVariants as flow
 
@@ -42,10 +37,6 @@ abbrev pub HaltsAs : Halt → World → (End → Type 0) → Type 0
 HaltsAs halt.Writer w Holds = Unit {0}
 HaltsAs halt.Stuck w Holds = Holds (Stuck w)
 HaltsAs (halt.Fault chain) w Holds = is_want_of_memory chain ≡ false → Holds (Failed chain w)
-
--- a run that is done here
-abbrev pub finished_at : Config → End
-finished_at c = Finished c.run.operands c.captures c.world
 
 -- The end that a run answered has a property.
 abbrev pub EndsAs : Result (Unit {0}) Halt → Config → (End → Type 0) → Type 0
@@ -305,56 +296,11 @@ abbrev pub IsAtFirst : Option Activation → List Capture → World → Result C
 IsAtFirst first captures w (Ok c) = (first ≡ Some c.run) × (c ≡ running c.run captures w)
 IsAtFirst first captures w (Err left) = (first ≡ None) × (left ≡ w)
 
--- a run with its loop at a place open, which is called, over so many captures
-abbrev pub called : ℕ → ℕ → Bool → Activation → Activation
-called place floor value r =
-    record r {
-      place = place + 1;
-      operands = [];
-      escapes = [];
-      floor = floor;
-      loops = Some (record {
-        place = r.place + 1;
-        operands = r.operands;
-        escapes = r.escapes;
-        floor = r.floor;
-        parent = r.parent;
-        value = value;
-      }) ∷ r.loops;
-    }
-
--- a run that goes on where a loop was called
-abbrev pub resumed : Return → Activation → Activation
-resumed back r = record r { place = back.place; operands = back.operands; escapes = back.escapes; floor = back.floor }
-
 -- a loop is called over the operands and captures that there are
 abbrev pub recurses : Program → Recursion → Bool → Config → Next
 recurses p r value c = recursion p c value c.run.operands c.captures r.number (place_of_loop p c r.number) r.items.value.items c.world
-
--- These are the caches after a use of a name by its number, apart from running out of memory; or it can't be used by that.
-abbrev pub IsUsed : Option Caches → Caches → Result ℕ Halt → Type 0
-IsUsed used new (Ok _) = used ≡ Some new
-IsUsed used new (Err halt.Writer) = ⊥
-IsUsed used new (Err halt.Stuck) = used ≡ None
-IsUsed used new (Err (halt.Fault chain)) = chain ≡ OutOfMemory ∷ []
-
--- a place from which a run can go on
-abbrev pub CanGoOn : Activation → Type 0
-CanGoOn run = run.place < 2 ^ 64 - 1
 
 -- Goes on at a place where the topmost value has this truth, and leaves it there; else pops it.
 abbrev pub jump_or_pop_of : HostValue → Bool → ℕ → Config → Next
 jump_or_pop_of host true = jump_if_true_or_pop_of host
 jump_or_pop_of host false = jump_if_false_or_pop_of host
-
--- An instruction that takes so many values, or as many as the number on top counts, takes so many of these; or it is stuck.
-abbrev pub TakesCounted : Option ℕ → List Val → ℕ → List Val → Type 0
-TakesCounted count old n new = (w : World) (f : List Val → List Val → Next) → take_counted count old w f ≡ take_n n new w f
-
-abbrev pub IsUncounted : Option ℕ → List Val → Type 0
-IsUncounted count old = (w : World) (f : List Val → List Val → Next) → take_counted count old w f ≡ stuck w
-
--- These are the texts that were found, or none were.
-abbrev pub AreTexts : Option (Vec (RcStr Global) Global) → Option (List (List ℕ)) → Type 0
-AreTexts (Some texts) found = found ≡ Some (each rc_str_bytes texts.items)
-AreTexts None found = found ≡ None

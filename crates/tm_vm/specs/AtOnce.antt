@@ -1,5 +1,5 @@
 -- What comes of an instruction that is done at once where it can be.
-use Rattle.std.specs.Prelude.{◌≡◌, ◌-◌, ℕ, List, [], ◌∷◌, Option, Result, Ok, Err, Bool, true, false}
+use Rattle.std.specs.Prelude.{◌≡◌, ◌-◌, ℕ, List, [], ◌∷◌, Option, Ok, Err, Bool, true, false}
 use Rattle.tm_values.specs.declared.error.ErrorKind.TheVariants.{OutOfMemory}
 use Rattle.tm_syntax.specs.declared.instruction.Instruction.{Instruction}
 use Rattle.tm_meaning.specs.World.{CanPay}
@@ -8,27 +8,10 @@ use Rattle.tm_meaning.specs.Machine.{Config, Next, Program}
 use Rattle.tm_meaning.specs.declared.base.Base.{Base}
 use Rattle.tm_parts.specs.declared.halt.Halt.{Halt}
 use Rattle.tm_parts.specs.declared.halt.Halt.TheVariants as halt
-use Rattle.tm_output.specs.declared.target.TargetFailed.{TargetFailed}
 use Rattle.tm_vm.specs.Answers.{Paid, Performs, Silently, WritesNext}
-use Rattle.tm_vm.specs.declared.at_once.Attempt.{Attempt}
-use Rattle.tm_vm.specs.declared.at_once.Attempt.TheVariants.{Done, DoneFree, Left, WriterFailed, NoMemory}
+use Rattle.tm_runs.specs.declared.attempt.Attempt.{Attempt}
+use Rattle.tm_runs.specs.declared.attempt.Attempt.TheVariants.{Done, DoneFree, Left, WriterFailed, NoMemory}
 use Rattle.tm_vm.specs.declared.flow.Flow.TheVariants as flow
-
-abbrev pub attempt_of : Bool → Attempt
-attempt_of true = Done
-attempt_of false = Left
-
-abbrev pub free_attempt_of : Bool → Attempt
-free_attempt_of true = DoneFree
-free_attempt_of false = Left
-
-abbrev pub written_of : Result (Unit {0}) TargetFailed → Attempt
-written_of (Ok _) = Done
-written_of (Err _) = WriterFailed
-
-abbrev pub captured_of : Result (Unit {0}) TargetFailed → Attempt
-captured_of (Ok _) = Done
-captured_of (Err _) = NoMemory
 
 -- out of memory ends a run
 abbrev pub no_memory : Halt

@@ -1,4 +1,4 @@
 pub mod Answers
 pub mod AtOnce
-pub mod Leaves
+pub mod LeafCalls
 pub mod Nested

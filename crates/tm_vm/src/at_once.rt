@@ -6,83 +6,19 @@ ghost use Rattle.tm_meaning.specs.Machine.{audible};
 ghost use Rattle.tm_meaning.specs.Instructions.{binary_of, discard_top_of, dup_top_of, emit_of, emit_raw_of, get_attr_of, iterate_of, jump_if_false_of};
 ghost use Rattle.tm_meaning.specs.Instructions.{is_undefined_of, load_const_of, lookup_of, store_local_of};
 ghost use Rattle.tm_meaning.specs.Steps.{effect};
-ghost use Rattle.tm_vm.specs.Answers.{program, CanGoOn};
-ghost use Rattle.tm_vm.specs.AtOnce.{Attempted, AttemptedUntold, IsAtOnce, IsCharged, IsFree, IsPaid, attempt_of};
-ghost use Rattle.tm_vm.specs.AtOnce.{captured_of, free_attempt_of, paid, written_of};
+ghost use Rattle.tm_runs.specs.Runs.{CanGoOn};
+ghost use Rattle.tm_vm.specs.Answers.{program};
+ghost use Rattle.tm_vm.specs.AtOnce.{Attempted, AttemptedUntold, IsAtOnce, IsCharged, IsFree, IsPaid, paid};
 
 use crate::machine::Machine;
 use tm_meaning::Base;
-use tm_output::{TargetFailed, put_text};
+use tm_output::put_text;
 use tm_parts::Sink;
 use tm_printing::emit_at_once;
+use tm_runs::Attempt;
 use tm_syntax::{BinaryOperator, Instruction, Name, RawText};
 use tm_tables::Host;
 use tm_values::Value;
-
-/// What came of an instruction that is done at once where it can be.
-#[derive(Clone, Copy, PartialEq, Eq)]
-pub(crate) enum Attempt {
-    /// It was paid for and done, and the run goes on.
-    Done,
-    /// It is free of charge and was done, and the run goes on.
-    DoneFree,
-    /// Nothing was done.
-    Left,
-    /// The writer failed.
-    WriterFailed,
-    /// The innermost capture found no memory.
-    NoMemory,
-}
-
-impl Attempt {
-    /// Done or left.
-    #[inline(always)]
-    fn of(is_done: bool) -> Attempt
-        ensures { result ≡ attempt_of is_done }
-    {
-        if is_done {
-            Attempt::Done
-        } else {
-            Attempt::Left
-        }
-    }
-
-    /// Done free of charge, or left.
-    #[inline(always)]
-    fn free(is_done: bool) -> Attempt
-        ensures { result ≡ free_attempt_of is_done }
-    {
-        if is_done {
-            Attempt::DoneFree
-        } else {
-            Attempt::Left
-        }
-    }
-}
-
-impl Attempt {
-    /// Done, or ended by the writer.
-    #[inline(always)]
-    fn written(answer: Result<(), TargetFailed>) -> Attempt
-        ensures { result ≡ written_of answer }
-    {
-        match answer {
-            Ok(()) => Attempt::Done,
-            Err(_failed) => Attempt::WriterFailed,
-        }
-    }
-
-    /// Done, or ended when out of memory.
-    #[inline(always)]
-    fn captured(answer: Result<(), TargetFailed>) -> Attempt
-        ensures { result ≡ captured_of answer }
-    {
-        match answer {
-            Ok(()) => Attempt::Done,
-            Err(_failed) => Attempt::NoMemory,
-        }
-    }
-}
 
 impl Machine {
     /// Pays a charge of one and goes on to the next place.

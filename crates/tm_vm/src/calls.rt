@@ -5,7 +5,8 @@ ghost use Rattle.tm_meaning.specs.Machine.{asked, goes};
 ghost use Rattle.tm_meaning.specs.Instructions.{call_function_of, call_object_of, apply_of};
 ghost use Rattle.tm_meaning.specs.Instructions.{apply_filter_of, perform_test_of};
 ghost use Rattle.tm_meaning.specs.Instructions.{call_block_of, fast_recurse_of};
-ghost use Rattle.tm_vm.specs.Answers.{program, recurses, CanGoOn, Silently, Opens, Needs, EntersAsValue, GoesOnWith};
+ghost use Rattle.tm_runs.specs.Runs.{CanGoOn};
+ghost use Rattle.tm_vm.specs.Answers.{program, recurses, Silently, Opens, Needs, EntersAsValue, GoesOnWith};
 
 use crate::flow::Flow;
 use crate::machine::Machine;
@@ -357,7 +358,7 @@ impl Machine {
         ensures { Silently (goes (value ∷ drop count self.old.run.operands) self.old.world self.old)
             self.old self.new result }
     {
-        self.run.operands.replace_topmost(count, value)?;
+        self.run.replace_topmost(count, value)?;
         self.run.advance();
         Ok(Flow::GoOn)
     }

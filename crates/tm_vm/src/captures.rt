@@ -1,18 +1,18 @@
 //! The instructions of captures and escapes.
 ghost use Rattle.std.specs.Prelude.{◌≡◌, IfOk, IfErr, true};
 ghost use Rattle.tm_meaning.specs.Memory.{is_want_of_memory};
-ghost use Rattle.tm_meaning.specs.Calls.{run_value};
-ghost use Rattle.tm_meaning.specs.World.{World, captured_text};
+ghost use Rattle.tm_meaning.specs.World.{captured_text};
 ghost use Rattle.tm_meaning.specs.Instructions.{begin_capture_of, end_capture_of, push_auto_escape_of, pop_auto_escape_of};
-ghost use Rattle.tm_vm.specs.Answers.{CanGoOn, Silently};
+ghost use Rattle.tm_runs.specs.Runs.{CanGoOn};
+ghost use Rattle.tm_vm.specs.Answers.{Silently};
 
 use crate::flow::Flow;
 use crate::machine::Machine;
 use std::alloc::Global;
-use tm_meaning::{Base, RunText};
+use tm_meaning::Base;
 use tm_parts::{Halt, captured_value, escape_for};
 use tm_syntax::CaptureMode;
-use tm_values::{AutoEscape, Error, Value};
+use tm_values::{Error, Value};
 
 impl Machine {
     /// A captured text as a value, safe where the state escapes. Fails by OutOfMemory alone.
@@ -81,23 +81,5 @@ impl Machine {
         self.state.set_escape(escape);
         self.run.advance();
         Ok(Flow::GoOn)
-    }
-}
-
-/// The text of a run as a value, in a state that escapes so. Fails by OutOfMemory alone.
-pub fn run_value(
-    alloc: Global,
-    kind: RunText,
-    text: &str,
-    escape: AutoEscape,
-) -> Result<Value, Error>
-    ensures ok { IfOk result (λ value. (w : World) → w.escape ≡ escape →
-        value ≡ run_value kind text.now w) }
-    ensures kind { IfErr result (λ e. is_want_of_memory e ≡ true) }
-{
-    match kind {
-        RunText::Captured => captured_value(alloc, text, escape),
-        RunText::Plain => Value::text(alloc, text),
-        RunText::Truth => Ok(Value::boolean(!text.is_empty())),
     }
 }

@@ -1,6 +1,7 @@
 //! The instructions of templates that others include and import.
 ghost use Rattle.tm_meaning.specs.Instructions.{export_locals_of, include_of};
-ghost use Rattle.tm_vm.specs.Answers.{program, CanGoOn, Needs, Silently};
+ghost use Rattle.tm_runs.specs.Runs.{CanGoOn};
+ghost use Rattle.tm_vm.specs.Answers.{program, Needs, Silently};
 
 use crate::flow::Flow;
 use crate::machine::Machine;

@@ -1,6 +1,7 @@
 //! The instructions of parents and of the blocks after those that run.
 ghost use Rattle.tm_meaning.specs.Instructions.{fast_super_of, load_blocks_of};
-ghost use Rattle.tm_vm.specs.Answers.{program, CanGoOn, Loads, Needs};
+ghost use Rattle.tm_runs.specs.Runs.{CanGoOn};
+ghost use Rattle.tm_vm.specs.Answers.{program, Loads, Needs};
 
 use crate::flow::Flow;
 use crate::machine::Machine;

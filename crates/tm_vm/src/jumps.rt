@@ -1,6 +1,7 @@
 //! The jumps.
 ghost use Rattle.tm_meaning.specs.Instructions.{jump_of, jump_if_false_of};
-ghost use Rattle.tm_vm.specs.Answers.{jump_or_pop_of, CanGoOn, Silently};
+ghost use Rattle.tm_runs.specs.Runs.{CanGoOn};
+ghost use Rattle.tm_vm.specs.Answers.{jump_or_pop_of, Silently};
 
 use crate::flow::Flow;
 use crate::machine::Machine;

@@ -1,9 +1,7 @@
 //! The machine: one method for each instruction, and the loop.
 #![tactic(auto)]
 
-mod activation;
 mod at_once;
-mod caches;
 mod calls;
 mod captures;
 mod flow;
@@ -19,6 +17,6 @@ mod output;
 mod scopes;
 mod steps;
 
-pub use captures::run_value;
 pub use flow::Flow;
 pub use machine::Machine;
+pub use tm_runs::run_value;

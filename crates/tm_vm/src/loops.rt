@@ -1,15 +1,16 @@
 //! The instructions of loops.
 ghost use Rattle.std.specs.Prelude.{◌≡◌};
 ghost use Rattle.tm_meaning.specs.Instructions.{push_loop_of, iterate_of, push_did_not_iterate_of, pop_loop_frame_of, returns};
-ghost use Rattle.tm_vm.specs.Answers.{program, resumed, CanGoOn, Silently, Opens, Shifts};
+ghost use Rattle.tm_runs.specs.Runs.{resumed, CanGoOn};
+ghost use Rattle.tm_vm.specs.Answers.{program, Silently, Opens, Shifts};
 
-use crate::activation::Return;
 use crate::flow::Flow;
 use crate::machine::Machine;
 use std::alloc::Global;
 use tm_meaning::{Base, RunText};
 use tm_operations::iterate;
 use tm_parts::Halt;
+use tm_runs::Return;
 use tm_shapes::Verified;
 use tm_syntax::LoopFlags;
 use tm_tables::Host;
@@ -32,7 +33,7 @@ impl Machine {
             (push_loop_of (program (H.meaning host.now) (H.code host.now)) flags self.old)
             self.old self.new result }
     {
-        let number = code.loop_number(self.run.place);
+        let number = code.loop_number(self.run.place());
         let value = self.run.popped()?;
         let items = iterate(alloc, &value, &self.state, host.undefined_behavior())?;
         self.run.begin_loop()?;

@@ -1,5 +1,5 @@
 //! The machine: a run with its operands, the captures and the state, and the loop.
-ghost use Rattle.std.specs.Prelude.{◌≡◌, ◌≤◌, ◌+◌, [], ◌∷◌, length, MatchOption, OnOk};
+ghost use Rattle.std.specs.Prelude.{◌≡◌, ◌≤◌, [], ◌∷◌, length, MatchOption, OnOk};
 ghost use Rattle.tm_meaning.specs.Inheritance.{names_left};
 ghost use Rattle.tm_meaning.specs.Machine.{audible, base_of, first_run, run_from, running};
 ghost use Rattle.tm_meaning.specs.Steps.{step};
@@ -9,15 +9,13 @@ ghost use Rattle.tm_state.specs.Answers.{KeepsFixed};
 ghost use Rattle.tm_state.specs.State.{callee_of, put_back};
 ghost use Rattle.tm_vm.specs.Nested.{RanNested, StandsOn, WroteBeginning, IsBack, IsWrapped, IsCaptured, base_in, begins_in};
 
-use crate::activation::Activation;
-use crate::captures::run_value;
 use crate::flow::Flow;
-use crate::leaf::Leaf;
 use std::alloc::Global;
 use std::marker::Model;
 use std::mem;
 use tm_meaning::{Base, RunText, StreamId, TemplateId, Wrapping};
 use tm_parts::{Captures, Halt, Sink};
+use tm_runs::{Activation, Leaf, run_value};
 use tm_shapes::Verified;
 use tm_state::{NestedRun, RunOf, Saved, StateData};
 use tm_tables::Host;
@@ -131,15 +129,12 @@ impl Machine {
         ensures state { result.1 ≡ self.world }
     {
         let Machine {
-            mut run,
+            run,
             captures: _captures,
             state,
             leaf: _leaf,
         } = self;
-        if run.operands.len() != 1 {
-            return (None, state);
-        }
-        (run.operands.pop(), state)
+        (run.into_value(), state)
     }
 
     // ------------------------------------------------------------ parts
@@ -287,7 +282,7 @@ impl Machine {
     fn code<'host, H: Host>(&self, host: &'host H) -> &'host Verified
         ensures { result.now ≡ H.code host.now self.now.run.stream }
     {
-        host.instructions(&self.run.stream, self.state.template_place())
+        host.instructions(self.run.stream(), self.state.template_place())
     }
 
     /// Runs to the end of the stream, or of the last one of its parents; `heard` says whether its text is.

@@ -1,20 +1,19 @@
 //! The instructions of macros.
-ghost use Rattle.std.specs.Prelude.{◌≡◌, List, Option, map as each};
-ghost use Rattle.std.specs.Rc.{rc_str_bytes};
-ghost use Rattle.tm_meaning.specs.Instructions.{build_macro_of, closure_in, closure_value, enclose_of, get_closure_of};
-ghost use Rattle.tm_meaning.specs.Instructions.{is_undefined_of, names_in, texts_in};
-ghost use Rattle.tm_values.specs.Answer.{OkOrOutOfMemory};
-ghost use Rattle.tm_vm.specs.Answers.{program, AreTexts, CanGoOn, Silently};
+ghost use Rattle.std.specs.Prelude.{◌≡◌};
+ghost use Rattle.tm_meaning.specs.Instructions.{build_macro_of, enclose_of, get_closure_of};
+ghost use Rattle.tm_meaning.specs.Instructions.{is_undefined_of};
+ghost use Rattle.tm_runs.specs.Runs.{CanGoOn};
+ghost use Rattle.tm_vm.specs.Answers.{program, Silently};
 
 use crate::flow::Flow;
 use crate::machine::Machine;
 use std::alloc::Global;
-use std::rc::RcStr;
 use tm_parts::Halt;
+use tm_runs::{argument_names, closure_number, closure_operand};
 use tm_shapes::Verified;
 use tm_syntax::Name;
 use tm_tables::Host;
-use tm_values::{Error, ErrorKind, Node, Value};
+use tm_values::Value;
 
 impl Machine {
     /// Replaces a value by whether it is undefined.
@@ -81,52 +80,4 @@ impl Machine {
             .make_macro(alloc, number, closure, name, arguments, caller)?;
         self.push_next(declared)
     }
-}
-
-/// A closure as an operand: its number, or none.
-fn closure_operand(closure: Option<usize>) -> Value
-    ensures { result ≡ closure_value closure }
-{
-    match closure {
-        Some(number) => Value::number(number as i128),
-        None => Value::none(),
-    }
-}
-
-/// The closure that an operand is, where it is one. OutOfMemory for a number that no memory has room for.
-fn closure_number(value: &Value) -> Result<Option<Option<usize>>, Error>
-    ensures { OkOrOutOfMemory result (λ found. found ≡ closure_in value.now) }
-{
-    match &value.node {
-        Node::None => Ok(Some(None)),
-        Node::Number(whole) if *whole >= 0 => match usize::try_from(*whole) {
-            Ok(number) => Ok(Some(Some(number))),
-            Err(_) => Err(Error::from(ErrorKind::OutOfMemory)),
-        },
-        _ => Ok(None),
-    }
-}
-
-/// The names that a list of texts is, where the value is one. Fails by OutOfMemory alone.
-fn argument_names(alloc: Global, value: &Value) -> Result<Option<Vec<RcStr>>, Error>
-    ensures { OkOrOutOfMemory result (λ found. AreTexts found (names_in value.now)) }
-{
-    match value.as_list() {
-        Some(items) => texts_of(alloc, items),
-        None => Ok(None),
-    }
-}
-
-/// The texts that values are, where each is one. Fails by OutOfMemory alone.
-fn texts_of(alloc: Global, values: &[Value]) -> Result<Option<Vec<RcStr>>, Error>
-    ensures { OkOrOutOfMemory result (λ found. AreTexts found (texts_in values.now)) }
-{
-    let mut texts = Vec::with_capacity(alloc, values.len())?;
-    for value in values {
-        let Some(text) = value.as_str() else {
-            return Ok(None);
-        };
-        texts.push(RcStr::from_str(alloc, text)?)?;
-    }
-    Ok(Some(texts))
 }

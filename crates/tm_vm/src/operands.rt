@@ -1,12 +1,13 @@
 //! The instructions of operands, operators, lists and maps.
-ghost use Rattle.std.specs.Prelude.{◌≡◌, ◌<◌, ◌∷◌, ℕ, pos, Some, IfSome, IfNone};
+ghost use Rattle.std.specs.Prelude.{◌<◌, ◌∷◌, Some};
 ghost use Rattle.tm_meaning.specs.Machine.{goes};
 ghost use Rattle.tm_meaning.specs.Instructions.{lookup_of, load_const_of, get_attr_of, unary_of, binary_of};
 ghost use Rattle.tm_meaning.specs.Instructions.{compare_and_preserve_of, swap_of, dup_top_of, discard_top_of};
-ghost use Rattle.tm_meaning.specs.Instructions.{get_item_of, slice_instruction_of, build_list_of, count_in};
+ghost use Rattle.tm_meaning.specs.Instructions.{get_item_of, slice_instruction_of, build_list_of};
 ghost use Rattle.tm_meaning.specs.Instructions.{build_map_of, build_kwargs_of, merge_kwargs_of};
 ghost use Rattle.tm_meaning.specs.Instructions.{unpack_lists_of};
-ghost use Rattle.tm_vm.specs.Answers.{CanGoOn, Silently};
+ghost use Rattle.tm_runs.specs.Runs.{CanGoOn};
+ghost use Rattle.tm_vm.specs.Answers.{Silently};
 
 use crate::flow::Flow;
 use crate::machine::Machine;
@@ -15,7 +16,7 @@ use tm_operations::{attribute, item, merge_maps, slice, spread_items};
 use tm_parts::{Halt, binary, paired, unary};
 use tm_syntax::{BinaryOperator, Name, UnaryOperator};
 use tm_tables::Host;
-use tm_values::{Node, Value, ValueMap};
+use tm_values::{Value, ValueMap};
 
 impl Machine {
     /// Pushes an operand and goes on.
@@ -137,7 +138,7 @@ impl Machine {
         requires { CanGoOn self.old.run }
         ensures { Silently (dup_top_of self.old) self.old self.new result }
     {
-        let value = match self.run.operands.peek() {
+        let value = match self.run.top() {
             Some(top) => top.share()?,
             None => return Err(Halt::Stuck),
         };
@@ -252,7 +253,7 @@ impl Machine {
         ensures { Silently (merge_kwargs_of (H.meaning host.now) count self.old)
             self.old self.new result }
     {
-        let Some(maps) = self.run.operands.args(count) else {
+        let Some(maps) = self.run.args(count) else {
             return Err(Halt::Stuck);
         };
         let pairs = merge_maps(alloc, maps, &self.state, host.undefined_behavior())?;
@@ -273,7 +274,7 @@ impl Machine {
         ensures { Silently (unpack_lists_of (H.meaning host.now) count self.old)
             self.old self.new result }
     {
-        let Some(lists) = self.run.operands.args(count) else {
+        let Some(lists) = self.run.args(count) else {
             return Err(Halt::Stuck);
         };
         let items = spread_items(alloc, lists, &self.state, host.undefined_behavior())?;
@@ -281,27 +282,5 @@ impl Machine {
         self.run.drop_operands(count);
         self.run.append(items)?;
         self.push_next(number)
-    }
-}
-
-/// How many a number counts, where there are at most so many.
-pub(crate) fn counted(value: &Value, most: usize) -> Option<usize>
-    ensures some { IfSome result (λ n. count_in value.now ≡ Some n) }
-    ensures none { IfNone result ((n : ℕ) → count_in value.now ≡ Some n → most < n) }
-{
-    match &value.node {
-        Node::Number(whole) => counted_whole(*whole, most),
-        _ => None,
-    }
-}
-
-/// How many a whole number counts, where there are at most so many.
-fn counted_whole(whole: i128, most: usize) -> Option<usize>
-    ensures some { IfSome result (λ n. whole ≡ pos n) }
-    ensures none { IfNone result ((n : ℕ) → whole ≡ pos n → most < n) }
-{
-    match usize::try_from(whole) {
-        Ok(count) if count <= most => Some(count),
-        _ => None,
     }
 }

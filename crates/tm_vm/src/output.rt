@@ -3,7 +3,8 @@ ghost use Rattle.tm_meaning.specs.World.{records_of};
 ghost use Rattle.tm_meaning.specs.Machine.{writes};
 ghost use Rattle.tm_meaning.specs.Instructions.{emit_raw_of, emit_of};
 ghost use Rattle.tm_definitions.specs.Emitted.{emitted_text};
-ghost use Rattle.tm_vm.specs.Answers.{CanGoOn, WritesNext};
+ghost use Rattle.tm_runs.specs.Runs.{CanGoOn};
+ghost use Rattle.tm_vm.specs.Answers.{WritesNext};
 
 use crate::flow::Flow;
 use crate::machine::Machine;

@@ -1,6 +1,7 @@
 //! The instructions of scopes and targets.
 ghost use Rattle.tm_meaning.specs.Instructions.{store_local_of, unpack_list_of, set_attr_of, push_with_of, pop_frame_of};
-ghost use Rattle.tm_vm.specs.Answers.{CanGoOn, Silently, Opens, Shifts};
+ghost use Rattle.tm_runs.specs.Runs.{CanGoOn};
+ghost use Rattle.tm_vm.specs.Answers.{Silently, Opens, Shifts};
 
 use crate::flow::Flow;
 use crate::machine::Machine;
@@ -30,7 +31,7 @@ impl Machine {
     {
         let value = self.run.popped()?;
         let items = unpack(alloc, &value, count, &self.state)?;
-        self.run.operands.push_each(&items)?;
+        self.run.push_each(&items)?;
         self.run.advance();
         Ok(Flow::GoOn)
     }

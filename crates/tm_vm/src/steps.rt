@@ -3,17 +3,17 @@ ghost use Rattle.std.specs.Prelude.{◌≡◌, ◌+◌, [], ◌∷◌, OnOk, OnE
 ghost use Rattle.tm_values.specs.declared.error.ErrorKind.TheVariants.{OutOfFuel};
 ghost use Rattle.tm_meaning.specs.World.{Good, Bad};
 ghost use Rattle.tm_meaning.specs.Steps.{charge_of, closed, pay, effect, finish, return_of, step};
-ghost use Rattle.tm_vm.specs.Answers.{program, CanGoOn, Performs, Finishes, Paid};
+ghost use Rattle.tm_runs.specs.Runs.{CanGoOn};
+ghost use Rattle.tm_vm.specs.Answers.{program, Performs, Finishes, Paid};
 ghost use Rattle.tm_vm.specs.AtOnce.{StepAttempted};
 ghost use Rattle.tm_state.specs.Answers.{KeepsFixedAndNames};
 
-use crate::activation::Activation;
-use crate::at_once::Attempt;
 use crate::flow::Flow;
 use crate::machine::Machine;
 use std::alloc::Global;
 use tm_meaning::Base;
 use tm_parts::{Halt, Sink};
+use tm_runs::{Activation, Attempt};
 use tm_shapes::Verified;
 use tm_syntax::{Application, BinaryOperator, Instruction, UnaryOperator};
 use tm_tables::{Exhausted, Host, NO_PLACE};
@@ -137,7 +137,7 @@ impl Machine {
     pub(crate) fn place(&self) -> usize
         ensures { result ≡ self.now.run.place }
     {
-        self.run.place
+        self.run.place()
     }
 
     /// Pays for an instruction; Exhausted where less than its charge is left.
@@ -172,7 +172,7 @@ impl Machine {
     fn end_run(&mut self, alloc: Global, base: &Base, size: usize) -> Result<Flow, Halt>
         ensures { Finishes result base.now self.old self.new (finish size base.now self.old) }
     {
-        if self.run.place == size && self.is_closed(base) && self.run.none_waits() {
+        if self.run.place() == size && self.is_closed(base) && self.run.none_waits() {
             return Ok(Flow::Done);
         }
         self.finish(alloc, base, size)
@@ -184,7 +184,7 @@ impl Machine {
     pub(crate) fn finish(&mut self, alloc: Global, base: &Base, size: usize) -> Result<Flow, Halt>
         ensures { Finishes result base.now self.old self.new (finish size base.now self.old) }
     {
-        if self.run.place != size || !self.is_closed(base) {
+        if self.run.place() != size || !self.is_closed(base) {
             return Err(Halt::Stuck);
         }
         let Some(root) = self.run.parent_root()? else {

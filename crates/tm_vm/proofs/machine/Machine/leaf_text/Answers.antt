@@ -3,9 +3,10 @@ use Rattle.tm_syntax.specs.Entries.{entries}
 use Rattle.tm_syntax.specs.declared.instruction.Instruction.{Instruction}
 use Rattle.tm_meaning.specs.Machine.{Config}
 use Rattle.tm_vm.specs.Answers.{program}
-use Rattle.tm_vm.specs.Leaves.{GivesText, LeafRun, RunsOut, begun}
+use Rattle.tm_runs.specs.Leaves.{LeafRun, RunsOut, begun}
+use Rattle.tm_vm.specs.LeafCalls.{GivesText}
 use Rattle.tm_vm.proofs.Emitted.{no_formatter}
-use Rattle.tm_vm.proofs.Leaves.{called}
+use Rattle.tm_vm.proofs.LeafCalls.{called}
 use Rattle.tm_vm.proofs.machine.Machine.leaf_text.Goals as goal
 
 pub returns-clause-gives : goal.returns-clause-gives

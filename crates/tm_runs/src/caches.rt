@@ -1,0 +1,137 @@
+//! The caches of a run, for filters or for tests.
+ghost use Rattle.std.specs.Prelude.{◌≡◌, ◌⊎◌, [], ◌∷◌, None, Some, OnOk, IfErr, MatchOption, slice_get};
+ghost use Rattle.tm_meaning.specs.Instructions.{holding, used};
+ghost use Rattle.tm_syntax.specs.Named.{same_name};
+ghost use Rattle.tm_runs.specs.Runs.{IsUsed};
+
+use std::alloc::Global;
+use std::marker::Model;
+use tm_objects::Host;
+use tm_parts::Halt;
+use tm_scopes::NO_PLACE;
+use tm_syntax::{Application, CACHES, NO_CACHE, Name};
+use tm_values::{Error, ErrorKind};
+
+/// Where a host has the filter or the test of a name. A method stands nowhere.
+#[inline(never)]
+fn place_of<H: Host>(host: &H, application: Application, name: &str) -> usize {
+    match application {
+        Application::Filter => host.filter_place(name),
+        Application::Test | Application::NegatedTest => host.test_place(name),
+        Application::Method => NO_PLACE,
+    }
+}
+
+/// The name that a cache holds, and where what it names stands. A contract sees the name alone.
+#[derive(Drop)]
+struct Held {
+    name: Name,
+    place: usize,
+}
+
+impl Model for Held {
+    ghost use Rattle.std.specs.Prelude.{List, ℕ};
+
+    ghost Value = { List ℕ };
+
+    ghost view = { λ held. held.name };
+}
+
+impl Held {
+    /// Whether this is the name.
+    #[inline(always)]
+    fn is(&self, name: &Name) -> bool
+        ensures { result ≡ same_name name.now self.now }
+    {
+        *name == self.name
+    }
+
+    /// Where what it names stands.
+    #[inline(always)]
+    fn place(&self) -> usize {
+        self.place
+    }
+}
+
+/// The names that caches hold, each at its number. Those after the last are empty, so that a run without filters
+/// takes no memory for them.
+#[derive(Drop)]
+pub(crate) struct Caches {
+    names: Vec<Option<Held>>,
+}
+
+impl Model for Caches {
+    ghost use Rattle.std.specs.Prelude.{List, Option, ℕ};
+
+    ghost Value = { List (Option (List ℕ)) };
+
+    ghost view = { λ caches. caches.names.items };
+}
+
+impl Caches {
+    /// All empty.
+    pub(crate) fn new(alloc: Global) -> Caches
+        ensures { result ≡ [] }
+    {
+        Caches {
+            names: Vec::new(alloc),
+        }
+    }
+
+    /// Uses a filter's or a test's name by its number, and gives where it stands: the cache, where the number is
+    /// that of one, holds the name from then on, so that its place is asked for once. Stuck where it holds another
+    /// name, and where the number is neither that of a cache nor of none; OutOfMemory.
+    #[inline(always)]
+    pub(crate) fn use_name<H: Host>(
+        &mut self,
+        host: &H,
+        application: Application,
+        cache: u8,
+        name: &Name,
+    ) -> Result<usize, Halt>
+        ensures { IsUsed (used cache name.now self.old) self.new result }
+    {
+        if cache == NO_CACHE {
+            return Ok(NO_PLACE);
+        }
+        if cache >= CACHES {
+            return Err(Halt::Stuck);
+        }
+        match self.held(cache as usize) {
+            Some(held) if held.is(name) => return Ok(held.place()),
+            Some(_) => return Err(Halt::Stuck),
+            None => {}
+        }
+        let place = place_of(host, application, name.as_str());
+        self.hold(cache as usize, name, place)?;
+        Ok(place)
+    }
+
+    /// What a cache holds.
+    #[inline(always)]
+    fn held(&self, cache: usize) -> Option<&Held>
+        ensures { MatchOption result
+            ((slice_get self.now cache ≡ None) ⊎ (slice_get self.now cache ≡ Some None))
+            (λ held. slice_get self.now cache ≡ Some (Some held.now)) }
+    {
+        match self.names.get(cache) {
+            Some(Some(held)) => Some(held),
+            _ => None,
+        }
+    }
+
+    /// Lets a cache hold a name that stands there; OutOfMemory.
+    #[inline(never)]
+    #[tactic(auto, using(crate::proofs::Used::one_empty, crate::proofs::Used::held_there))]
+    fn hold(&mut self, cache: usize, name: &Name, place: usize) -> Result<(), Error>
+        ensures ok { OnOk result (self.new ≡ holding cache name.now self.old) }
+        ensures kind { IfErr result (λ e. e ≡ ErrorKind.OutOfMemory ∷ []) }
+    {
+        while self.names.len() <= cache {
+            self.names.push(None)?;
+        }
+        let name = name.share()?;
+        self.names[cache] = Some(Held { name, place });
+        Ok(())
+    }
+}
