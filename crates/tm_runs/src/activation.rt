@@ -66,9 +66,9 @@ impl Return {
     }
 }
 
-/// What is a run's own: its stream and the place in it, its operands, the escapes that its open `autoescape`s
-/// replaced, for each loop that it has open where that goes on if it was called, how many captures stood
-/// when it or the innermost called loop began, the parent that waits, and its caches.
+/// What is a run's own: its stream and the place in it; its operands; the escapes that its open `autoescape`s replaced;
+/// for each loop that it has open where that goes on if it was called; how many captures were open when it or the
+/// innermost called loop began; the parent that waits; and its caches.
 #[derive(Drop)]
 pub struct Activation {
     stream: StreamId,
@@ -106,14 +106,15 @@ impl Model for Activation {
 }
 
 impl Activation {
-    /// A run of a stream from its first instruction, over so many captures.
+    /// A run of `stream` from its first instruction, which begins with `floor` captures open.
     pub fn new(alloc: Global, stream: StreamId, floor: usize) -> Activation
         ensures { result ≡ run_from stream floor }
     {
         Activation::over(alloc, stream, floor, 0, Vec::new(alloc))
     }
 
-    /// A run of a stream from a place, over so many captures, with values as operands, the last of them on top.
+    /// A run of `stream` from `place`, which begins with `floor` captures open and with `values` as operands, the last
+    /// of them on top.
     pub fn over(
         alloc: Global,
         stream: StreamId,
@@ -155,14 +156,14 @@ impl Activation {
         self.place
     }
 
-    /// Takes the operands that are left, in whose room there may be others.
+    /// Takes the operands that are left, so that others can use their room.
     #[inline(always)]
     pub fn take_room(&mut self, alloc: Global) -> Vec<Value> {
         mem::replace(&mut self.operands, Stack::new(alloc)).into_values()
     }
 
-    /// Uses a filter by its cache number, and gives where it stands. Stuck where it can't be used by that;
-    /// OutOfMemory.
+    /// Uses the filter `name` by its number `cache`, and gives where `host` has it. Stuck if it can't be used by this
+    /// number; OutOfMemory.
     #[inline(always)]
     pub fn use_filter<H: Host>(&mut self, host: &H, cache: u8, name: &Name) -> Result<usize, Halt>
         ensures used { IsUsed (used cache name.now self.old.filters) self.new.filters result }
@@ -172,8 +173,8 @@ impl Activation {
             .use_name(host, Application::Filter, cache, name)
     }
 
-    /// Uses a test by its cache number, and gives where it stands. Stuck where it can't be used by that;
-    /// OutOfMemory.
+    /// Uses the test `name` by its number `cache`, and gives where `host` has it. Stuck if it can't be used by this
+    /// number; OutOfMemory.
     #[inline(always)]
     pub fn use_test<H: Host>(&mut self, host: &H, cache: u8, name: &Name) -> Result<usize, Halt>
         ensures used { IsUsed (used cache name.now self.old.tests) self.new.tests result }
@@ -190,14 +191,14 @@ impl Activation {
         self.parent.is_none()
     }
 
-    /// The parent that waits, where one does.
+    /// The parent that waits, if one does.
     pub fn parent(&self) -> &Option<TemplateId>
         ensures { result.now ≡ self.now.parent }
     {
         &self.parent
     }
 
-    /// The parent that waits, where one does. Fails by OutOfMemory alone, where the owners of a name can't be counted.
+    /// The parent that waits, if one does. Fails by OutOfMemory alone, if the owners of a name can't be counted.
     fn shared_parent(&self) -> Result<Option<TemplateId>, Error>
         ensures ok { IfOk result (λ parent. parent ≡ self.now.parent) }
         ensures kind { IfErr result (λ e. e ≡ ErrorKind.OutOfMemory ∷ []) }
@@ -208,7 +209,7 @@ impl Activation {
         }
     }
 
-    /// The root of the parent that waits, where one does. Fails by OutOfMemory alone.
+    /// The root of the parent that waits, if one does. Fails by OutOfMemory alone.
     pub fn parent_root(&self) -> Result<Option<StreamId>, Error>
         ensures ok { IfOk result (λ root. root ≡ option_map root_of self.now.parent) }
         ensures kind { IfErr result (λ e. e ≡ ErrorKind.OutOfMemory ∷ []) }
@@ -219,21 +220,21 @@ impl Activation {
         }
     }
 
-    /// A parent waits from here on, or none does.
+    /// Lets `parent` wait from here on, or none.
     pub fn wait_for(&mut self, parent: Option<TemplateId>)
         ensures { self.new ≡ record self.old { parent = parent } }
     {
         self.parent = parent;
     }
 
-    /// How many captures stood when it or the innermost called loop began.
+    /// How many captures were open when it or the innermost called loop began.
     pub fn floor(&self) -> usize
         ensures { result ≡ self.now.floor }
     {
         self.floor
     }
 
-    /// Whether no `autoescape` of its is open.
+    /// Whether none of its `autoescape`s is open.
     pub fn escapes_are_closed(&self) -> bool
         ensures { result ≡ is_empty self.now.escapes }
     {
@@ -247,7 +248,7 @@ impl Activation {
         !self.loops.is_empty()
     }
 
-    /// Has a loop more open, which wasn't called. Fails by OutOfMemory alone.
+    /// Opens one more loop, which wasn't called. Fails by OutOfMemory alone.
     pub fn begin_loop(&mut self) -> Result<(), Error>
         ensures ok { OnOk result (self.new ≡ record self.old { loops = None ∷ self.old.loops }) }
         ensures kind { IfErr result (λ e. e ≡ ErrorKind.OutOfMemory ∷ []) }
@@ -257,7 +258,7 @@ impl Activation {
         Ok(())
     }
 
-    /// Has its innermost loop open no longer, where it has one, and gives where that goes on if it was called.
+    /// Closes its innermost loop, if it has one, and gives where that goes on if it was called.
     pub fn end_loop(&mut self) -> Option<Option<Return>>
         ensures { MatchOption result ((self.old.loops ≡ []) × (self.new ≡ self.old))
             (λ pending. self.old ≡ record self.new { loops = pending ∷ self.new.loops }) }
@@ -265,8 +266,8 @@ impl Activation {
         self.loops.pop()
     }
 
-    /// Has the loop at a place open, which is called, and goes on after that, over no operands and so many
-    /// captures. Fails by OutOfMemory alone.
+    /// Opens the loop at `place`, which is called, and goes on after that place, with no operands and `floor` captures
+    /// open; `value` says whether its text is a value. Fails by OutOfMemory alone.
     pub fn call_loop(
         &mut self,
         alloc: Global,
@@ -326,7 +327,7 @@ impl Activation {
         Ok(())
     }
 
-    /// The escape that the innermost open `autoescape` replaced, which is kept no longer.
+    /// Gives the escape that the innermost open `autoescape` replaced, and keeps it no longer; none if none is open.
     pub fn pop_escape(&mut self) -> Option<AutoEscape>
         ensures { MatchOption result ((self.old.escapes ≡ []) × (self.new ≡ self.old))
             (λ escape. self.old ≡ record self.new { escapes = escape ∷ self.new.escapes }) }
@@ -342,7 +343,7 @@ impl Activation {
         self.place += 1;
     }
 
-    /// Goes on to a place.
+    /// Goes on to `place`.
     pub fn jump(&mut self, place: usize)
         ensures { self.new ≡ record self.old { place = place } }
     {
@@ -359,8 +360,7 @@ impl Activation {
         self.operands.push(value)
     }
 
-    /// Puts a second owner of a value on top, where there is room. Else all stays as it was, and the answer is
-    /// false.
+    /// Puts a second owner of a value on top, if there is room. Else all stays as it was, and the answer is false.
     #[inline(always)]
     pub fn push_shared(&mut self, value: &Value) -> bool
         ensures { OrStays result self.old self.new
@@ -369,8 +369,8 @@ impl Activation {
         self.operands.push_shared(value)
     }
 
-    /// Puts what an operator gives of the two topmost operands in their place, where both are numbers and it needs
-    /// no more than them. Else all stays as it was, and the answer is false.
+    /// Puts what an operator gives of the two topmost operands in their place, if both are numbers and it needs no more
+    /// than them. Else all stays as it was, and the answer is false.
     #[inline(always)]
     pub fn operate(&mut self, operator: BinaryOperator) -> bool
         ensures operands { OrStays result self.old.operands self.new.operands
@@ -380,8 +380,8 @@ impl Activation {
         self.operands.operate(operator)
     }
 
-    /// Puts what the map on top has at a name in its place, where it has it. Else all stays as it was, and the
-    /// answer is false.
+    /// Puts what the map on top has at `name` in its place, if it has it. Else all stays as it was, and the answer is
+    /// false.
     #[inline(always)]
     pub fn replace_by_member(&mut self, name: &str) -> bool
         ensures operands { OrStays result self.old.operands self.new.operands
@@ -391,8 +391,8 @@ impl Activation {
         self.operands.replace_by_member(name)
     }
 
-    /// Puts whether the topmost operand is undefined in its place, where there is one. Else all stays as it was, and
-    /// the answer is false.
+    /// Puts whether the topmost operand is undefined in its place, if there is one. Else all stays as it was, and the
+    /// answer is false.
     #[inline(always)]
     pub fn test_undefined(&mut self) -> bool
         ensures operands { OrStays result self.old.operands self.new.operands
@@ -402,8 +402,8 @@ impl Activation {
         self.operands.test_undefined()
     }
 
-    /// Puts a second owner of the topmost operand on top, where there is one and room for it. Else all stays as it
-    /// was, and the answer is false.
+    /// Puts a second owner of the topmost operand on top, if there is one and room for it. Else all stays as it was,
+    /// and the answer is false.
     #[inline(always)]
     pub fn double_top(&mut self) -> bool
         ensures operands { OrStays result self.old.operands self.new.operands
@@ -413,7 +413,7 @@ impl Activation {
         self.operands.double_top()
     }
 
-    /// Takes the truth value on top, where one is. Else all stays as it was.
+    /// Takes the truth value on top, if one is there. Else all stays as it was.
     #[inline(always)]
     pub fn take_boolean(&mut self) -> Option<bool>
         ensures { MatchOption result (self.new ≡ self.old)
@@ -422,7 +422,7 @@ impl Activation {
         self.operands.take_boolean()
     }
 
-    /// The topmost operand, where there is one.
+    /// The topmost operand, if there is one.
     #[inline(always)]
     pub fn top(&self) -> Option<&Value>
         ensures { MatchOption result (self.now.operands ≡ [])
@@ -431,7 +431,7 @@ impl Activation {
         self.operands.peek()
     }
 
-    /// The truth of the topmost operand, where there is one.
+    /// The truth of the topmost operand, if there is one, or its error if it is undefined and `undefined` refuses that.
     pub fn top_truth(&self, undefined: UndefinedBehavior) -> Option<Result<bool, Error>>
         ensures { MatchOption result (self.now.operands ≡ [])
             (λ answer. (v : Val) × (rest : List Val) × (self.now.operands ≡ v ∷ rest)
@@ -441,21 +441,21 @@ impl Activation {
         Some(truth(value, undefined))
     }
 
-    /// Drops the topmost operand, where there is one.
+    /// Drops the topmost operand, if there is one.
     pub fn drop_top(&mut self)
         ensures { self.new ≡ record self.old { operands = drop 1 self.old.operands } }
     {
         self.operands.drop_top();
     }
 
-    /// Drops the topmost so many operands.
+    /// Drops the topmost `count` operands, or all if there are fewer.
     pub fn drop_operands(&mut self, count: usize)
         ensures { self.new ≡ record self.old { operands = drop count self.old.operands } }
     {
         self.operands.remove(count);
     }
 
-    /// The topmost so many operands, the lowest first, where there are so many.
+    /// The topmost `count` operands, the lowest first, if there are as many.
     #[inline(always)]
     pub fn args(&self, count: usize) -> Option<&[Value]>
         ensures { MatchOption result (taken count [] self.now.operands ≡ None)
@@ -465,7 +465,7 @@ impl Activation {
         self.operands.args(count)
     }
 
-    /// Takes the topmost so many operands, the lowest first, where there are so many. Fails by OutOfMemory alone.
+    /// Takes the topmost `count` operands, the lowest first, if there are as many. Fails by OutOfMemory alone.
     pub fn take(&mut self, count: usize) -> Result<Option<Vec<Value>>, Error>
         ensures taken { MatchResult result
             (λ values. MatchOption values (taken count [] self.old.operands ≡ None)
@@ -476,8 +476,8 @@ impl Activation {
         self.operands.take(count)
     }
 
-    /// How many operands an instruction takes: so many, or as many as the number on top counts, which is taken.
-    /// None where no number is there, or it counts more than there are.
+    /// How many operands an instruction takes: `count`, or if that is none as many as the number on top counts, which
+    /// is taken. None if no number is there, or it counts more than there are.
     #[tactic(auto, using(crate::proofs::Counted::no_count))]
     pub fn take_count(&mut self, count: Option<usize>) -> Option<usize>
         ensures counted { MatchOption result (IsUncounted count self.old.operands)
@@ -522,7 +522,7 @@ impl Activation {
         self.operands.append(values)
     }
 
-    /// Takes so many topmost pairs of operands, the lowest first, where there are so many. Fails by OutOfMemory alone.
+    /// Takes the topmost `count` pairs of operands, the lowest first, if there are as many. Fails by OutOfMemory alone.
     pub fn take_pairs(&mut self, count: usize) -> Result<Option<Vec<Value>>, Error>
         ensures taken { MatchResult result
             (λ values. MatchOption values (taken (count + count) [] self.old.operands ≡ None)

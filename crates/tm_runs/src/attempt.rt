@@ -4,7 +4,7 @@ ghost use Rattle.tm_runs.specs.Attempts.{attempt_of, captured_of, free_attempt_o
 
 use tm_output::TargetFailed;
 
-/// What came of an instruction that is done at once where it can be.
+/// What came of an instruction that is done at once if it can be.
 #[derive(Clone, Copy, PartialEq, Eq)]
 pub enum Attempt {
     /// It was paid for and done, and the run goes on.
@@ -20,7 +20,7 @@ pub enum Attempt {
 }
 
 impl Attempt {
-    /// Done or left.
+    /// Done if `is_done`, else left.
     #[inline(always)]
     pub fn of(is_done: bool) -> Attempt
         ensures { result ≡ attempt_of is_done }
@@ -32,7 +32,7 @@ impl Attempt {
         }
     }
 
-    /// Done free of charge, or left.
+    /// Done free of charge if `is_done`, else left.
     #[inline(always)]
     pub fn free(is_done: bool) -> Attempt
         ensures { result ≡ free_attempt_of is_done }
@@ -44,7 +44,7 @@ impl Attempt {
         }
     }
 
-    /// Done, or ended by the writer.
+    /// Done, or ended by the writer, which failed.
     #[inline(always)]
     pub fn written(answer: Result<(), TargetFailed>) -> Attempt
         ensures { result ≡ written_of answer }
@@ -55,7 +55,7 @@ impl Attempt {
         }
     }
 
-    /// Done, or ended when out of memory.
+    /// Done, or ended because a capture found no memory.
     #[inline(always)]
     pub fn captured(answer: Result<(), TargetFailed>) -> Attempt
         ensures { result ≡ captured_of answer }

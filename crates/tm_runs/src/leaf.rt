@@ -111,7 +111,7 @@ impl Leaf {
         }
     }
 
-    /// The room of the operands, which are dropped.
+    /// Drops the operands, and gives their room.
     pub fn take_room(&mut self, alloc: Global) -> Vec<Value>
         ensures { result.items ≡ [] }
     {
@@ -120,19 +120,20 @@ impl Leaf {
         room
     }
 
-    /// Whether the macro of an entry was no leaf.
+    /// Whether the macro of `entry`, or one that has the same bit, was no leaf.
     pub fn is_other(&self, entry: usize) -> bool {
         self.others >> (entry % 64) & 1 == 1
     }
 
-    /// The macro of an entry is no leaf.
+    /// Notes that the macro of `entry` is no leaf.
     pub fn note_other(&mut self, entry: usize)
         ensures { self.new ≡ self.old }
     {
         self.others |= 1 << (entry % 64);
     }
 
-    /// Begins at a place, with these arguments as operands and so much fuel. AllocError when out of memory.
+    /// Begins at `place`, with `given` as operands, the last of them on top, and with `fuel`. AllocError when out of
+    /// memory.
     pub fn begin(
         &mut self,
         alloc: Global,
@@ -164,7 +165,7 @@ impl Leaf {
         self.fuel
     }
 
-    /// The text as a value, which is shared, safe where there is an escape. OutOfMemory.
+    /// The text as a value, which is shared, and safe if there is an escape. OutOfMemory.
     pub fn value(&self, escape: AutoEscape) -> Result<Value, Error>
         ensures { OkOrOutOfMemory result (λ v. v ≡ text self.now.text (is_escaping escape)) }
     {
@@ -458,7 +459,7 @@ impl Leaf {
         }
     }
 
-    /// Runs to the macro's end over code, under an escape; false where it is no leaf.
+    /// Runs to the macro's end over `code`, under `escape`; false if it is no leaf.
     #[inline(never)]
     pub fn run(&mut self, code: &Verified, escape: AutoEscape) -> bool
         ensures runs { IsTrue result → RunsOut code.now escape self.old self.new }

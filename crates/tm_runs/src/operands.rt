@@ -8,7 +8,7 @@ use std::alloc::Global;
 use std::rc::RcStr;
 use tm_values::{Error, ErrorKind, Node, Value};
 
-/// How many a number counts, where there are at most so many.
+/// How many a number counts, if that is at most `most`.
 pub(crate) fn counted(value: &Value, most: usize) -> Option<usize>
     ensures some { IfSome result (λ n. count_in value.now ≡ Some n) }
     ensures none { IfNone result ((n : ℕ) → count_in value.now ≡ Some n → most < n) }
@@ -19,7 +19,7 @@ pub(crate) fn counted(value: &Value, most: usize) -> Option<usize>
     }
 }
 
-/// How many a whole number counts, where there are at most so many.
+/// How many a whole number counts, if that is at most `most`.
 fn counted_whole(whole: i128, most: usize) -> Option<usize>
     ensures some { IfSome result (λ n. whole ≡ pos n) }
     ensures none { IfNone result ((n : ℕ) → whole ≡ pos n → most < n) }
@@ -40,7 +40,7 @@ pub fn closure_operand(closure: Option<usize>) -> Value
     }
 }
 
-/// The closure that an operand is, where it is one. OutOfMemory for a number that no memory has room for.
+/// The closure that an operand is, if it is one. OutOfMemory for a number that no memory has room for.
 pub fn closure_number(value: &Value) -> Result<Option<Option<usize>>, Error>
     ensures { OkOrOutOfMemory result (λ found. found ≡ closure_in value.now) }
 {
@@ -54,7 +54,7 @@ pub fn closure_number(value: &Value) -> Result<Option<Option<usize>>, Error>
     }
 }
 
-/// The names that a list of texts is, where the value is one. Fails by OutOfMemory alone.
+/// The names that a list of texts is, if the value is one. Fails by OutOfMemory alone.
 pub fn argument_names(alloc: Global, value: &Value) -> Result<Option<Vec<RcStr>>, Error>
     ensures { OkOrOutOfMemory result (λ found. AreTexts found (names_in value.now)) }
 {
@@ -64,7 +64,7 @@ pub fn argument_names(alloc: Global, value: &Value) -> Result<Option<Vec<RcStr>>
     }
 }
 
-/// The texts that values are, where each is one. Fails by OutOfMemory alone.
+/// The texts that values are, if each is one. Fails by OutOfMemory alone.
 fn texts_of(alloc: Global, values: &[Value]) -> Result<Option<Vec<RcStr>>, Error>
     ensures { OkOrOutOfMemory result (λ found. AreTexts found (texts_in values.now)) }
 {
