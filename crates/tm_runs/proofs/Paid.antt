@@ -5,7 +5,7 @@ use Rattle.tm_meaning.specs.Machine.{Next}
 use Rattle.std.proofs.Common.{◌-◌, nat_le}
 use Rattle.std.proofs.lemmas.Bool.Decides.{nat_tests}
 use Rattle.tm_meaning.specs.Steps.{charge_of, pay}
-use Rattle.tm_syntax.specs.declared.instruction.Instruction.{Instruction}
+use Rattle.tm_trees.specs.Instructions.{Instruction}
 use Rattle.tm_meaning.specs.World.{HostValue}
 use Rattle.tm_meaning.specs.World.{CanPay, World, Good, choose}
 use Rattle.tm_values.specs.Val.{Val}

@@ -3,7 +3,7 @@ use Rattle.std.specs.Prelude.{◌≡◌, ◌+◌, ◌<◌, ◌≤◌, ◌-◌, �
 use Rattle.std.specs.Prelude.{false, drop}
 use Rattle.std.specs.Io.KnownBytes.{Appends}
 use Rattle.tm_meaning.specs.Memory.{is_want_of_memory}
-use Rattle.tm_syntax.specs.declared.instruction.Instruction.{Instruction}
+use Rattle.tm_trees.specs.Instructions.{Instruction}
 use Rattle.tm_meaning.specs.World.{World, HostValue, Named, Scopes}
 use Rattle.tm_meaning.specs.Calls.{Asked, outermost}
 use Rattle.tm_meaning.specs.Machine.{Return, Activation, Capture, Config, End, Failed, Stuck, Next, More, Over, Restart, Nest, Program}
