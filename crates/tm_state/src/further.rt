@@ -18,7 +18,7 @@ use tm_printing::to_text;
 use tm_records::{CallResult, Further, NestedRun, RunOf, Saved, SavedBlock, is_macro, text_for};
 use tm_syntax::Name;
 use tm_tables::{CallableAnswer, Called, Host, NO_PLACE};
-use tm_values::{Error, ErrorKind, Macro, Node, Value};
+use tm_values::{Error, ErrorKind, MacroValue, Node, Value};
 
 impl StateData {
     /// How many depths more lie within the limit.
@@ -196,7 +196,7 @@ impl StateData {
         &mut self,
         alloc: Global,
         host: &H,
-        declared: &Macro,
+        declared: &MacroValue,
         args: &[Value],
         levels: usize,
         test: bool,
