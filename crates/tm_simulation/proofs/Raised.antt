@@ -35,7 +35,7 @@ use Rattle.tm_definitions.specs.Printed.{entered}
 use Rattle.tm_definitions.specs.Ranges.{range_of, given, at_most_arguments, required_in, later_in, or_invalid, some_of, bound_in, served}
 use Rattle.tm_definitions.specs.Ranges.{span_of}
 use Rattle.tm_definitions.specs.Ranges.{is_served}
-use Rattle.tm_values.specs.Plain.{fits_json}
+use Rattle.tm_values.specs.Writable.{fits_json}
 use Rattle.tm_definitions.specs.Verdicts.{Verdict, and_then, if_holds, in_json, no_json, loop_verdict, key_verdict}
 use Rattle.tm_definitions.specs.Verdicts.{NamespaceVerdicts}
 use Rattle.tm_definitions.specs.Verdicts.{verdict, items_verdict, pairs_verdict, Way, through, namespace_verdict, print_verdict, nowhere}
