@@ -3,14 +3,10 @@ use Rattle.std.specs.Prelude.{option_map}
 use Rattle.std.proofs.Common.{◌≡◌, ℕ, zero, suc, ◌-◌, Bool, true, false, List, [], ◌∷◌, ◌++◌, None, Some, refl, sym, ap, arith, ◌∙◌}
 use Rattle.tm_syntax.specs.declared.token.Tag.{Tag}
 use Rattle.tm_syntax.specs.declared.token.Token.{Token}
-use Rattle.tm_syntax.specs.declared.tree.Expr.{Expr}
-use Rattle.tm_syntax.specs.declared.tree.Expr.TheVariants as exprs
-use Rattle.tm_syntax.specs.declared.tree.BinaryOperator.{BinaryOperator}
-use Rattle.tm_syntax.specs.declared.tree.Comparison.{Comparison}
-use Rattle.tm_syntax.specs.declared.tree.Condition.{Condition}
-use Rattle.tm_syntax.specs.declared.tree.Step.{Step}
-use Rattle.tm_syntax.specs.declared.tree.Step.TheVariants as steps
-use Rattle.tm_syntax.specs.declared.tree.AssignmentTarget.TheVariants as target_forms
+use Rattle.tm_trees.specs.Trees.{Expr, BinaryOperator, Comparison, Condition, Step}
+use Rattle.tm_trees.specs.Trees.expr_forms as exprs
+use Rattle.tm_trees.specs.Trees.step_forms as steps
+use Rattle.tm_trees.specs.Trees.target_forms
 use Rattle.tm_grammar.specs.Meanings.{got}
 use Rattle.tm_parser.specs.Grammar.{inside, expr, operand, filter_step, chained, compared, conditional, target}
 use Rattle.tm_parser.specs.Grammar.{target_of, lone_target, last_target, attribute_name, split_last, are_none}

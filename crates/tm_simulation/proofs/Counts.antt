@@ -2,9 +2,8 @@
 use Rattle.std.proofs.Common.{◌≡◌, ℕ, zero, suc, ◌+◌, List, [], ◌∷◌, Option, Some, None, Bool, true, false, refl}
 use Rattle.std.proofs.Common.{ap, ◌∙◌, arith}
 use Rattle.std.specs.Prelude.{slice_get}
-use Rattle.tm_syntax.specs.declared.instruction.Instruction.{Instruction}
-use Rattle.tm_syntax.specs.declared.instruction.Instruction.TheVariants as i
-use Rattle.tm_syntax.specs.declared.instruction.LoopFlags.{LoopFlags}
+use Rattle.tm_trees.specs.Instructions.{Instruction, LoopFlags}
+use Rattle.tm_trees.specs.Instructions.instructions as i
 use Rattle.tm_syntax.specs.declared.jump.JumpKind.{JumpKind}
 use Rattle.tm_syntax.specs.declared.jump.JumpKind.TheVariants.{IfFalse, IfFalseOrPop, IfTrueOrPop}
 use Rattle.tm_syntax.specs.Loops.{begins, with_place, one_more_loop, loops_before, loop_places, Numbers, within_macro}

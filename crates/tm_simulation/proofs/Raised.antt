@@ -15,10 +15,9 @@ use Rattle.tm_values.specs.declared.undefined.UndefinedBehavior.{UndefinedBehavi
 use Rattle.tm_values.specs.declared.undefined.UndefinedBehavior.TheVariants.{Lenient, Chainable, SemiStrict, Strict}
 use Rattle.tm_values.specs.declared.undefined.UndefinedUse.{UndefinedUse}
 use Rattle.tm_values.specs.declared.undefined.UndefinedUse.TheVariants as use_of
-use Rattle.tm_syntax.specs.declared.tree.UnaryOperator.{UnaryOperator}
-use Rattle.tm_syntax.specs.declared.tree.UnaryOperator.TheVariants as unaries
-use Rattle.tm_syntax.specs.declared.tree.BinaryOperator.{BinaryOperator}
-use Rattle.tm_syntax.specs.declared.tree.BinaryOperator.TheVariants as binaries
+use Rattle.tm_trees.specs.Trees.{UnaryOperator, BinaryOperator}
+use Rattle.tm_trees.specs.Trees.unaries
+use Rattle.tm_trees.specs.Trees.binaries
 use Rattle.tm_definitions.specs.Arithmetic as arithmetic
 use Rattle.tm_definitions.specs.Truth.{truth_of}
 use Rattle.tm_definitions.specs.Comparison.{compared}
