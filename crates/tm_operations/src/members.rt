@@ -13,8 +13,8 @@ use std::rc::RcStr;
 use tm_definitions::LoopAttribute;
 use tm_primitives::{characters, places};
 use tm_values::{
-    Error, ErrorKind, LoopPosition, MacroValue, Node, Records, UndefinedBehavior, UndefinedUse, Value,
-    check_defined, find_loop, find_namespace,
+    Error, ErrorKind, LoopPosition, MacroValue, Node, Records, UndefinedBehavior, UndefinedUse,
+    Value, check_defined, find_loop, find_namespace,
 };
 
 /// The attribute `value.name`: of a map, keyword map, module or namespace the value at the text, of

@@ -9,7 +9,7 @@ ghost use Rattle.tm_values.specs.Answer.{IsAnswer};
 
 use std::alloc::Global;
 use std::rc::Rc;
-use tm_values::{Error, ErrorKind, Node, Parts, Writable, Value};
+use tm_values::{Error, ErrorKind, Node, Parts, Value, Writable};
 
 // The most numbers that a range has.
 const MOST: u64 = 100_000;

@@ -7,7 +7,7 @@ ghost use Rattle.tm_definitions.specs.Json.{json_text, key_text, number_data};
 ghost use Rattle.tm_printing.specs.Data.{IsNextJson, IsNextJsonLighter, IsJsonOpened, IsJsonLeaf, leaf_json};
 ghost use Rattle.tm_printing.specs.Left.{Writes};
 
-use crate::rest::{Rest, NextValue, Unwritten};
+use crate::rest::{NextValue, Rest, Unwritten};
 use crate::spelling::Json;
 use crate::text::write_json_text;
 use crate::walk::{Notation, write_parts};

@@ -8,7 +8,7 @@ ghost use Rattle.tm_definitions.specs.Printed.{printed, bare_text, inner, comma_
 ghost use Rattle.tm_printing.specs.Left.{Writes};
 ghost use Rattle.tm_printing.specs.Rests.{IsNext, IsNextRestLighter, IsOpened, IsLeaf, leaf_text};
 
-use crate::rest::{Rest, NextValue, Unwritten};
+use crate::rest::{NextValue, Rest, Unwritten};
 use crate::spelling::{Escape, Html, Verbatim};
 use crate::text::{write_number, write_quoted, write_spelled};
 use crate::walk::{Notation, write_parts};
@@ -235,7 +235,10 @@ fn write_leaf<E: Escape, R: Records, T: Target>(
     }
 }
 
-fn write_macro<E: Escape, T: Target>(declared: &MacroValue, target: &mut T) -> Result<(), TargetFailed>
+fn write_macro<E: Escape, T: Target>(
+    declared: &MacroValue,
+    target: &mut T,
+) -> Result<(), TargetFailed>
     ensures { Takes T.took T.stopped result target.old
         (flat_map E.spelled (macro_text declared.now)) target.new }
 {

@@ -3,7 +3,7 @@ ghost use Rattle.std.specs.Prelude.{length};
 ghost use Rattle.tm_values.specs.Records.{RecordData};
 ghost use Rattle.tm_printing.specs.Left.{ValueText, RestText, Writes, Begins, Advances, IsNoHeavier, IsLighter};
 
-use crate::rest::{Rest, NextValue, Unwritten};
+use crate::rest::{NextValue, Rest, Unwritten};
 use std::alloc::Global;
 use tm_output::{Target, TargetFailed};
 use tm_values::{Records, Value};

@@ -222,7 +222,11 @@ fn name_set(alloc: Global, names: &[RcStr]) -> Result<BTreeSet<&str>, AllocError
 }
 
 /// Whether a macro, the names of whose arguments are in a set, uses each of these values that are given by their keys.
-fn each_found<'a>(declared: &MacroValue, names: &BTreeSet<&'a str>, pairs: &'a [(Value, Value)]) -> bool
+fn each_found<'a>(
+    declared: &MacroValue,
+    names: &BTreeSet<&'a str>,
+    pairs: &'a [(Value, Value)],
+) -> bool
     requires { HoldsNames names.now declared.now.arguments }
     ensures { result ≡ all_used declared.now pairs.now }
 {

@@ -5,8 +5,8 @@ ghost use Rattle.tm_values.specs.Parts.{parts_of_vals, parts_of_pairs};
 ghost use Rattle.tm_values.specs.Val.{val_size, vals_of, pairs_of};
 
 use crate::error::{Error, ErrorKind};
-use crate::writable::{Writable, pair_writable};
 use crate::value::{Node, Value};
+use crate::writable::{Writable, pair_writable};
 
 /// What a value keeps of its parts.
 #[derive(Clone, Copy)]

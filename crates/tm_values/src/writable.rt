@@ -62,7 +62,8 @@ impl Value {
                 in_print: true,
                 in_json: fits_json(*whole),
             },
-            Node::Exports(_, _, _) | Node::Function(_) | Node::Macro(_) => Writable::in_print_alone(),
+            Node::Exports(_, _, _) | Node::Function(_) | Node::Macro(_) =>
+                Writable::in_print_alone(),
             Node::Loop(_, _) | Node::Namespace(_, _) => Writable {
                 in_print: false,
                 in_json: false,
@@ -92,5 +93,7 @@ fn fits_json(whole: i128) -> bool
 pub(crate) fn pair_writable(pair: &(Value, Value)) -> Writable
     ensures { result ≡ both (as_key pair.now.0) (both (writable_of pair.now.0) (writable_of pair.now.1)) }
 {
-    pair.0.as_key().both(pair.0.writable().both(pair.1.writable()))
+    pair.0
+        .as_key()
+        .both(pair.0.writable().both(pair.1.writable()))
 }
