@@ -10,7 +10,6 @@ use Rattle.tm_trees.specs.Trees.{target, Assignment, Parameter, Imported, Captur
 use Rattle.tm_trees.specs.Trees.{For', Break, Continue, Block', Extends, Set, CaptureBlock', With', Do, AutoEscape', Macro', CallBlock', Row_of-Stmt}
 use Rattle.tm_trees.specs.Trees.{Include, Import, FromImport, no_statement, statement, Otherwise, no_else, otherwise}
 use Rattle.tm_trees.specs.Trees.unaries
-use Rattle.tm_trees.specs.Trees.binaries
 use Rattle.tm_trees.specs.Trees.applications
 use Rattle.tm_trees.specs.Trees.uses
 use Rattle.tm_trees.specs.Instructions.{Instruction}

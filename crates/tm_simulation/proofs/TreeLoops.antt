@@ -9,9 +9,9 @@ use Rattle.tm_trees.specs.Trees.{UnaryOperator, BinaryOperator, Expr, Var, Const
 use Rattle.tm_trees.specs.Trees.{Row_of-Pair, no_pair, Row_of-Argument, no_argument, argument, Row_of-Keyword, no_keyword, keyword_and, Row_of-Step}
 use Rattle.tm_trees.specs.Trees.{no_step, step, Row_of-Condition, no_condition, Argument, Keyword, Application, Step, Attribute, Apply', Called}
 use Rattle.tm_trees.specs.Trees.{Row_of-Comparison, no_comparison, AssignmentTarget, To, Items, Member, Row_of-AssignmentTarget, no_target, target}
-use Rattle.tm_trees.specs.Trees.{Assignment, Parameter, Imported, CaptureUse, Stmt, EmitRaw, EmitExpr, EmitLoop, EmitBlock, EmitSuper, If', For'}
-use Rattle.tm_trees.specs.Trees.{Break, Continue, Block', Extends, Set, CaptureBlock', With', Do, AutoEscape', Macro', CallBlock', Row_of-Stmt}
-use Rattle.tm_trees.specs.Trees.{Include, Import, FromImport, no_statement, statement, Otherwise, no_else, otherwise}
+use Rattle.tm_trees.specs.Trees.{Assignment, Parameter, Imported, CaptureUse, Stmt, If', For'}
+use Rattle.tm_trees.specs.Trees.{Set, CaptureBlock', With', AutoEscape', Macro', CallBlock', Row_of-Stmt}
+use Rattle.tm_trees.specs.Trees.{Import, FromImport, no_statement, statement, Otherwise, no_else, otherwise}
 use Rattle.tm_trees.specs.Trees.unaries
 use Rattle.tm_trees.specs.Trees.binaries
 use Rattle.tm_trees.specs.Trees.applications
