@@ -1,7 +1,7 @@
 -- The loops and macros of a tree stand in its code, each at its number.
 use Rattle.std.proofs.Common.{◌≡◌, ℕ, zero, suc, ◌+◌, ◌⊎◌, inl, inr, List, [], ◌∷◌, Option, Some, None, Bool, true, false, ◌++◌}
 use Rattle.std.proofs.Common.{refl, sym, ap, subst, length}
-use Rattle.std.proofs.Common.{arith}
+use Rattle.std.proofs.Common.{arith, rules}
 use Rattle.std.proofs.lemmas.List.{append-nil}
 use Rattle.tm_trees.specs.Instructions.{Instruction}
 use Rattle.tm_trees.specs.Instructions.instructions as i
