@@ -8,7 +8,7 @@ use Rattle.tm_syntax.specs.declared.tree.Stmt.TheBlock.{hidden-the_row-Stmt-0 as
 use Rattle.tm_syntax.specs.declared.tree.Tree.{Tree}
 use Rattle.tm_syntax.specs.declared.tree.Tree.TheVariants as trees
 use Rattle.tm_parser.specs.Distinct.{are_distinct}
-use Rattle.tm_parser.specs.Grammar.{expr, inside}
+use Rattle.tm_expressions.specs.Grammar.{expr, inside}
 use Rattle.tm_parser.specs.Statements.{body, inner}
 
 abbrev pub names : {A : Type 0} → Named A → List (List ℕ)
