@@ -5,7 +5,7 @@ use Rattle.tm_values.specs.declared.error.ErrorKind.TheVariants.{TemplateNotFoun
 use Rattle.tm_values.specs.Val.{Val, function}
 use Rattle.tm_values.specs.declared.undefined.UndefinedBehavior.{UndefinedBehavior}
 use Rattle.tm_values.specs.declared.undefined.UndefinedBehavior.TheVariants.{Lenient}
-use Rattle.tm_syntax.specs.declared.instruction.Instruction.{Instruction}
+use Rattle.tm_trees.specs.Instructions.{Instruction}
 use Rattle.tm_syntax.specs.Named.{Named, find, put}
 use Rattle.std.specs.List.{AllByRecursion}
 use Rattle.tm_delimiters.specs.Syntax.{Syntax, default_syntax}

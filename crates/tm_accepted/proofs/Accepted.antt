@@ -4,11 +4,10 @@ use Rattle.std.proofs.Common.{◌∙◌, subst, arith, eqb-true}
 use Rattle.std.specs.Prelude.{slice_get, option_and_then, nat_eq, nat_lt, not, is_some, ◌&&◌, ◌||◌, ◌++◌, if◌then◌else◌}
 use Rattle.std.proofs.lemmas.Slice.Eq.{bytes_eq-Decides}
 use Rattle.std.proofs.lemmas.Bool.Decides.{nat_tests}
-use Rattle.tm_syntax.specs.declared.instruction.Instruction.{Instruction}
-use Rattle.tm_syntax.specs.declared.instruction.Instruction.TheVariants as i
+use Rattle.tm_trees.specs.Instructions.{Instruction, CaptureMode}
+use Rattle.tm_trees.specs.Instructions.instructions as i
 use Rattle.tm_syntax.specs.CacheNumbers.{no_cache, cache_count}
-use Rattle.tm_syntax.specs.declared.instruction.CaptureMode.{CaptureMode}
-use Rattle.tm_syntax.specs.declared.instruction.CaptureMode.TheVariants.{Capture, Discard}
+use Rattle.tm_trees.specs.Instructions.modes.{Capture, Discard}
 use Rattle.tm_syntax.specs.Named.{same_name}
 use Rattle.tm_shapes.specs.declared.kind.Kind.{Kind}
 use Rattle.tm_shapes.specs.declared.kind.Kind.TheVariants.{Value as value, Zero as nothing, Group as group, Closure as closure, Names as names}

@@ -4,8 +4,8 @@ use Rattle.std.specs.Prelude.{slice_get, ◌&&◌, ◌||◌}
 use Rattle.tm_values.specs.Val.{Val}
 use Rattle.tm_syntax.specs.Entries.{names_in}
 use Rattle.tm_syntax.specs.Choices.{choose}
-use Rattle.tm_syntax.specs.declared.instruction.Instruction.{Instruction}
-use Rattle.tm_syntax.specs.declared.instruction.Instruction.TheVariants as i
+use Rattle.tm_trees.specs.Instructions.{Instruction}
+use Rattle.tm_trees.specs.Instructions.instructions as i
 use Rattle.tm_shapes.specs.declared.kind.Form.{Form}
 use Rattle.tm_shapes.specs.declared.kind.Form.TheVariants as forms
 use Rattle.tm_shapes.specs.declared.kind.Kind.{Kind}

@@ -4,8 +4,8 @@ use Rattle.std.proofs.Common.{Bool, true, false, refl, sym, ap, ◌∙◌, subst
 use Rattle.std.specs.Prelude.{slice_get, nat_eq, nat_lt, not, ◌&&◌, ◌||◌, if◌then◌else◌}
 use Rattle.std.proofs.lemmas.Bool.Decides.{nat_tests}
 use Rattle.std.proofs.lemmas.Slice.Eq.{bytes_eq-Decides}
-use Rattle.tm_syntax.specs.declared.instruction.Instruction.{Instruction}
-use Rattle.tm_syntax.specs.declared.instruction.Instruction.TheVariants as i
+use Rattle.tm_trees.specs.Instructions.{Instruction}
+use Rattle.tm_trees.specs.Instructions.instructions as i
 use Rattle.tm_syntax.specs.CacheNumbers.{no_cache, cache_count, place_from, number_by, number_in, joined_by, joined}
 use Rattle.tm_syntax.specs.CacheNumbers.{numbered_from, numbered}
 use Rattle.tm_syntax.specs.Named.{same_name}

@@ -4,8 +4,8 @@ use Rattle.std.specs.Prelude.{slice_get, ◌&&◌}
 use Rattle.tm_values.specs.Val.{Val, list, list_of, text_in}
 use Rattle.tm_syntax.specs.Entries.{names_in, texts_in, and_text}
 use Rattle.tm_syntax.specs.Choices.{choose}
-use Rattle.tm_syntax.specs.declared.instruction.Instruction.{Instruction}
-use Rattle.tm_syntax.specs.declared.instruction.Instruction.TheVariants as i
+use Rattle.tm_trees.specs.Instructions.{Instruction}
+use Rattle.tm_trees.specs.Instructions.instructions as i
 use Rattle.tm_syntax.specs.Entries.{name_count}
 use Rattle.tm_shapes.specs.declared.kind.Kind.{Kind}
 use Rattle.tm_shapes.specs.declared.kind.Kind.TheVariants.{Value as value, Closure as closure, Names as names, One as one}
@@ -57,11 +57,11 @@ Before code n (Some c) = (m : ℕ) × (v : Val) × (n ≡ m + 1) × (slice_get c
 
 module _ (sh : Shapes) where
   -- the places have these shapes
-  abbrev pub Held : Seeds → Type 0
-  Held [] = Unit {0}
-  Held (e ∷ es) = (shape_at sh e.0 ≡ Some e.1) × Held es
+  abbrev pub Meets_seeds : Seeds → Type 0
+  Meets_seeds [] = Unit {0}
+  Meets_seeds (e ∷ es) = (shape_at sh e.0 ≡ Some e.1) × Meets_seeds es
 
-  pub held_at : (es : Seeds) (k : ℕ) (e : ℕ × Shape) → Held es → slice_get es k ≡ Some e → shape_at sh e.0 ≡ Some e.1
+  pub held_at : (es : Seeds) (k : ℕ) (e : ℕ × Shape) → Meets_seeds es → slice_get es k ≡ Some e → shape_at sh e.0 ≡ Some e.1
   held_at [] k e h is = absurd (cc is)
   held_at (x ∷ es) zero e h is = let one : x ≡ e = cc is in subst (λ (y : ℕ × Shape). shape_at sh y.0 ≡ Some y.1) one h.0
   held_at (x ∷ es) (suc k) e h is = held_at es k e h.1 is
@@ -120,7 +120,7 @@ module _ (sh : Shapes) where
       (steps : (n : ℕ) (x : Instruction) (s : Shape) → slice_get code n ≡ Some x → shape_at sh n ≡ Some s →
       (p : Piece) × (q : Reading) × Has sh (flow_of (site_by p q r n) x s)) where
     with_seed : (n : ℕ) (before : Option ℕ) (x : List ℕ) (place : ℕ) (caller : Bool) (es : Seeds) → Before code n before →
-        slice_get code n ≡ Some (i.BuildMacro x place caller) → Held es → Held (entry_seed before place es)
+        slice_get code n ≡ Some (i.BuildMacro x place caller) → Meets_seeds es → Meets_seeds (entry_seed before place es)
     with_seed n None x place caller es b at h = h
     with_seed n (Some c) x place caller es (m, v, is, there, count) at h =
         let s = all m (i.LoadConst v) there in
@@ -132,7 +132,7 @@ module _ (sh : Shapes) where
         loaded (site_by one.0 one.1 r m) v s.0 t.0 k.0 k.1 one.2 (ap (shape_at sh) (sym is) ∙ t.1) k.2 ∙ sym count in
         (subst (λ n. shape_at sh place ≡ Some (entry_shape n)) same k.3, h)
 
-    seeds_from : (is : List Instruction) (n : ℕ) (before : Option ℕ) → From code n is → Before code n before → Held (entry_seeds_from before is)
+    seeds_from : (is : List Instruction) (n : ℕ) (before : Option ℕ) → From code n is → Before code n before → Meets_seeds (entry_seeds_from before is)
     seeds_from [] n before f b = tt
     seeds_from (i.BuildMacro x place caller ∷ is) n before f b =
         with_seed n before x place caller (entry_seeds_from None is) b (from_here code n (i.BuildMacro x place caller) is f)
@@ -142,5 +142,5 @@ module _ (sh : Shapes) where
         (n, v, refl, from_here code n (i.LoadConst v) is f, refl)
     seeds_from (x ∷ is) n before f b = seeds_from is (n + 1) None (from_next code n x is f) tt
 
-    pub seeds_held : Held (entry_seeds code)
+    pub seeds_held : Meets_seeds (entry_seeds code)
     seeds_held = seeds_from code 0 None (λ j. let q : 0 + j ≡ j = omega arith in ap (slice_get code) q) tt

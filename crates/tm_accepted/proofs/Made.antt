@@ -2,7 +2,7 @@
 use Rattle.std.proofs.Common.{◌≡◌, ◌⊎◌, inl, inr, ℕ, zero, suc, ◌+◌, ◌≤◌, List, [], ◌∷◌, ◌++◌, length, Option, Some, None, true}
 use Rattle.std.proofs.Common.{refl, sym, ap, ◌∙◌, subst, arith, append_assoc, length-append, map as each}
 use Rattle.std.specs.Prelude.{slice_get, option_and_then}
-use Rattle.tm_syntax.specs.declared.instruction.Instruction.{Instruction}
+use Rattle.tm_trees.specs.Instructions.{Instruction}
 use Rattle.tm_syntax.specs.Blocks.{StreamTree, statements, expression, fragment_of}
 use Rattle.tm_syntax.specs.Code.{expr_code, statements_code}
 use Rattle.tm_syntax.specs.Fragments.{Fragment, beyond, whole_labels, assembled}

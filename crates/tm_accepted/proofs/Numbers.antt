@@ -2,8 +2,8 @@
 use Rattle.std.proofs.Common.{◌≡◌, ℕ, zero, suc, List, [], ◌∷◌, length, Option, Some, None, Bool, refl, sym, ap, ◌∙◌, subst}
 use Rattle.std.specs.Prelude.{pos, slice_get}
 use Rattle.tm_values.specs.Val.{number}
-use Rattle.tm_syntax.specs.declared.instruction.Instruction.{Instruction}
-use Rattle.tm_syntax.specs.declared.instruction.Instruction.TheVariants as i
+use Rattle.tm_trees.specs.Instructions.{Instruction}
+use Rattle.tm_trees.specs.Instructions.instructions as i
 use Rattle.tm_syntax.specs.Blocks.{StreamTree, fragment_of}
 use Rattle.tm_syntax.specs.CacheNumbers.{number_in, joined, numbered_from, numbered}
 use Rattle.tm_syntax.specs.Entries.{name_count}

@@ -6,8 +6,8 @@ use Rattle.std.proofs.lemmas.Bool.Decides.{nat_tests}
 use Rattle.tm_values.specs.Val.{number, text}
 use Rattle.tm_values.proofs.Lists.{list_of-vals_of}
 use Rattle.tm_syntax.specs.Entries.{names_in, texts_in, and_text}
-use Rattle.tm_syntax.specs.declared.instruction.Instruction.{Instruction}
-use Rattle.tm_syntax.specs.declared.instruction.Instruction.TheVariants as i
+use Rattle.tm_trees.specs.Instructions.{Instruction}
+use Rattle.tm_trees.specs.Instructions.instructions as i
 use Rattle.tm_syntax.specs.Blocks.{StreamTree, fragment_of}
 use Rattle.tm_syntax.specs.CacheNumbers.{numbered}
 use Rattle.tm_syntax.specs.Fragments.{name_list, assembled}

@@ -3,26 +3,15 @@ use Rattle.std.proofs.Common.{◌≡◌, ℕ, suc, ◌+◌, List, [], ◌∷◌,
 use Rattle.std.specs.Prelude.{pos, nat_eq, codes}
 use Rattle.std.proofs.lemmas.Bool.Decides.{nat_tests}
 use Rattle.tm_values.specs.Val.{number, text}
-use Rattle.tm_syntax.specs.declared.tree.Expr.{Expr, Call', Row_of-Step}
-use Rattle.tm_syntax.specs.declared.tree.Expr.{end_of-Step as no_step, more_of-Step as step}
-use Rattle.tm_syntax.specs.declared.tree.Step.{Step, Apply', Call' as Called}
-use Rattle.tm_syntax.specs.declared.tree.AssignmentTarget.{AssignmentTarget, Name as To, Unpack' as Items, Attribute as Member}
-use Rattle.tm_syntax.specs.declared.tree.AssignmentTarget.{Row_of-AssignmentTarget}
-use Rattle.tm_syntax.specs.declared.tree.AssignmentTarget.{end_of-AssignmentTarget as no_target, more_of-AssignmentTarget as target}
-use Rattle.tm_syntax.specs.declared.tree.Assignment.{Assignment}
-use Rattle.tm_syntax.specs.declared.tree.Parameter.{Parameter}
-use Rattle.tm_syntax.specs.declared.tree.Imported.{Imported}
-use Rattle.tm_syntax.specs.declared.tree.CaptureUse.{CaptureUse}
-use Rattle.tm_syntax.specs.declared.tree.CaptureUse.TheVariants as uses
-use Rattle.tm_syntax.specs.declared.tree.Stmt.{Stmt, EmitRaw, EmitExpr, EmitLoop, EmitBlock, EmitSuper, If', For', Break, Continue, Block'}
-use Rattle.tm_syntax.specs.declared.tree.Stmt.{Extends, Set, CaptureBlock', With', Do, AutoEscape', Macro', CallBlock', Row_of-Stmt}
-use Rattle.tm_syntax.specs.declared.tree.Stmt.{Include, Import, FromImport}
-use Rattle.tm_syntax.specs.declared.tree.Stmt.{end_of-Stmt as no_statement}
-use Rattle.tm_syntax.specs.declared.tree.Stmt.{more_of-Stmt as statement, Held-Stmt-If-2 as Otherwise, None' as no_else}
-use Rattle.tm_syntax.specs.declared.tree.Stmt.{Some' as otherwise}
-use Rattle.tm_syntax.specs.declared.instruction.CaptureMode.{CaptureMode}
-use Rattle.tm_syntax.specs.declared.instruction.CaptureMode.TheVariants.{Capture, Discard}
-use Rattle.tm_syntax.specs.declared.instruction.Instruction.TheVariants as i
+use Rattle.tm_trees.specs.Trees.{Expr, Call', Row_of-Step, no_step, step, Step, Apply', Called, AssignmentTarget, To, Items, Member}
+use Rattle.tm_trees.specs.Trees.{Row_of-AssignmentTarget, no_target, target, Assignment, Parameter, Imported, CaptureUse, Stmt, EmitRaw, EmitExpr}
+use Rattle.tm_trees.specs.Trees.{EmitLoop, EmitBlock, EmitSuper, If', For', Break, Continue, Block', Extends, Set, CaptureBlock', With', Do}
+use Rattle.tm_trees.specs.Trees.{AutoEscape', Macro', CallBlock', Row_of-Stmt, Include, Import, FromImport, no_statement, statement, Otherwise}
+use Rattle.tm_trees.specs.Trees.{no_else, otherwise}
+use Rattle.tm_trees.specs.Trees.uses
+use Rattle.tm_trees.specs.Instructions.{CaptureMode}
+use Rattle.tm_trees.specs.Instructions.modes.{Capture, Discard}
+use Rattle.tm_trees.specs.Instructions.instructions as i
 use Rattle.tm_syntax.specs.declared.opened.Opened.{Opened}
 use Rattle.tm_syntax.specs.declared.opened.Opened.TheVariants.{Scope as a_scope, Escape as an_escape, Capture as a_capture}
 use Rattle.tm_syntax.specs.Forms.{chained}
@@ -288,8 +277,8 @@ module _ (end : RowEnd) (h : Ends end) where
         one_step (i.CallObject (Some (n + 1))) (n + 1) 1 (λ at s. refl) e s ks _,
       )
 
-  abbrev passed : {n m : _} (before : ℕ) (given : Rattle.tm_syntax.specs.declared.tree.Expr.Row_of-Argument n)
-      (named : Rattle.tm_syntax.specs.declared.tree.Expr.Row_of-Keyword m) (e : Around) (s : Shape) (ks : List Kind) (pc : ℕ) →
+  abbrev passed : {n m : _} (before : ℕ) (given : Rattle.tm_trees.specs.Trees.Row_of-Argument n)
+      (named : Rattle.tm_trees.specs.Trees.Row_of-Keyword m) (e : Around) (s : Shape) (ks : List Kind) (pc : ℕ) →
       Types pc e (passing_code end before given named) (Over before ks s) (with_operands (left (passed_count end before given named) ks) s)
   passed before given named e s ks pc =
       passing_types end before given named (arguments_types given) (keywords_types end h 0 named)

@@ -6,9 +6,8 @@ use Rattle.tm_values.specs.Val.{Val}
 use Rattle.tm_syntax.specs.Choices.{choose}
 use Rattle.tm_syntax.specs.Entries.{names_in}
 use Rattle.tm_syntax.specs.Choices.{is_empty}
-use Rattle.tm_syntax.specs.declared.instruction.Instruction.{Instruction}
-use Rattle.tm_syntax.specs.declared.instruction.Instruction.TheVariants as i
-use Rattle.tm_syntax.specs.declared.instruction.CaptureMode.{CaptureMode}
+use Rattle.tm_trees.specs.Instructions.{Instruction, CaptureMode}
+use Rattle.tm_trees.specs.Instructions.instructions as i
 use Rattle.tm_shapes.specs.declared.kind.Kind.{Kind}
 use Rattle.tm_shapes.specs.declared.kind.Kind.TheVariants.{Value as value, Zero as nothing, Group as group, Closure as closure, Names as names}
 use Rattle.tm_shapes.specs.declared.kind.Kind.TheVariants.{Opened as opened, One as one}

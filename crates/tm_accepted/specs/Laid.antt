@@ -1,6 +1,6 @@
 -- Shapes that fit the code of a tree, where each instruction stands as the code's structure tells.
 use Rattle.std.specs.Prelude.{◌≡◌, ℕ, List, ◌∷◌, length, Option, Some, None, slice_get, true}
-use Rattle.tm_syntax.specs.declared.instruction.Instruction.{Instruction}
+use Rattle.tm_trees.specs.Instructions.{Instruction}
 use Rattle.tm_syntax.specs.Blocks.{StreamTree, statements, expression}
 use Rattle.tm_syntax.specs.Fragments.{Fragment}
 use Rattle.tm_shapes.specs.declared.kind.Form.{Form}

@@ -1,8 +1,8 @@
 -- Where instructions stand in the code of a tree, as far as a flow asks.
 use Rattle.std.specs.Prelude.{ℕ, pos, List, [], ◌∷◌, ◌++◌, Option, Bool, true, false}
 use Rattle.tm_values.specs.Val.{number}
-use Rattle.tm_syntax.specs.declared.instruction.Instruction.{Instruction}
-use Rattle.tm_syntax.specs.declared.instruction.Instruction.TheVariants as i
+use Rattle.tm_trees.specs.Instructions.{Instruction}
+use Rattle.tm_trees.specs.Instructions.instructions as i
 use Rattle.tm_syntax.specs.Fragments.{Fragment, straight, ◌⨾◌, jump_out, bounded, fork, looped, break_loop, next_round, declares}
 use Rattle.tm_shapes.specs.declared.kind.Reading.{Reading}
 use Rattle.tm_shapes.specs.Flows.{Site}

@@ -18,8 +18,8 @@ ghost use Rattle.tm_shapes.specs.declared.kind.Reading.TheVariants as readings;
 ghost use Rattle.tm_syntax.specs.Blocks.{StreamTree, fragment_of};
 ghost use Rattle.tm_syntax.specs.CacheNumbers.{numbered};
 ghost use Rattle.tm_syntax.specs.Fragments.{assembled};
-ghost use Rattle.tm_syntax.specs.declared.instruction.Instruction.{Instruction};
-ghost use Rattle.tm_syntax.specs.declared.instruction.Instruction.TheVariants.{Swap};
+ghost use Rattle.tm_trees.specs.Instructions.{Instruction};
+ghost use Rattle.tm_trees.specs.Instructions.instructions.{Swap};
 
 /// The code of every tree has shapes, where each `LoadConst 0` is read as a value or as a group, and as
 /// a group only where no operand lies below it; and a value goes by `Swap`, `LoadConst 1` and `Add` into

@@ -1,7 +1,7 @@
 -- What the tokens of a source say of its tree.
 use Rattle.std.proofs.Common.{ℕ, List, subst}
 use Rattle.tm_syntax.specs.declared.token.Token.{Token}
-use Rattle.tm_syntax.specs.declared.tree.Tree.{Tree}
+use Rattle.tm_trees.specs.Trees.{Tree}
 use Rattle.tm_delimiters.specs.Syntax.{Syntax}
 use Rattle.tm_scanner.specs.Spells.{SpellsParts, SpellsTokens}
 use Rattle.tm_scanner.proofs.Parts.{one_parts_of}

@@ -1,7 +1,7 @@
 -- Which source spells which tree.
 use Rattle.std.specs.Prelude.{ℕ, List}
 use Rattle.tm_syntax.specs.declared.token.Token.{Token}
-use Rattle.tm_syntax.specs.declared.tree.Tree.{Tree}
+use Rattle.tm_trees.specs.Trees.{Tree}
 use Rattle.tm_delimiters.specs.Syntax.{Syntax}
 use Rattle.tm_scanner.specs.Spells.{SpellsParts, SpellsTokens}
 use Rattle.tm_parser.specs.Template.{SpellsExpression, SpellsTemplate}

@@ -4,7 +4,7 @@ ghost use Rattle.std.specs.Rc.{rc_str_bytes};
 ghost use Rattle.tm_compiler.specs.Spells.{Spells, SpellsExpr, SpellsNoExpr, SpellsNone};
 ghost use Rattle.tm_values.specs.Answer.{Refused};
 ghost use Rattle.tm_delimiters.specs.Syntax.{Syntax};
-ghost use Rattle.tm_syntax.specs.declared.tree.Tree.{Tree as Meant};
+ghost use Rattle.tm_trees.specs.Trees.{Tree as Meant};
 
 use std::alloc::Global;
 use std::rc::RcStr;

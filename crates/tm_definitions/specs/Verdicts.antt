@@ -2,7 +2,7 @@
 -- left.
 use Rattle.std.specs.Prelude.{ℕ, zero, suc, Bool, true, false, cond, ◌==◌, length, Ok, Err, is_some}
 use Rattle.tm_values.specs.Answer.{Answer, refused, invalid}
-use Rattle.tm_values.specs.Plain.{fits_json}
+use Rattle.tm_values.specs.Writable.{fits_json}
 use Rattle.tm_values.specs.Records.{RecordData, namespace_at, loop_at}
 use Rattle.tm_values.specs.Val.{Val, undefined, none, boolean, number, text, list, map, keywords, exports, function, macro, loop, namespace}
 use Rattle.tm_values.specs.Val.{Vals, no_vals, val, Pairs, no_pairs, pair}

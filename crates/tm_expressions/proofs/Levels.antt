@@ -6,10 +6,8 @@ use Rattle.std.proofs.lemmas.Bool.{leb-true, leb-false, ltb-true, ltb-false, eqb
 use Rattle.tm_syntax.specs.declared.token.Token.{Token}
 use Rattle.tm_syntax.specs.declared.token.Token.TheVariants as tokens
 use Rattle.tm_syntax.specs.declared.token.Sign.TheVariants as sign
-use Rattle.tm_syntax.specs.declared.tree.Expr.{Expr}
-use Rattle.tm_syntax.specs.declared.tree.Expr.TheVariants as exprs
-use Rattle.tm_syntax.specs.declared.tree.Step.{Step}
-use Rattle.tm_syntax.specs.declared.tree.UnaryOperator.{UnaryOperator}
+use Rattle.tm_trees.specs.Trees.{Expr, Step, UnaryOperator}
+use Rattle.tm_trees.specs.Trees.expr_forms as exprs
 use Rattle.tm_grammar.specs.Meanings.{Read, got, known, first_sees, branch_reads}
 use Rattle.tm_grammar.specs.Laws.{not_got, same_got}
 use Rattle.tm_grammar.specs.Growth as growth

@@ -1,13 +1,9 @@
 -- One nesting less, and what stands after a value or a comparison.
 use Rattle.std.proofs.Common.{◌≡◌, ℕ, zero, suc, ◌-◌, true, false, List, [], ◌∷◌, None, refl, sym, ap, arith}
 use Rattle.tm_syntax.specs.declared.token.Token.{Token}
-use Rattle.tm_syntax.specs.declared.tree.Expr.{Expr}
-use Rattle.tm_syntax.specs.declared.tree.Expr.TheVariants as exprs
-use Rattle.tm_syntax.specs.declared.tree.BinaryOperator.{BinaryOperator}
-use Rattle.tm_syntax.specs.declared.tree.Comparison.{Comparison}
-use Rattle.tm_syntax.specs.declared.tree.Condition.{Condition}
-use Rattle.tm_syntax.specs.declared.tree.Step.{Step}
-use Rattle.tm_syntax.specs.declared.tree.Step.TheVariants as steps
+use Rattle.tm_trees.specs.Trees.{Expr, BinaryOperator, Comparison, Condition, Step}
+use Rattle.tm_trees.specs.Trees.expr_forms as exprs
+use Rattle.tm_trees.specs.Trees.step_forms as steps
 use Rattle.tm_grammar.specs.Meanings.{got}
 use Rattle.tm_expressions.specs.Grammar.{inside, expr, operand, chained, compared, conditional, are_none}
 

@@ -5,10 +5,7 @@ use Rattle.std.proofs.Common.{refl, sym, ap, subst, arith, ◌∙◌, length-app
 use Rattle.std.proofs.lemmas.Bool.{lt-ltb}
 use Rattle.tm_values.specs.declared.error.ErrorKind.{ErrorKind}
 use Rattle.tm_syntax.specs.declared.token.Token.{Token}
-use Rattle.tm_syntax.specs.declared.tree.Expr.{Expr}
-use Rattle.tm_syntax.specs.declared.tree.Step.{Step}
-use Rattle.tm_syntax.specs.declared.tree.BinaryOperator.{BinaryOperator}
-use Rattle.tm_syntax.specs.declared.tree.Comparison.{Comparison}
+use Rattle.tm_trees.specs.Trees.{Expr, Step, BinaryOperator, Comparison}
 use Rattle.tm_expressions.specs.declared.tables.Link.{Link}
 use Rattle.tm_expressions.specs.declared.tables.Link.TheVariants as links
 use Rattle.tm_expressions.specs.declared.operators.Reached.{Reached}

@@ -3,8 +3,8 @@ use Rattle.std.specs.Prelude.{◌≡◌, List, Option, Some, None}
 use Rattle.tm_values.specs.Val as value
 use Rattle.tm_values.specs.Val.{Val}
 use Rattle.tm_syntax.specs.declared.token.Token.{Token}
-use Rattle.tm_syntax.specs.declared.tree.Expr.{Expr, Const}
-use Rattle.tm_syntax.specs.declared.tree.Expr.TheVariants as exprs
+use Rattle.tm_trees.specs.Trees.{Expr, Const}
+use Rattle.tm_trees.specs.Trees.expr_forms as exprs
 use Rattle.tm_grammar.specs.Meanings.{Read, got}
 
 -- the value that an expression is

@@ -5,22 +5,14 @@ use Rattle.tm_values.specs.Val as value
 use Rattle.tm_syntax.specs.declared.token.Sign.{Sign}
 use Rattle.tm_syntax.specs.declared.token.Sign.TheVariants as sign
 use Rattle.tm_syntax.specs.declared.token.Token.{Token}
-use Rattle.tm_syntax.specs.declared.tree.BinaryOperator.{BinaryOperator}
-use Rattle.tm_syntax.specs.declared.tree.Application.{Application}
-use Rattle.tm_syntax.specs.declared.tree.Application.TheVariants as applications
-use Rattle.tm_syntax.specs.declared.tree.Expr.{Expr, Var}
-use Rattle.tm_syntax.specs.declared.tree.Expr.TheVariants as exprs
-use Rattle.tm_syntax.specs.declared.tree.Argument.{Argument}
-use Rattle.tm_syntax.specs.declared.tree.Argument.TheVariants as arguments
-use Rattle.tm_syntax.specs.declared.tree.Keyword.{Keyword}
-use Rattle.tm_syntax.specs.declared.tree.Keyword.TheVariants as keywords
-use Rattle.tm_syntax.specs.declared.tree.Pair.{Pair}
-use Rattle.tm_syntax.specs.declared.tree.Condition.{Condition}
-use Rattle.tm_syntax.specs.declared.tree.Comparison.{Comparison}
-use Rattle.tm_syntax.specs.declared.tree.Step.{Step, Attribute}
-use Rattle.tm_syntax.specs.declared.tree.Step.TheVariants as steps
-use Rattle.tm_syntax.specs.declared.tree.AssignmentTarget.{AssignmentTarget}
-use Rattle.tm_syntax.specs.declared.tree.AssignmentTarget.TheVariants as targets
+use Rattle.tm_trees.specs.Trees.{BinaryOperator, Application, Expr, Var, Argument, Keyword, Pair, Condition, Comparison, Step, Attribute}
+use Rattle.tm_trees.specs.Trees.{AssignmentTarget}
+use Rattle.tm_trees.specs.Trees.applications
+use Rattle.tm_trees.specs.Trees.expr_forms as exprs
+use Rattle.tm_trees.specs.Trees.argument_forms as arguments
+use Rattle.tm_trees.specs.Trees.keyword_forms as keywords
+use Rattle.tm_trees.specs.Trees.step_forms as steps
+use Rattle.tm_trees.specs.Trees.target_forms as targets
 use Rattle.tm_expressions.specs.declared.tables.Link.{Link}
 use Rattle.tm_expressions.specs.declared.tables.Link.TheVariants as links
 use Rattle.tm_expressions.specs.declared.primaries.Passed.{Passed}

@@ -2,9 +2,8 @@
 use Rattle.std.specs.Prelude.{◌≡◌, ℕ, zero, suc, ◌-◌, ◌<◌, ◌≤◌, List, [], Option, Some, None, nat_le, nat_lt, ◌&&◌, if◌then◌else◌}
 use Rattle.tm_syntax.specs.declared.token.Token.{Token}
 use Rattle.tm_syntax.specs.declared.token.Token.TheVariants as tokens
-use Rattle.tm_syntax.specs.declared.tree.UnaryOperator.{UnaryOperator}
-use Rattle.tm_syntax.specs.declared.tree.Expr.{Expr}
-use Rattle.tm_syntax.specs.declared.tree.Expr.TheVariants as exprs
+use Rattle.tm_trees.specs.Trees.{UnaryOperator, Expr}
+use Rattle.tm_trees.specs.Trees.expr_forms as exprs
 use Rattle.tm_expressions.specs.declared.expressions.OperandStart.{OperandStart}
 use Rattle.tm_grammar.specs.Combinators.{first, branch, pure, ◌>>=◌}
 use Rattle.tm_expressions.specs.Grammar.{Rule, Inside, primary, operand, steps_from, chained, conditions_from, conditional}

@@ -1,9 +1,8 @@
 -- Operators that wait for their right sides, and what is read after these.
 use Rattle.std.specs.Prelude.{ℕ, ◌+◌, ◌*◌, ◌-◌, ◌<◌, List, [], ◌∷◌, ◌++◌, length, Option, Some, None, option_map}
 use Rattle.tm_syntax.specs.declared.token.Token.{Token}
-use Rattle.tm_syntax.specs.declared.tree.Expr.{Expr}
-use Rattle.tm_syntax.specs.declared.tree.Step.{Step}
-use Rattle.tm_syntax.specs.declared.tree.Step.TheVariants as steps
+use Rattle.tm_trees.specs.Trees.{Expr, Step}
+use Rattle.tm_trees.specs.Trees.step_forms as steps
 use Rattle.tm_expressions.specs.declared.tables.Link.{Link}
 use Rattle.tm_expressions.specs.declared.tables.Link.TheVariants as links
 use Rattle.tm_expressions.specs.declared.operators.Reached.{Reached}

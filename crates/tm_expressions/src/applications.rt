@@ -5,7 +5,7 @@ ghost use Rattle.tm_expressions.specs.Grammar as grammar;
 ghost use Rattle.tm_expressions.specs.Grammar.{inside, passed, call_step, dotted, filter_step, more_parts, one_part};
 ghost use Rattle.tm_expressions.specs.Grammar.{passed_to_test, test_name, test_step, tested};
 ghost use Rattle.tm_grammar.specs.Combinators.{one_more};
-ghost use Rattle.tm_syntax.specs.declared.tree.Step.TheVariants.{Apply, Call};
+ghost use Rattle.tm_trees.specs.Trees.step_forms.{Apply, Call};
 ghost use Rattle.tm_values.specs.declared.error.ErrorKind.TheVariants.{OutOfMemory};
 
 use crate::cursor::{Cursor, refusal};

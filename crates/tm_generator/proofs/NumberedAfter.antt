@@ -4,7 +4,7 @@ use Rattle.std.proofs.Common.{◌<◌, subst, get_or, length-set}
 use Rattle.std.proofs.lemmas.Option.{slice_get_read}
 use Rattle.std.specs.Prelude.{slice_get, slice_set}
 use Rattle.tm_syntax.specs.CacheNumbers.{numbered_from}
-use Rattle.tm_syntax.specs.declared.instruction.Instruction.{Instruction}
+use Rattle.tm_trees.specs.Instructions.{Instruction}
 use Rattle.tm_generator.specs.Caches.{IsNumberedOne}
 use Rattle.tm_generator.specs.declared.caches.CacheNames.{CacheNames}
 

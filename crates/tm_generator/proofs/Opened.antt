@@ -3,20 +3,12 @@ use Rattle.std.proofs.Common.{◌≡◌, ℕ, suc, ◌+◌, List, [], ◌∷◌,
 use Rattle.std.specs.Prelude.{true, false, codes}
 use denote.Hole.Carrier.{hidden}
 use Rattle.tm_values.specs.Val.{text}
-use Rattle.tm_syntax.specs.declared.tree.Argument.{Argument}
-use Rattle.tm_syntax.specs.declared.tree.Expr.{Expr, Var, Const, List', Tuple', Map', Call', SelfBlock, Row_of-Argument}
-use Rattle.tm_syntax.specs.declared.tree.Expr.{end_of-Argument as no_argument, more_of-Argument as argument, Row_of-Keyword, end_of-Keyword as no_keyword}
-use Rattle.tm_syntax.specs.declared.tree.Expr.{more_of-Keyword as keyword_and, Row_of-Step}
-use Rattle.tm_syntax.specs.declared.tree.Expr.{end_of-Step as no_step, more_of-Step as step}
-use Rattle.tm_syntax.specs.declared.tree.Step.{Step, Attribute, Apply', Call' as Called}
-use Rattle.tm_syntax.specs.declared.tree.Expr.TheVariants as e
-use Rattle.tm_syntax.specs.declared.tree.Keyword.{Keyword}
-use Rattle.tm_syntax.specs.declared.tree.Argument.TheBlock.{hidden-the_row-Expr-0}
-use Rattle.tm_syntax.specs.declared.tree.Argument.TheBlock.{hidden-the_row-Argument-3 as arguments}
-use Rattle.tm_syntax.specs.declared.tree.Argument.TheBlock.{hidden-the_row-Keyword-4 as keywords}
-use Rattle.tm_syntax.specs.declared.tree.Argument.TheBlock.{hidden-the_row-Step-5 as steps, shape-the_row-Step-5}
-use Rattle.tm_syntax.specs.declared.instruction.Instruction.{Instruction}
-use Rattle.tm_syntax.specs.declared.instruction.Instruction.TheVariants as i
+use Rattle.tm_trees.specs.Trees.{Argument, Expr, Var, Const, List', Tuple', Map', Call', SelfBlock, Row_of-Argument, no_argument, argument}
+use Rattle.tm_trees.specs.Trees.{Row_of-Keyword, no_keyword, keyword_and, Row_of-Step, no_step, step, Step, Attribute, Apply', Called, Keyword}
+use Rattle.tm_trees.specs.Trees.{hidden_expr, arguments, keywords, steps, steps_shape}
+use Rattle.tm_trees.specs.Trees.expr_forms as e
+use Rattle.tm_trees.specs.Instructions.{Instruction}
+use Rattle.tm_trees.specs.Instructions.instructions as i
 use Rattle.tm_syntax.specs.Forms.{chained, unary, conditional, plain, spread, item, slice, binary, compare, and_then, or_else}
 use Rattle.tm_syntax.specs.Fragments.{Fragment, straight, ◌⨾◌}
 use Rattle.tm_syntax.specs.Code.{rows_of, list_of_row, map_of_row, count, has_spread, row_after, count_lists}
@@ -191,32 +183,32 @@ module _ (n : ℕ) (xs : List Argument) (ks : List Keyword) (call : OpenCall) (i
   made-passed_count r e = e ∙ ap {A = OpenCall} (λ j. ending_count row_end j) is ∙ sym (count-open row_end n (arguments xs) (keywords ks))
 
 put-no_steps : (b : Builder) → put (steps_open (steps [])) b ≡ b
-unfolding hidden steps shape-the_row-Step-5
+unfolding hidden steps steps_shape
 put-no_steps b = refl
 
 call-no_steps : steps_call (steps []) ≡ called_with_none
-unfolding hidden steps shape-the_row-Step-5
+unfolding hidden steps steps_shape
 call-no_steps = refl
 
 end-no_steps : (n : Option ℕ) → steps_end (steps []) n ≡ i.CallObject n ∷ []
-unfolding hidden steps shape-the_row-Step-5
+unfolding hidden steps steps_shape
 end-no_steps n = refl
 
 put-last_step : (before : List Step) (last : Step) (b : Builder) →
     put (steps_open (steps (before ++ last ∷ []))) b ≡ put (step_open last) (put (steps_code (steps before)) b)
-unfolding hidden steps shape-the_row-Step-5
+unfolding hidden steps steps_shape
 put-last_step [] last b = refl
 put-last_step (s ∷ []) last b = refl
 put-last_step (s ∷ t ∷ more) last b = put-last_step (t ∷ more) last (put (step_code s) b)
 
 call-last_step : (before : List Step) (last : Step) → steps_call (steps (before ++ last ∷ [])) ≡ step_call last
-unfolding hidden steps shape-the_row-Step-5
+unfolding hidden steps steps_shape
 call-last_step [] last = refl
 call-last_step (s ∷ []) last = refl
 call-last_step (s ∷ t ∷ more) last = call-last_step (t ∷ more) last
 
 end-last_step : (before : List Step) (last : Step) (n : Option ℕ) → steps_end (steps (before ++ last ∷ [])) n ≡ step_end last n
-unfolding hidden steps shape-the_row-Step-5
+unfolding hidden steps steps_shape
 end-last_step [] last n = refl
 end-last_step (s ∷ []) last n = refl
 end-last_step (s ∷ t ∷ more) last n = end-last_step (t ∷ more) last n
@@ -254,7 +246,7 @@ module _ (ss before : List Step) (last : Step) (whole : ss ≡ before ++ last �
 -- a value and the steps after it
 chain-open : (b : Builder) (x : Expr) (ss : List Step) →
     put (call_open (e.Chain x ss)) b ≡ put (steps_open (steps ss)) (put (expr_code x) b)
-unfolding hidden hidden-the_row-Expr-0
+unfolding hidden hidden_expr
 chain-open b x ss = refl
 
 pub chain-put : (b m1 m2 : Builder) (x : Expr) (ss : List Step) → m1 ≡ put (expr_code x) b → m2 ≡ put (steps_open (steps ss)) m1 →
@@ -262,9 +254,9 @@ pub chain-put : (b m1 m2 : Builder) (x : Expr) (ss : List Step) → m1 ≡ put (
 chain-put b m1 m2 x ss p q = q ∙ ap {B = Builder} (λ m. put (steps_open (steps ss)) m) p ∙ sym (chain-open b x ss)
 
 pub chain-call : (x : Expr) (ss : List Step) → call_of (e.Chain x ss) ≡ steps_call (steps ss)
-unfolding hidden hidden-the_row-Expr-0
+unfolding hidden hidden_expr
 chain-call x ss = refl
 
 pub chain-end : (x : Expr) (ss : List Step) (n : Option ℕ) → call_end (e.Chain x ss) n ≡ steps_end (steps ss) n
-unfolding hidden hidden-the_row-Expr-0
+unfolding hidden hidden_expr
 chain-end x ss n = refl

@@ -3,30 +3,15 @@ use Rattle.std.proofs.Common.{◌≡◌, ℕ, ◌+◌, ◌<◌, List, [], ◌∷
 use Rattle.std.specs.Prelude.{get_or, Option, Some}
 use Rattle.std.proofs.lemmas.List.{reverse-reverse}
 use denote.Hole.Carrier.{hidden}
-use Rattle.tm_syntax.specs.declared.tree.UnaryOperator.{UnaryOperator}
-use Rattle.tm_syntax.specs.declared.tree.BinaryOperator.{BinaryOperator}
-use Rattle.tm_syntax.specs.declared.tree.Expr.{Expr}
-use Rattle.tm_syntax.specs.declared.tree.Expr.TheVariants as e
-use Rattle.tm_syntax.specs.declared.tree.Pair.{Pair}
-use Rattle.tm_syntax.specs.declared.tree.Argument.{Argument}
-use Rattle.tm_syntax.specs.declared.tree.Keyword.{Keyword}
-use Rattle.tm_syntax.specs.declared.tree.Condition.{Condition}
-use Rattle.tm_syntax.specs.declared.tree.Comparison.{Comparison}
-use Rattle.tm_syntax.specs.declared.tree.Step.{Step}
-use Rattle.tm_syntax.specs.declared.tree.Step.TheVariants as s
-use Rattle.tm_syntax.specs.declared.tree.Argument.TheBlock.{hidden-the_row-Expr-0}
-use Rattle.tm_syntax.specs.declared.tree.Argument.TheBlock.{hidden-the_row-Expr-1 as exprs, shape-the_row-Expr-1}
-use Rattle.tm_syntax.specs.declared.tree.Argument.TheBlock.{hidden-the_row-Pair-2 as pairs, shape-the_row-Pair-2}
-use Rattle.tm_syntax.specs.declared.tree.Argument.TheBlock.{hidden-the_row-Argument-3 as arguments}
-use Rattle.tm_syntax.specs.declared.tree.Argument.TheBlock.{hidden-the_row-Keyword-4 as keywords}
-use Rattle.tm_syntax.specs.declared.tree.Argument.TheBlock.{hidden-the_row-Step-5 as steps, shape-the_row-Step-5}
-use Rattle.tm_syntax.specs.declared.tree.Argument.TheBlock.{hidden-the_row-Condition-6 as conditions, shape-the_row-Condition-6}
-use Rattle.tm_syntax.specs.declared.tree.Argument.TheBlock.{hidden-the_row-Comparison-7 as comparisons, shape-the_row-Comparison-7}
-use Rattle.tm_syntax.specs.declared.instruction.Instruction.{Instruction}
-use Rattle.tm_syntax.specs.declared.instruction.Instruction.TheVariants as i
+use Rattle.tm_trees.specs.Trees.{UnaryOperator, BinaryOperator, Expr, Pair, Argument, Keyword, Condition, Comparison, Step, hidden_expr, exprs}
+use Rattle.tm_trees.specs.Trees.{exprs_shape, pairs, pairs_shape, arguments, keywords, steps, steps_shape, conditions, conditions_shape, comparisons}
+use Rattle.tm_trees.specs.Trees.{comparisons_shape, Application}
+use Rattle.tm_trees.specs.Trees.expr_forms as e
+use Rattle.tm_trees.specs.Trees.step_forms as s
+use Rattle.tm_trees.specs.Instructions.{Instruction}
+use Rattle.tm_trees.specs.Instructions.instructions as i
 use Rattle.tm_syntax.specs.declared.jump.JumpKind.TheVariants.{IfFalseOrPop, IfTrueOrPop}
 use Rattle.tm_syntax.specs.Fragments.{Fragment, straight, ◌⨾◌, over, either}
-use Rattle.tm_syntax.specs.declared.tree.Application.{Application}
 use Rattle.tm_syntax.specs.Code.{unary_code, binary_code, application_code, count_exprs, count_pairs, passed_count, row_end}
 use Rattle.tm_syntax.specs.Code.{expr_code, exprs_code, pairs_code, passing_code}
 use Rattle.tm_syntax.specs.Code.{conditions_code, step_code, steps_code, row_code, links_code}
@@ -35,12 +20,12 @@ use Rattle.tm_generator.specs.Building.{Builder, put, with_one, jumped, asked, k
 
 -- ---------------------------------------------------------------- how many there are
 count-exprs : (xs : List Expr) → count_exprs (exprs xs) ≡ length xs
-unfolding hidden exprs shape-the_row-Expr-1
+unfolding hidden exprs exprs_shape
 count-exprs [] = refl
 count-exprs (x ∷ xs) = omega (arith, count-exprs xs)
 
 count-pairs : (xs : List Pair) → count_pairs (pairs xs) ≡ length xs
-unfolding hidden pairs shape-the_row-Pair-2
+unfolding hidden pairs pairs_shape
 count-pairs [] = refl
 count-pairs (x ∷ xs) = omega (arith, count-pairs xs)
 
@@ -67,12 +52,12 @@ put-call b f xs ks = refl
 
 pub put-unary : (b : Builder) (op : UnaryOperator) (x : Expr) →
     put (expr_code (e.Unary op x)) b ≡ with_one (unary_code op) (put (expr_code x) b)
-unfolding hidden hidden-the_row-Expr-0
+unfolding hidden hidden_expr
 put-unary b op x = refl
 
 pub put-chain : (b : Builder) (x : Expr) (ss : List Step) →
     put (expr_code (e.Chain x ss)) b ≡ put (steps_code (steps ss)) (put (expr_code x) b)
-unfolding hidden hidden-the_row-Expr-0
+unfolding hidden hidden_expr
 put-chain b x ss = refl
 
 -- ---------------------------------------------------------------- steps
@@ -88,30 +73,30 @@ unfolding hidden
 put-call_object b xs ks = refl
 
 pub put-item : (b : Builder) (x : Expr) → put (step_code (s.Item x)) b ≡ with_one i.GetItem (put (expr_code x) b)
-unfolding hidden hidden-the_row-Expr-0
+unfolding hidden hidden_expr
 put-item b x = refl
 
 pub put-slice : (b : Builder) (x y z : Expr) →
     put (step_code (s.Slice x y z)) b ≡ with_one i.Slice (put (expr_code z) (put (expr_code y) (put (expr_code x) b)))
-unfolding hidden hidden-the_row-Expr-0
+unfolding hidden hidden_expr
 put-slice b x y z = refl
 
 pub put-binary : (b : Builder) (op : BinaryOperator) (x : Expr) →
     put (step_code (s.Binary op x)) b ≡ put (straight (binary_code op)) (put (expr_code x) b)
-unfolding hidden hidden-the_row-Expr-0
+unfolding hidden hidden_expr
 put-binary b op x = refl
 
 pub put-compare : (b : Builder) (op : BinaryOperator) (x : Expr) (cs : List Comparison) →
     put (step_code (s.Compare op x cs)) b ≡ put (row_code op (comparisons cs)) (put (expr_code x) b)
-unfolding hidden hidden-the_row-Expr-0
+unfolding hidden hidden_expr
 put-compare b op x cs = refl
 
 pub put-and : (b : Builder) (x : Expr) → put (step_code (s.And x)) b ≡ put (over IfFalseOrPop (expr_code x)) b
-unfolding hidden hidden-the_row-Expr-0
+unfolding hidden hidden_expr
 put-and b x = refl
 
 pub put-or : (b : Builder) (x : Expr) → put (step_code (s.Or x)) b ≡ put (over IfTrueOrPop (expr_code x)) b
-unfolding hidden hidden-the_row-Expr-0
+unfolding hidden hidden_expr
 put-or b x = refl
 
 pub ruleset expressions = (put-list, put-tuple, put-map, put-item, put-and, put-or)
@@ -168,12 +153,12 @@ put_two c d b m1 m2 p q = q ∙ ap {B = Builder} (λ m. put d m) p
 
 -- ---------------------------------------------------------------- conditions
 conditions-nil : (v : Fragment) → conditions_code (conditions []) v ≡ v
-unfolding hidden conditions shape-the_row-Condition-6
+unfolding hidden conditions conditions_shape
 conditions-nil v = refl
 
 conditions-cons : (v : Fragment) (c : Condition) (cs : List Condition) →
     conditions_code (conditions (c ∷ cs)) v ≡ conditions_code (conditions cs) (expr_code c.test ⨾ either v (expr_code c.otherwise))
-unfolding hidden conditions shape-the_row-Condition-6
+unfolding hidden conditions conditions_shape
 conditions-cons v c cs = refl
 
 -- the tests, the value, and what stands for it where one is false
@@ -184,7 +169,7 @@ put-conditions b v (c ∷ cs) = ap {B = Builder} (λ k. put k b) (conditions-con
     ∙ put-conditions b (expr_code c.test ⨾ either v (expr_code c.otherwise)) cs
 
 code-conditional : (x : Expr) (cs : List Condition) → expr_code (e.Conditional x cs) ≡ conditions_code (conditions cs) (expr_code x)
-unfolding hidden hidden-the_row-Expr-0
+unfolding hidden hidden_expr
 code-conditional x cs = refl
 
 pub made-conditional : (b m1 m2 m3 : Builder) (outers0 outers : List (List Out)) (x : Expr) (cs : List Condition) → m1 ≡ asked cs b →
@@ -212,12 +197,12 @@ module _ {X : Type 0} (one : X → Fragment) (row : List X → Fragment) where
   no_more nil rest m goal none g = sym (nil m) ∙ ap {B = Builder} (λ l. put (row l) m) (sym none) ∙ g
 
 put-exprs-nil : (b : Builder) → put (exprs_code (exprs [])) b ≡ b
-unfolding hidden exprs shape-the_row-Expr-1
+unfolding hidden exprs exprs_shape
 put-exprs-nil b = refl
 
 put-exprs-cons : (b : Builder) (x : Expr) (xs : List Expr) →
     put (exprs_code (exprs (x ∷ xs))) b ≡ put (exprs_code (exprs xs)) (put (expr_code x) b)
-unfolding hidden exprs shape-the_row-Expr-1
+unfolding hidden exprs exprs_shape
 put-exprs-cons b x xs = refl
 
 pub more-exprs : (all rest : List Expr) (x : Expr) (m m1 goal : Builder) → all ≡ x ∷ rest → m1 ≡ put (expr_code x) m →
@@ -228,12 +213,12 @@ pub no_more-exprs : (rest : List Expr) (m goal : Builder) → rest ≡ [] → pu
 no_more-exprs = no_more expr_code (λ xs. exprs_code (exprs xs)) put-exprs-nil
 
 put-pairs-nil : (b : Builder) → put (pairs_code (pairs [])) b ≡ b
-unfolding hidden pairs shape-the_row-Pair-2
+unfolding hidden pairs pairs_shape
 put-pairs-nil b = refl
 
 put-pairs-cons : (b : Builder) (x : Pair) (xs : List Pair) →
     put (pairs_code (pairs (x ∷ xs))) b ≡ put (pairs_code (pairs xs)) (put (expr_code x.key ⨾ expr_code x.value) b)
-unfolding hidden pairs shape-the_row-Pair-2
+unfolding hidden pairs pairs_shape
 put-pairs-cons b x xs = refl
 
 pub more-pairs : (all rest : List Pair) (x : Pair) (m m1 goal : Builder) → all ≡ x ∷ rest →
@@ -244,12 +229,12 @@ pub no_more-pairs : (rest : List Pair) (m goal : Builder) → rest ≡ [] → pu
 no_more-pairs = no_more (λ x. expr_code x.key ⨾ expr_code x.value) (λ xs. pairs_code (pairs xs)) put-pairs-nil
 
 put-steps-nil : (b : Builder) → put (steps_code (steps [])) b ≡ b
-unfolding hidden steps shape-the_row-Step-5
+unfolding hidden steps steps_shape
 put-steps-nil b = refl
 
 put-steps-cons : (b : Builder) (x : Step) (xs : List Step) →
     put (steps_code (steps (x ∷ xs))) b ≡ put (steps_code (steps xs)) (put (step_code x) b)
-unfolding hidden steps shape-the_row-Step-5
+unfolding hidden steps steps_shape
 put-steps-cons b x xs = refl
 
 pub more-steps : (all rest : List Step) (x : Step) (m m1 goal : Builder) → all ≡ x ∷ rest → m1 ≡ put (step_code x) m →
@@ -261,13 +246,13 @@ no_more-steps = no_more step_code (λ xs. steps_code (steps xs)) put-steps-nil
 
 -- ---------------------------------------------------------------- comparisons in a row
 links-nil : (op : BinaryOperator) → links_code op (comparisons []) ≡ straight (binary_code op)
-unfolding hidden comparisons shape-the_row-Comparison-7
+unfolding hidden comparisons comparisons_shape
 links-nil op = refl
 
 put-links-cons : (b : Builder) (op : BinaryOperator) (x : Comparison) (xs : List Comparison) →
     put (links_code op (comparisons (x ∷ xs))) b ≡
     put (links_code x.operator (comparisons xs)) (put (expr_code x.right) (jumped IfFalseOrPop (with_one (i.CompareAndPreserve op) b)))
-unfolding hidden comparisons shape-the_row-Comparison-7
+unfolding hidden comparisons comparisons_shape
 put-links-cons b op x xs = refl
 
 pub more-links : (all rest : List Comparison) (x : Comparison) (op : BinaryOperator) (m m1 m2 m3 goal : Builder) → all ≡ x ∷ rest →

@@ -2,20 +2,14 @@
 use Rattle.std.proofs.Common.{◌≡◌, ℕ, Bool, List, [], ◌∷◌, ◌++◌, refl, sym, ap, ◌∙◌}
 use Rattle.std.specs.Prelude.{Some, codes, false}
 use denote.Hole.Carrier.{hidden}
-use Rattle.tm_syntax.specs.declared.tree.Expr.{Expr}
-use Rattle.tm_syntax.specs.declared.tree.ForLoop.{ForLoop}
-use Rattle.tm_syntax.specs.declared.tree.Stmt.{Stmt}
-use Rattle.tm_syntax.specs.declared.tree.Stmt.TheVariants as st
-use Rattle.tm_syntax.specs.declared.tree.Stmt.TheBlock.{hidden-the_row-Stmt-0 as statements, shape-the_row-Stmt-0}
+use Rattle.tm_trees.specs.Trees.{Expr, ForLoop, Stmt, statements, statements_shape, CallBlock, Parameter, hidden_expr}
+use Rattle.tm_trees.specs.Trees.statement_forms as st
 use Rattle.tm_syntax.specs.declared.opened.Opened.{Opened}
 use Rattle.tm_syntax.specs.Blocks.{FoundBlock, body_of, blocks_of, blocks_in, found_block}
 use Rattle.tm_shapes.specs.BlockCodes.{block_code, compiled, compiled_blocks}
 use Rattle.tm_shapes.specs.declared.code.BlockCode.{BlockCode}
 use Rattle.tm_values.specs.Val.{text}
-use Rattle.tm_syntax.specs.declared.tree.CallBlock.{CallBlock}
-use Rattle.tm_syntax.specs.declared.tree.Parameter.{Parameter}
-use Rattle.tm_syntax.specs.declared.tree.Argument.TheBlock.{hidden-the_row-Expr-0}
-use Rattle.tm_syntax.specs.declared.instruction.Instruction.TheVariants as i
+use Rattle.tm_trees.specs.Instructions.instructions as i
 use Rattle.tm_syntax.specs.Fragments.{Fragment, straight, ◌⨾◌}
 use Rattle.tm_syntax.specs.Code.{statement_code, statements_code, unnumbered_code, RowEnd, row_end, caller_end, call_code}
 use Rattle.tm_generator.specs.Opened.{OpenCall, with_name, ending, ending_count, call_open, call_of, call_end}
@@ -27,12 +21,12 @@ use Rattle.tm_generator.proofs.Assembled.{made_whole}
 
 -- ---------------------------------------------------------------- code
 put-statements-nil : (os : List Opened) (b : StreamBuilder) → put_in (statements_code os (statements [])) b ≡ b
-unfolding hidden statements shape-the_row-Stmt-0
+unfolding hidden statements statements_shape
 put-statements-nil os b = refl
 
 put-statements-cons : (os : List Opened) (b : StreamBuilder) (x : Stmt) (xs : List Stmt) →
     put_in (statements_code os (statements (x ∷ xs))) b ≡ put_in (statements_code os (statements xs)) (put_in (statement_code os x) b)
-unfolding hidden statements shape-the_row-Stmt-0
+unfolding hidden statements statements_shape
 put-statements-cons os b x xs = refl
 
 pub more-statements : (os os1 : List Opened) (all rest : List Stmt) (x : Stmt) (m m1 goal : StreamBuilder) → all ≡ x ∷ rest → os1 ≡ os →
@@ -59,7 +53,7 @@ made-stream b m m1 ss at x y z o p =
 -- ---------------------------------------------------------------- call tags
 put-call_block : (s : StreamBuilder) (tag : CallBlock) → put_in (statement_code s.enclosing (st.CallBlock tag)) s
     ≡ put_in (call_code (caller_end (macro_code (codes "caller") tag.parameters (statements tag.body))) tag.call ⨾ straight (i.Emit ∷ [])) s
-unfolding hidden hidden-the_row-Expr-0
+unfolding hidden hidden_expr
 put-call_block s tag = refl
 
 pub declared-is : (name : List ℕ) (ps : List Parameter) (body : List Stmt) (tag : CallBlock) (s : StreamBuilder) → ps ≡ tag.parameters →
@@ -140,11 +134,11 @@ unfolding hidden statements
 blocks-block x required body = refl
 
 blocks-nil : blocks_in (statements []) ≡ []
-unfolding hidden statements shape-the_row-Stmt-0
+unfolding hidden statements statements_shape
 blocks-nil = refl
 
 blocks-cons : (x : Stmt) (xs : List Stmt) → blocks_in (statements (x ∷ xs)) ≡ blocks_of x ++ blocks_in (statements xs)
-unfolding hidden statements shape-the_row-Stmt-0
+unfolding hidden statements statements_shape
 blocks-cons x xs = refl
 
 -- a body, and then the other one

@@ -1,17 +1,15 @@
 -- What is put for targets, as the program holds them.
 use Rattle.std.proofs.Common.{◌≡◌, ℕ, List, [], ◌∷◌, length, refl, sym, ap, ◌∙◌, arith}
 use denote.Hole.Carrier.{hidden}
-use Rattle.tm_syntax.specs.declared.tree.AssignmentTarget.{AssignmentTarget}
-use Rattle.tm_syntax.specs.declared.tree.AssignmentTarget.TheVariants as t
-use Rattle.tm_syntax.specs.declared.tree.AssignmentTarget.TheBlock.{hidden-the_row-AssignmentTarget-0 as targets}
-use Rattle.tm_syntax.specs.declared.tree.AssignmentTarget.TheBlock.{shape-the_row-AssignmentTarget-0}
-use Rattle.tm_syntax.specs.declared.instruction.Instruction.TheVariants as i
+use Rattle.tm_trees.specs.Trees.{AssignmentTarget, targets, targets_shape}
+use Rattle.tm_trees.specs.Trees.target_forms as t
+use Rattle.tm_trees.specs.Instructions.instructions as i
 use Rattle.tm_syntax.specs.Code.{target_code, targets_code, count_targets}
 use Rattle.tm_generator.specs.Building.{Builder, put, with_one}
 use Rattle.tm_generator.proofs.PutExpressions.{more, no_more}
 
 count-targets : (xs : List AssignmentTarget) → count_targets (targets xs) ≡ length xs
-unfolding hidden targets shape-the_row-AssignmentTarget-0
+unfolding hidden targets targets_shape
 count-targets [] = refl
 count-targets (x ∷ xs) = omega (arith, count-targets xs)
 
@@ -27,12 +25,12 @@ made-unpack b m1 m2 n ts k p q =
     ∙ ap {B = Builder} (λ j. with_one (i.UnpackList j) b) (k ∙ sym (count-targets ts))) ∙ sym (put-unpack b ts)
 
 put-targets-nil : (b : Builder) → put (targets_code (targets [])) b ≡ b
-unfolding hidden targets shape-the_row-AssignmentTarget-0
+unfolding hidden targets targets_shape
 put-targets-nil b = refl
 
 put-targets-cons : (b : Builder) (x : AssignmentTarget) (xs : List AssignmentTarget) →
     put (targets_code (targets (x ∷ xs))) b ≡ put (targets_code (targets xs)) (put (target_code x) b)
-unfolding hidden targets shape-the_row-AssignmentTarget-0
+unfolding hidden targets targets_shape
 put-targets-cons b x xs = refl
 
 pub more-targets : (all rest : List AssignmentTarget) (x : AssignmentTarget) (m m1 goal : Builder) → all ≡ x ∷ rest →

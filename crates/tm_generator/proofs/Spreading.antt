@@ -3,15 +3,10 @@ use Rattle.std.proofs.Common.{◌≡◌, ℕ, zero, suc, ◌+◌, List, [], ◌�
 use Rattle.std.specs.Prelude.{true, false, ◌||◌, Result, Ok, Err, OnOk, IfOk}
 use denote.Hole.Carrier.{hidden}
 use Rattle.tm_values.specs.Val.{text}
-use Rattle.tm_syntax.specs.declared.tree.Expr.{Expr}
-use Rattle.tm_syntax.specs.declared.tree.Argument.{Argument}
-use Rattle.tm_syntax.specs.declared.tree.Argument.TheVariants as a
-use Rattle.tm_syntax.specs.declared.tree.Keyword.{Keyword}
-use Rattle.tm_syntax.specs.declared.tree.Keyword.TheVariants as k
-use Rattle.tm_syntax.specs.declared.tree.Argument.TheBlock.{hidden-the_row-Expr-0}
-use Rattle.tm_syntax.specs.declared.tree.Argument.TheBlock.{hidden-the_row-Argument-3 as arguments, shape-the_row-Argument-3}
-use Rattle.tm_syntax.specs.declared.tree.Argument.TheBlock.{hidden-the_row-Keyword-4 as keywords, shape-the_row-Keyword-4}
-use Rattle.tm_syntax.specs.declared.instruction.Instruction.TheVariants as i
+use Rattle.tm_trees.specs.Trees.{Expr, Argument, Keyword, hidden_expr, arguments, arguments_shape, keywords, keywords_shape}
+use Rattle.tm_trees.specs.Trees.argument_forms as a
+use Rattle.tm_trees.specs.Trees.keyword_forms as k
+use Rattle.tm_trees.specs.Instructions.instructions as i
 use Rattle.tm_syntax.specs.Fragments.{straight}
 use Rattle.tm_syntax.specs.Code.{rows_of, list_of_row, map_of_row, is_spread, has_spread, row_after, lists_at}
 use Rattle.tm_syntax.specs.Code.{is_spread_keyword, has_spread_keyword, keywords_after, maps_at}
@@ -49,22 +44,22 @@ pub ruleset rows = (no_row, a_row, not_listed, listed, not_mapped, mapped)
 
 -- ---------------------------------------------------------------- one argument
 pub put-listed-plain : (b : Builder) (n : ℕ) (x : Expr) → put (listed_code n (a.Plain x)) b ≡ put (expr_code x) b
-unfolding hidden hidden-the_row-Expr-0
+unfolding hidden hidden_expr
 put-listed-plain b n x = refl
 
 pub put-listed-spread : (b : Builder) (n : ℕ) (x : Expr) →
     put (listed_code n (a.Spread x)) b ≡ put (expr_code x) (put (straight (list_of_row n)) b)
-unfolding hidden hidden-the_row-Expr-0
+unfolding hidden hidden_expr
 put-listed-spread b n x = refl
 
 pub put-keyword-named : (b : Builder) (n : ℕ) (f : List ℕ) (x : Expr) →
     put (keyword_code n (k.Named f x)) b ≡ put (expr_code x) (with_one (i.LoadConst (text f false)) b)
-unfolding hidden hidden-the_row-Expr-0
+unfolding hidden hidden_expr
 put-keyword-named b n f x = refl
 
 pub put-keyword-spread : (b : Builder) (n : ℕ) (x : Expr) →
     put (keyword_code n (k.Spread x)) b ≡ put (expr_code x) (put (straight (map_of_row n)) b)
-unfolding hidden hidden-the_row-Expr-0
+unfolding hidden hidden_expr
 put-keyword-spread b n x = refl
 
 pub made-listed : (b m1 m2 : Builder) (n : ℕ) (x : Expr) → m1 ≡ put (straight (list_of_row n)) b → m2 ≡ put (expr_code x) m1 →
@@ -92,11 +87,11 @@ after-none n m = ap {A = ℕ} {B = Rows} (λ j. record { ended = j; pending = m 
 
 -- ---------------------------------------------------------------- whether one is spread
 spread-nil : has_spread (arguments []) ≡ false
-unfolding hidden arguments shape-the_row-Argument-3
+unfolding hidden arguments arguments_shape
 spread-nil = refl
 
 spread-cons : (x : Argument) (xs : List Argument) → has_spread (arguments (x ∷ xs)) ≡ (is_spread x || has_spread (arguments xs))
-unfolding hidden arguments shape-the_row-Argument-3
+unfolding hidden arguments arguments_shape
 spread-cons x xs = refl
 
 module _ (all rest : List Argument) (x : Argument) (goal : Bool) (left : all ≡ x ∷ rest) (so : has_spread (arguments all) ≡ goal) where
@@ -113,12 +108,12 @@ pub spread-none : (rest : List Argument) (goal : Bool) → rest ≡ [] → has_s
 spread-none rest goal none so = sym spread-nil ∙ ap (λ xs. has_spread (arguments xs)) (sym none) ∙ so
 
 spread_keyword-nil : has_spread_keyword (keywords []) ≡ false
-unfolding hidden keywords shape-the_row-Keyword-4
+unfolding hidden keywords keywords_shape
 spread_keyword-nil = refl
 
 spread_keyword-cons : (x : Keyword) (xs : List Keyword) →
     has_spread_keyword (keywords (x ∷ xs)) ≡ (is_spread_keyword x || has_spread_keyword (keywords xs))
-unfolding hidden keywords shape-the_row-Keyword-4
+unfolding hidden keywords keywords_shape
 spread_keyword-cons x xs = refl
 
 module _ (all rest : List Keyword) (x : Keyword) (goal : Bool) (left : all ≡ x ∷ rest) (so : has_spread_keyword (keywords all) ≡ goal) where
@@ -136,21 +131,21 @@ spread_keyword-none rest goal none so = sym spread_keyword-nil ∙ ap (λ xs. ha
 
 -- ---------------------------------------------------------------- lists
 listing-nil : (b : Builder) (n : ℕ) → put (listing_code n (arguments [])) b ≡ b
-unfolding hidden arguments shape-the_row-Argument-3
+unfolding hidden arguments arguments_shape
 listing-nil b n = refl
 
 listing-cons : (b : Builder) (n : ℕ) (x : Argument) (xs : List Argument) →
     put (listing_code n (arguments (x ∷ xs))) b ≡ put (listing_code (row_after n x) (arguments xs)) (put (listed_code n x) b)
-unfolding hidden arguments shape-the_row-Argument-3
+unfolding hidden arguments arguments_shape
 listing-cons b n x xs = refl
 
 lists-nil : (n : ℕ) → lists_of n (arguments []) ≡ record { ended = 0; pending = n }
-unfolding hidden arguments shape-the_row-Argument-3
+unfolding hidden arguments arguments_shape
 lists-nil n = refl
 
 lists-cons : (n : ℕ) (x : Argument) (xs : List Argument) →
     lists_of n (arguments (x ∷ xs)) ≡ after (lists_at n x) (lists_of (row_after n x) (arguments xs))
-unfolding hidden arguments shape-the_row-Argument-3
+unfolding hidden arguments arguments_shape
 lists-cons n x xs = refl
 
 pub more-lists : (all rest : List Argument) (x : Argument) (n n1 : ℕ) (b b1 goal : Builder) → all ≡ x ∷ rest →
@@ -182,22 +177,22 @@ no_more-list_rows rest n l goal none g =
 
 -- ---------------------------------------------------------------- maps
 naming-nil : (b : Builder) (n : ℕ) → put (keywords_code no_end n (keywords [])) b ≡ b
-unfolding hidden keywords shape-the_row-Keyword-4
+unfolding hidden keywords keywords_shape
 naming-nil b n = refl
 
 naming-cons : (b : Builder) (n : ℕ) (x : Keyword) (xs : List Keyword) →
     put (keywords_code no_end n (keywords (x ∷ xs))) b
     ≡ put (keywords_code no_end (keywords_after n x) (keywords xs)) (put (keyword_code n x) b)
-unfolding hidden keywords shape-the_row-Keyword-4
+unfolding hidden keywords keywords_shape
 naming-cons b n x xs = refl
 
 maps-nil : (n : ℕ) → maps_of n (keywords []) ≡ record { ended = 0; pending = n }
-unfolding hidden keywords shape-the_row-Keyword-4
+unfolding hidden keywords keywords_shape
 maps-nil n = refl
 
 maps-cons : (n : ℕ) (x : Keyword) (xs : List Keyword) →
     maps_of n (keywords (x ∷ xs)) ≡ after (maps_at n x) (maps_of (keywords_after n x) (keywords xs))
-unfolding hidden keywords shape-the_row-Keyword-4
+unfolding hidden keywords keywords_shape
 maps-cons n x xs = refl
 
 pub more-maps : (all rest : List Keyword) (x : Keyword) (n n1 : ℕ) (b b1 goal : Builder) → all ≡ x ∷ rest →

@@ -1,15 +1,12 @@
 -- What a builder does for code. Places and jumps that lead nowhere yet stand here alone.
 use Rattle.std.specs.Prelude.{ℕ, ◌+◌, List, [], ◌∷◌, ◌++◌, length, slice_set}
-use Rattle.tm_syntax.specs.declared.instruction.LoopFlags.{LoopFlags}
-use Rattle.tm_syntax.specs.declared.instruction.Instruction.{Instruction}
-use Rattle.tm_syntax.specs.declared.instruction.Instruction.TheVariants as i
+use Rattle.tm_trees.specs.Instructions.{LoopFlags, Instruction}
+use Rattle.tm_trees.specs.Instructions.instructions as i
 use Rattle.tm_syntax.specs.declared.jump.JumpKind.{JumpKind}
 use Rattle.tm_syntax.specs.declared.jump.JumpKind.TheVariants.{IfFalse}
-use Rattle.tm_syntax.specs.declared.tree.Condition.{Condition}
-use Rattle.tm_syntax.specs.declared.tree.Parameter.{Parameter}
+use Rattle.tm_trees.specs.Trees.{Condition, Parameter, Row_of-Stmt}
 use Rattle.tm_names.specs.declared.macros.MacroNames.{MacroNames}
 use Rattle.tm_syntax.specs.Code.{expr_code, macro_head, parameters_code, statements_code}
-use Rattle.tm_syntax.specs.declared.tree.Stmt.{Row_of-Stmt}
 use Rattle.tm_syntax.specs.Names.{parameter_names}
 use Rattle.tm_syntax.specs.Fragments.{Fragment, straight, ◌⨾◌, jump_out, bounded, fork, looped, break_loop, next_round, declares, jump}
 use Rattle.tm_syntax.specs.Fragments.{MacroHead, building}

@@ -2,7 +2,7 @@
 use Rattle.std.specs.Prelude.{◌≡◌, ◌≤◌, ◌∷◌, List, Option, None, Some, length}
 use Rattle.tm_generator.specs.declared.caches.CacheNames.{CacheNames}
 use Rattle.tm_syntax.specs.CacheNumbers.{cache_count, numbered_from}
-use Rattle.tm_syntax.specs.declared.instruction.Instruction.{Instruction}
+use Rattle.tm_trees.specs.Instructions.{Instruction}
 
 -- No more names have numbers than there are caches.
 pub record HasRoom (names : CacheNames) : Type 0 where

@@ -1,12 +1,9 @@
 -- How the code of a call is put in two parts: what it is passed with its last rows open, and after what else is passed their ends.
 use Rattle.std.specs.Prelude.{ℕ, ◌+◌, List, [], ◌∷◌, Bool, true, false, Option}
-use Rattle.tm_syntax.specs.declared.instruction.Instruction.{Instruction}
-use Rattle.tm_syntax.specs.declared.instruction.Instruction.TheVariants as i
-use Rattle.tm_syntax.specs.declared.tree.Expr.{Expr, Call', Row_of-Argument, end_of-Argument as no_argument}
-use Rattle.tm_syntax.specs.declared.tree.Expr.{more_of-Argument as argument, Row_of-Keyword, end_of-Keyword as no_keyword}
-use Rattle.tm_syntax.specs.declared.tree.Expr.{more_of-Keyword as keyword_and, Row_of-Step}
-use Rattle.tm_syntax.specs.declared.tree.Expr.{end_of-Step as no_step, more_of-Step as step}
-use Rattle.tm_syntax.specs.declared.tree.Step.{Step, Apply', Call' as Called}
+use Rattle.tm_trees.specs.Instructions.{Instruction}
+use Rattle.tm_trees.specs.Instructions.instructions as i
+use Rattle.tm_trees.specs.Trees.{Expr, Call', Row_of-Argument, no_argument, argument, Row_of-Keyword, no_keyword, keyword_and, Row_of-Step, no_step}
+use Rattle.tm_trees.specs.Trees.{step, Step, Apply', Called}
 use Rattle.tm_syntax.specs.Forms.{chained}
 use Rattle.tm_syntax.specs.Fragments.{Fragment, straight, ◌⨾◌}
 use Rattle.tm_syntax.specs.Code.{rows_of, list_of_row, has_spread, row_after, lists_at, has_spread_keyword, keywords_after, RowEnd}

@@ -6,7 +6,7 @@ ghost use Rattle.tm_generator.specs.Building.{with_one, jumped, left, continued,
 ghost use Rattle.tm_generator.specs.Building.{place_of, outs_of, outer_of, loop_begun, rounds_ended};
 ghost use Rattle.tm_generator.specs.Building.{settled, led, finished};
 ghost use Rattle.tm_generator.specs.Building.{around_of, body_begun, body_ended};
-ghost use Rattle.tm_syntax.specs.declared.instruction.Instruction.TheVariants.{Jump};
+ghost use Rattle.tm_trees.specs.Instructions.instructions.{Jump};
 
 use std::alloc::{AllocError, Global};
 use std::mem;

@@ -7,7 +7,7 @@ ghost use Rattle.tm_generator.specs.Opened.{step_call, step_end, step_open, step
 ghost use Rattle.tm_generator.specs.Opened.{steps_open};
 ghost use Rattle.tm_syntax.specs.Code.{row_end};
 ghost use Rattle.tm_syntax.specs.Fragments.{◌⨾◌, straight};
-ghost use Rattle.tm_syntax.specs.declared.tree.Argument.TheBlock.{hidden-the_row-Step-5 as steps};
+ghost use Rattle.tm_trees.specs.Trees.{steps};
 
 use crate::builder::Builder;
 use crate::expressions::{push_application, push_expr, push_open, push_step, push_steps};

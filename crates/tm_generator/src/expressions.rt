@@ -12,18 +12,13 @@ ghost use Rattle.tm_syntax.specs.Code.{listed_code, keyword_code, keywords_code}
 ghost use Rattle.tm_syntax.specs.Code.{passing_code, passed_count, row_end};
 ghost use Rattle.tm_syntax.specs.Code.{filters_code, step_code, steps_code, row_code, links_code};
 ghost use Rattle.tm_syntax.specs.Fragments.{straight, over};
-ghost use Rattle.tm_syntax.specs.declared.tree.Argument.TheBlock.{hidden-the_row-Expr-1 as exprs};
-ghost use Rattle.tm_syntax.specs.declared.instruction.Instruction.TheVariants.{BuildList, BuildMap};
-ghost use Rattle.tm_syntax.specs.declared.instruction.Instruction.TheVariants.{BuildTuple, GetAttr};
-ghost use Rattle.tm_syntax.specs.declared.instruction.Instruction.TheVariants.{GetItem, LoadConst};
-ghost use Rattle.tm_syntax.specs.declared.instruction.Instruction.TheVariants.{Lookup, Slice};
-ghost use Rattle.tm_syntax.specs.declared.tree.Expr.TheVariants.{Call, Conditional, SelfBlock};
-ghost use Rattle.tm_syntax.specs.declared.tree.Step.TheVariants.{Apply, Call as Called};
-ghost use Rattle.tm_syntax.specs.declared.tree.Argument.TheBlock.{hidden-the_row-Pair-2 as pairs};
-ghost use Rattle.tm_syntax.specs.declared.tree.Argument.TheBlock.{hidden-the_row-Argument-3 as arguments};
-ghost use Rattle.tm_syntax.specs.declared.tree.Argument.TheBlock.{hidden-the_row-Keyword-4 as keywords};
-ghost use Rattle.tm_syntax.specs.declared.tree.Argument.TheBlock.{hidden-the_row-Step-5 as steps};
-ghost use Rattle.tm_syntax.specs.declared.tree.Argument.TheBlock.{hidden-the_row-Comparison-7 as comparisons};
+ghost use Rattle.tm_trees.specs.Trees.{exprs, pairs, arguments, keywords, steps, comparisons};
+ghost use Rattle.tm_trees.specs.Instructions.instructions.{BuildList, BuildMap};
+ghost use Rattle.tm_trees.specs.Instructions.instructions.{BuildTuple, GetAttr};
+ghost use Rattle.tm_trees.specs.Instructions.instructions.{GetItem, LoadConst};
+ghost use Rattle.tm_trees.specs.Instructions.instructions.{Lookup, Slice};
+ghost use Rattle.tm_trees.specs.Trees.expr_forms.{Call, Conditional, SelfBlock};
+ghost use Rattle.tm_trees.specs.Trees.step_forms.{Apply, Call as Called};
 
 use crate::builder::{Builder, Out};
 use crate::passing::{

@@ -2,7 +2,7 @@
 ghost use Rattle.std.specs.Prelude.{◌≡◌, [], ◌∷◌, OnOk};
 ghost use Rattle.tm_generator.specs.Building.{put};
 ghost use Rattle.tm_syntax.specs.Code.{included_code, lookups_code, statement_code, stores_code};
-ghost use Rattle.tm_syntax.specs.declared.tree.Stmt.TheVariants.{FromImport, Import, Include};
+ghost use Rattle.tm_trees.specs.Trees.statement_forms.{FromImport, Import, Include};
 
 use crate::builder::Builder;
 use crate::expressions::push_expr;

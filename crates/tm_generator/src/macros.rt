@@ -4,7 +4,7 @@ ghost use Rattle.tm_generator.specs.Building.{put, put_building, with_one};
 ghost use Rattle.tm_syntax.specs.Code.{default_code, parameter_code, parameters_code};
 ghost use Rattle.tm_syntax.specs.Fragments.{name_list};
 ghost use Rattle.tm_syntax.specs.Names.{parameter_names};
-ghost use Rattle.tm_syntax.specs.declared.instruction.Instruction.TheVariants.{LoadConst};
+ghost use Rattle.tm_trees.specs.Instructions.instructions.{LoadConst};
 ghost use Rattle.tm_values.specs.Val.{text};
 
 use crate::builder::Builder;

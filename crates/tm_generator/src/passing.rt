@@ -7,8 +7,7 @@ ghost use Rattle.tm_syntax.specs.Code as code;
 ghost use Rattle.tm_syntax.specs.Code.{count_by, list_of_row, map_of_row, merged_code, merged_count};
 ghost use Rattle.tm_syntax.specs.Code.{row_end};
 ghost use Rattle.tm_syntax.specs.Fragments.{straight};
-ghost use Rattle.tm_syntax.specs.declared.tree.Argument.TheBlock.{hidden-the_row-Argument-3 as arguments};
-ghost use Rattle.tm_syntax.specs.declared.tree.Argument.TheBlock.{hidden-the_row-Keyword-4 as keywords};
+ghost use Rattle.tm_trees.specs.Trees.{arguments, keywords};
 
 use crate::builder::Builder;
 use std::alloc::AllocError;

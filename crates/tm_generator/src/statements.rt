@@ -8,10 +8,10 @@ ghost use Rattle.tm_syntax.specs.Code.{stream_code};
 ghost use Rattle.tm_syntax.specs.Fragments.{◌⨾◌, over};
 ghost use Rattle.tm_syntax.specs.Named.{put as put_named, put_each};
 ghost use Rattle.tm_syntax.specs.declared.jump.JumpKind.TheVariants.{IfFalse};
-ghost use Rattle.tm_syntax.specs.declared.tree.Stmt.TheBlock.{hidden-the_row-Stmt-0 as statements};
-ghost use Rattle.tm_syntax.specs.declared.tree.Stmt.TheVariants.{AutoEscape, Block, Break};
-ghost use Rattle.tm_syntax.specs.declared.tree.Stmt.TheVariants.{CallBlock as CallTag, CaptureBlock};
-ghost use Rattle.tm_syntax.specs.declared.tree.Stmt.TheVariants.{Continue, Do, Extends, For, If, Macro as Declare, With};
+ghost use Rattle.tm_trees.specs.Trees.{statements};
+ghost use Rattle.tm_trees.specs.Trees.statement_forms.{AutoEscape, Block, Break};
+ghost use Rattle.tm_trees.specs.Trees.statement_forms.{CallBlock as CallTag, CaptureBlock};
+ghost use Rattle.tm_trees.specs.Trees.statement_forms.{Continue, Do, Extends, For, If, Macro as Declare, With};
 
 use crate::builder::Builder;
 use crate::caches::number_caches;

@@ -3,7 +3,7 @@ ghost use Rattle.std.specs.Prelude.{◌≡◌, [], ◌∷◌, OnOk};
 ghost use Rattle.tm_generator.specs.Building.{put};
 ghost use Rattle.tm_syntax.specs.Code.{target_code, targets_code, set_code, assignments_code};
 ghost use Rattle.tm_syntax.specs.Code.{use_code};
-ghost use Rattle.tm_syntax.specs.declared.tree.AssignmentTarget.TheBlock.{hidden-the_row-AssignmentTarget-0 as targets};
+ghost use Rattle.tm_trees.specs.Trees.{targets};
 
 use crate::builder::Builder;
 use crate::expressions::push_expr;

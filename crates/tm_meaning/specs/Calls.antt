@@ -15,8 +15,8 @@ use Rattle.tm_values.specs.Val.{MacroData, Val, undefined, boolean, text, map, f
 use Rattle.tm_values.specs.declared.error.ErrorKind.{ErrorKind}
 use Rattle.tm_values.specs.declared.error.ErrorKind.TheVariants.{InvalidOperation, UnknownFilter, UnknownTest, UnknownFunction}
 use Rattle.tm_values.specs.declared.error.ErrorKind.TheVariants.{UnknownMethod, UnknownBlock, TooManyArguments, TemplateNotFound}
-use Rattle.tm_syntax.specs.declared.tree.Application.{Application}
-use Rattle.tm_syntax.specs.declared.tree.Application.TheVariants as applications
+use Rattle.tm_trees.specs.Trees.{Application}
+use Rattle.tm_trees.specs.Trees.applications
 use Rattle.tm_meaning.specs.declared.function.GlobalFunction.{GlobalFunction}
 use Rattle.tm_meaning.specs.declared.wrapping.Wrapping.{Wrapping}
 use Rattle.tm_meaning.specs.declared.wrapping.Wrapping.TheVariants.{EvalBlock, BadInclude}

@@ -3,12 +3,10 @@ use Rattle.std.specs.Prelude.{ℕ, zero, suc, ◌+◌, pos, List, [], ◌∷◌,
 use Rattle.std.specs.Prelude.{◌&&◌, slice_get, if◌then◌else◌}
 use Rattle.tm_values.specs.Val.{Val, undefined, none, boolean, number}
 use Rattle.tm_values.specs.declared.escape.AutoEscape.{AutoEscape}
-use Rattle.tm_syntax.specs.declared.instruction.CaptureMode.{CaptureMode}
-use Rattle.tm_syntax.specs.declared.instruction.LoopFlags.{LoopFlags}
-use Rattle.tm_syntax.specs.declared.instruction.CaptureMode.TheVariants as modes
-use Rattle.tm_syntax.specs.declared.tree.UnaryOperator.{UnaryOperator}
+use Rattle.tm_trees.specs.Instructions.{CaptureMode, LoopFlags}
+use Rattle.tm_trees.specs.Instructions.modes
+use Rattle.tm_trees.specs.Trees.{UnaryOperator, BinaryOperator, Application}
 use Rattle.tm_meaning.specs.declared.mark.LoopMark.{LoopMark}
-use Rattle.tm_syntax.specs.declared.tree.BinaryOperator.{BinaryOperator}
 use Rattle.tm_meaning.specs.World.{choose, TemplateId, World, HostValue, Loop, top_mark, top_loop, open_loop, next_turn, cleared}
 use Rattle.tm_meaning.specs.World.{items_over, Res, answered, looked_up, emitted, escape_for, with_escape, store, unpacked_items}
 use Rattle.tm_meaning.specs.World.{set_member, push, pop, plain_scope, captured_text, module_with, enclose, own_closure, make_macro}
@@ -17,8 +15,7 @@ use Rattle.tm_syntax.specs.Entries.{entry_number}
 pub use Rattle.tm_syntax.specs.Entries.{and_text, texts_in, names_in}
 use Rattle.tm_syntax.specs.CacheNumbers.{no_cache, cache_count}
 use Rattle.tm_syntax.specs.Named.{same_name}
-use Rattle.tm_syntax.specs.declared.tree.Application.{Application}
-use Rattle.tm_syntax.specs.declared.tree.Application.TheVariants as applications
+use Rattle.tm_trees.specs.Trees.applications
 use Rattle.tm_meaning.specs.Inheritance.{load}
 use Rattle.tm_meaning.specs.Calls.{enter_block, enter_super, enter_include, call_named, call_callee, applied, call_innermost}
 use Rattle.tm_meaning.specs.Meaning.{none_waits}

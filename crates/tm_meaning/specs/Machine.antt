@@ -5,12 +5,11 @@ use Rattle.tm_values.specs.Val.{Val, undefined}
 use Rattle.tm_values.specs.declared.error.ErrorKind.{ErrorKind}
 use Rattle.tm_values.specs.declared.error.ErrorKind.TheVariants.{InvalidOperation}
 use Rattle.tm_values.specs.declared.escape.AutoEscape.{AutoEscape}
-use Rattle.tm_syntax.specs.declared.instruction.Instruction.{Instruction}
+use Rattle.tm_trees.specs.Instructions.{Instruction, LoopPlace}
 pub use Rattle.tm_meaning.specs.declared.base.Base.{Base}
 use Rattle.tm_meaning.specs.World.{choose, TemplateId, StreamId, root_of, World, HostValue, Res, Good, Bad, open_loop, captured_text}
 use Rattle.tm_meaning.specs.Calls.{Callee, whole, macro_of, NestedCall, Asked, has, refused, runs, recurs, undone, wrapped, run_value}
 use Rattle.tm_meaning.specs.declared.run_text.RunText.{RunText}
-use Rattle.tm_syntax.specs.declared.instruction.LoopPlace.{LoopPlace}
 use Rattle.tm_syntax.specs.Loops.{loop_places}
 use Rattle.tm_syntax.specs.Entries.{entries}
 use Rattle.tm_meaning.specs.Meaning.{none_waits}

@@ -5,31 +5,14 @@ use Rattle.tm_values.specs.Answer.{Answer, invalid}
 use Rattle.tm_values.specs.Val.{Val, undefined, number, text}
 use Rattle.tm_values.specs.declared.error.ErrorKind.{ErrorKind}
 use Rattle.tm_values.specs.declared.escape.AutoEscape.{AutoEscape}
-use Rattle.tm_syntax.specs.declared.tree.BinaryOperator.{BinaryOperator}
-use Rattle.tm_syntax.specs.declared.tree.Expr.{Expr, Var, Const, List', Tuple', Map', Call', SelfBlock, Row_of-Expr}
-use Rattle.tm_syntax.specs.declared.tree.Expr.{end_of-Expr as no_expr, more_of-Expr as expr, Row_of-Pair, end_of-Pair as no_pair}
-use Rattle.tm_syntax.specs.declared.tree.Expr.{Row_of-Argument}
-use Rattle.tm_syntax.specs.declared.tree.Expr.{end_of-Argument as no_argument, more_of-Argument as argument, Row_of-Keyword}
-use Rattle.tm_syntax.specs.declared.tree.Expr.{end_of-Keyword as no_keyword, more_of-Keyword as keyword_and, Row_of-Step}
-use Rattle.tm_syntax.specs.declared.tree.Expr.{end_of-Step as no_step, more_of-Step as step}
-use Rattle.tm_syntax.specs.declared.tree.Expr.{Row_of-Condition, end_of-Condition as no_condition}
-use Rattle.tm_syntax.specs.declared.tree.Argument.{Argument}
-use Rattle.tm_syntax.specs.declared.tree.Step.{Step, Attribute, Apply', Call' as Called, Row_of-Comparison}
-use Rattle.tm_syntax.specs.declared.tree.Step.{end_of-Comparison as no_comparison}
-use Rattle.tm_syntax.specs.declared.tree.AssignmentTarget.{AssignmentTarget, Name as To, Unpack' as Items, Attribute as Member}
-use Rattle.tm_syntax.specs.declared.tree.AssignmentTarget.{Row_of-AssignmentTarget}
-use Rattle.tm_syntax.specs.declared.tree.AssignmentTarget.{end_of-AssignmentTarget as no_target, more_of-AssignmentTarget as target}
-use Rattle.tm_syntax.specs.declared.tree.Assignment.{Assignment}
-use Rattle.tm_syntax.specs.declared.tree.Parameter.{Parameter}
-use Rattle.tm_syntax.specs.declared.tree.Imported.{Imported}
-use Rattle.tm_syntax.specs.declared.tree.CaptureUse.{CaptureUse}
-use Rattle.tm_syntax.specs.declared.tree.CaptureUse.TheVariants as uses
-use Rattle.tm_syntax.specs.declared.tree.Stmt.{Stmt, EmitRaw, EmitExpr, EmitLoop, EmitBlock, EmitSuper, If', For', Break, Continue, Block'}
-use Rattle.tm_syntax.specs.declared.tree.Stmt.{Extends, Set, CaptureBlock', With', Do, AutoEscape', Macro', CallBlock', Row_of-Stmt}
-use Rattle.tm_syntax.specs.declared.tree.Stmt.{Include, Import, FromImport}
-use Rattle.tm_syntax.specs.declared.tree.Stmt.{end_of-Stmt as no_statement}
-use Rattle.tm_syntax.specs.declared.tree.Stmt.{more_of-Stmt as statement, Held-Stmt-If-2 as Otherwise, None' as no_else}
-use Rattle.tm_syntax.specs.declared.tree.Stmt.{Some' as otherwise}
+use Rattle.tm_trees.specs.Trees.{BinaryOperator, Expr, Var, Const, List', Tuple', Map', Call', SelfBlock, Row_of-Expr, no_expr, expr, Row_of-Pair}
+use Rattle.tm_trees.specs.Trees.{no_pair, Row_of-Argument, no_argument, argument, Row_of-Keyword, no_keyword, keyword_and, Row_of-Step, no_step}
+use Rattle.tm_trees.specs.Trees.{step, Row_of-Condition, no_condition, Argument, Step, Attribute, Apply', Called, Row_of-Comparison, no_comparison}
+use Rattle.tm_trees.specs.Trees.{AssignmentTarget, To, Items, Member, Row_of-AssignmentTarget, no_target, target, Assignment, Parameter, Imported}
+use Rattle.tm_trees.specs.Trees.{CaptureUse, Stmt, EmitRaw, EmitExpr, EmitLoop, EmitBlock, EmitSuper, If', For', Break, Continue, Block', Extends}
+use Rattle.tm_trees.specs.Trees.{Set, CaptureBlock', With', Do, AutoEscape', Macro', CallBlock', Row_of-Stmt, Include, Import, FromImport}
+use Rattle.tm_trees.specs.Trees.{no_statement, statement, Otherwise, no_else, otherwise}
+use Rattle.tm_trees.specs.Trees.uses
 use Rattle.tm_syntax.specs.Forms.{unary, chained, conditional, with_condition, with_comparison, with_pair, plain, spread, keyword, item}
 use Rattle.tm_syntax.specs.Forms.{spread_keywords, slice, binary, compare, and_then, or_else}
 use Rattle.tm_syntax.specs.Code.{count_targets, for_flags, pass_flags, macro_head}

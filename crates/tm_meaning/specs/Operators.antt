@@ -15,14 +15,10 @@ use Rattle.tm_definitions.specs.Spread.{items_of_all, merged}
 use Rattle.tm_definitions.specs.Members.{attribute_of, item_of}
 use Rattle.tm_definitions.specs.Slices.{sliced}
 use Rattle.tm_definitions.specs.declared.comparison.ComparisonOperator.TheVariants as comparison
-use Rattle.tm_syntax.specs.declared.tree.UnaryOperator.{UnaryOperator}
-use Rattle.tm_syntax.specs.declared.tree.UnaryOperator.TheVariants as unaries
-use Rattle.tm_syntax.specs.declared.tree.BinaryOperator.{BinaryOperator}
-use Rattle.tm_syntax.specs.declared.tree.BinaryOperator.TheVariants as binaries
-use Rattle.tm_syntax.specs.declared.tree.Expr.{Row_of-Argument}
-use Rattle.tm_syntax.specs.declared.tree.Expr.{Row_of-Keyword}
-use Rattle.tm_syntax.specs.declared.tree.Application.{Application}
-use Rattle.tm_syntax.specs.declared.tree.Application.TheVariants as applications
+use Rattle.tm_trees.specs.Trees.{UnaryOperator, BinaryOperator, Row_of-Argument, Row_of-Keyword, Application}
+use Rattle.tm_trees.specs.Trees.unaries
+use Rattle.tm_trees.specs.Trees.binaries
+use Rattle.tm_trees.specs.Trees.applications
 use Rattle.tm_syntax.specs.Code.{has_spread, has_spread_keyword}
 use Rattle.tm_meaning.specs.World.{World, HostValue, Res, Good, bind, answered, ticked}
 use Rattle.tm_meaning.specs.World.{records_of}

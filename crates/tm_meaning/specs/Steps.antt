@@ -2,11 +2,11 @@
 use Rattle.std.specs.Prelude.{◌≡◌, ℕ, zero, suc, List, [], ◌∷◌, ◌++◌, length, Option, Some, None, Bool, true, false, ◌&&◌}
 use Rattle.std.specs.Prelude.{nat_eq, slice_get}
 pub use Rattle.tm_syntax.specs.Choices.{is_empty}
-use Rattle.tm_syntax.specs.declared.instruction.Instruction.{Instruction}
-use Rattle.tm_syntax.specs.declared.instruction.Instruction.TheVariants as i
-use Rattle.tm_syntax.specs.declared.tree.Application.TheVariants as applications
-use Rattle.tm_syntax.specs.declared.tree.UnaryOperator.TheVariants as unaries
-use Rattle.tm_syntax.specs.declared.tree.BinaryOperator.TheVariants as binaries
+use Rattle.tm_trees.specs.Instructions.{Instruction}
+use Rattle.tm_trees.specs.Instructions.instructions as i
+use Rattle.tm_trees.specs.Trees.applications
+use Rattle.tm_trees.specs.Trees.unaries
+use Rattle.tm_trees.specs.Trees.binaries
 use Rattle.tm_meaning.specs.World.{choose, TemplateId, World, Res, pays}
 use Rattle.tm_values.specs.declared.error.ErrorKind.TheVariants.{InvalidOperation}
 use Rattle.tm_meaning.specs.Calls.{Callee}

@@ -1,7 +1,7 @@
 -- What a state is to the meaning and to the machine, and what both do to it.
 use Rattle.std.specs.Prelude.{ℕ, zero, suc, ◌+◌, ◌-◌, ◌≤◌, List, [], ◌∷◌, ◌++◌, length, map as each, Option, Some, None, option_and_then, Bool}
 use Rattle.std.specs.Prelude.{is_some, true, false, not, ◌&&◌, ◌||◌, nat_le, nat_lt, nat_eq, if◌then◌else◌, Ok, Err, slice_get, codes}
-use Rattle.tm_syntax.specs.declared.instruction.LoopFlags.{LoopFlags}
+use Rattle.tm_trees.specs.Instructions.{LoopFlags}
 pub use Rattle.tm_syntax.specs.Choices.{choose}
 pub use Rattle.tm_syntax.specs.Named.{Named, same_name, find, put, put_each}
 use Rattle.tm_values.specs.Answer.{Answer, invalid}

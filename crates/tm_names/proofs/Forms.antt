@@ -2,32 +2,14 @@
 use Rattle.std.proofs.Common.{◌≡◌, ℕ, ◌+◌, ◌<◌, List, [], ◌∷◌, length, drop, refl, sym, ap, ◌∙◌, arith, drop-cons}
 use Rattle.std.specs.Prelude.{get_or, Bool, true, false, cond, Option, Some, None}
 use denote.Hole.Carrier.{hidden}
-use Rattle.tm_syntax.specs.declared.tree.UnaryOperator.{UnaryOperator}
-use Rattle.tm_syntax.specs.declared.tree.BinaryOperator.{BinaryOperator}
-use Rattle.tm_syntax.specs.declared.tree.Expr.{Expr}
-use Rattle.tm_syntax.specs.declared.tree.Expr.TheVariants as e
-use Rattle.tm_syntax.specs.declared.tree.Pair.{Pair}
-use Rattle.tm_syntax.specs.declared.tree.Argument.{Argument}
-use Rattle.tm_syntax.specs.declared.tree.Argument.TheVariants as a
-use Rattle.tm_syntax.specs.declared.tree.Keyword.{Keyword}
-use Rattle.tm_syntax.specs.declared.tree.Keyword.TheVariants as k
-use Rattle.tm_syntax.specs.declared.tree.Condition.{Condition}
-use Rattle.tm_syntax.specs.declared.tree.Comparison.{Comparison}
-use Rattle.tm_syntax.specs.declared.tree.Step.{Step}
-use Rattle.tm_syntax.specs.declared.tree.Step.TheVariants as s
-use Rattle.tm_syntax.specs.declared.tree.Argument.TheBlock.{hidden-the_row-Expr-0}
-use Rattle.tm_syntax.specs.declared.tree.Argument.TheBlock.{hidden-the_row-Expr-1 as exprs, shape-the_row-Expr-1}
-use Rattle.tm_syntax.specs.declared.tree.Argument.TheBlock.{hidden-the_row-Pair-2 as pairs, shape-the_row-Pair-2}
-use Rattle.tm_syntax.specs.declared.tree.Argument.TheBlock.{hidden-the_row-Argument-3 as arguments, shape-the_row-Argument-3}
-use Rattle.tm_syntax.specs.declared.tree.Argument.TheBlock.{hidden-the_row-Keyword-4 as keywords, shape-the_row-Keyword-4}
-use Rattle.tm_syntax.specs.declared.tree.Argument.TheBlock.{hidden-the_row-Step-5 as steps, shape-the_row-Step-5}
-use Rattle.tm_syntax.specs.declared.tree.Argument.TheBlock.{hidden-the_row-Condition-6 as conditions, shape-the_row-Condition-6}
-use Rattle.tm_syntax.specs.declared.tree.Argument.TheBlock.{hidden-the_row-Comparison-7 as comparisons, shape-the_row-Comparison-7}
-use Rattle.tm_syntax.specs.declared.tree.AssignmentTarget.{AssignmentTarget}
-use Rattle.tm_syntax.specs.declared.tree.AssignmentTarget.TheBlock.{hidden-the_row-AssignmentTarget-0 as targets}
-use Rattle.tm_syntax.specs.declared.tree.AssignmentTarget.TheBlock.{shape-the_row-AssignmentTarget-0}
-use Rattle.tm_syntax.specs.declared.tree.Stmt.{Stmt}
-use Rattle.tm_syntax.specs.declared.tree.Stmt.TheBlock.{hidden-the_row-Stmt-0 as statements, shape-the_row-Stmt-0}
+use Rattle.tm_trees.specs.Trees.{UnaryOperator, BinaryOperator, Expr, Pair, Argument, Keyword, Condition, Comparison, Step, hidden_expr, exprs}
+use Rattle.tm_trees.specs.Trees.{exprs_shape, pairs, pairs_shape, arguments, arguments_shape, keywords, keywords_shape, steps, steps_shape}
+use Rattle.tm_trees.specs.Trees.{conditions, conditions_shape, comparisons, comparisons_shape, AssignmentTarget, targets, targets_shape, Stmt}
+use Rattle.tm_trees.specs.Trees.{statements, statements_shape}
+use Rattle.tm_trees.specs.Trees.expr_forms as e
+use Rattle.tm_trees.specs.Trees.argument_forms as a
+use Rattle.tm_trees.specs.Trees.keyword_forms as k
+use Rattle.tm_trees.specs.Trees.step_forms as s
 use Rattle.tm_syntax.specs.Names.{Walk, name_of, read_first, walk_expr, walk_exprs, walk_pairs, walk_argument, walk_arguments, walk_keyword}
 use Rattle.tm_syntax.specs.Names.{walk_keywords, walk_conditions, walk_step, walk_steps, walk_comparisons}
 use Rattle.tm_syntax.specs.Names.{attribute_of, dot, dotted, dotted_on, method_of}
@@ -36,59 +18,59 @@ use Rattle.tm_syntax.specs.Names.{read, read_as, read_chain, with_member}
 
 -- ---------------------------------------------------------------- expressions
 pub walk-unary : (n : Bool) (op : UnaryOperator) (x : Expr) (w : Walk) → walk_expr n (e.Unary op x) w ≡ walk_expr n x w
-unfolding hidden hidden-the_row-Expr-0
+unfolding hidden hidden_expr
 walk-unary n op x w = refl
 
 pub walk-chain : (n : Bool) (x : Expr) (ss : List Step) (w : Walk) →
     walk_expr n (e.Chain x ss) w ≡ walk_steps n (steps ss) (read_first n (name_of x) (steps ss) w (walk_expr n x w))
-unfolding hidden hidden-the_row-Expr-0
+unfolding hidden hidden_expr
 walk-chain n x ss w = refl
 
 pub walk-conditional : (n : Bool) (x : Expr) (cs : List Condition) (w : Walk) →
     walk_expr n (e.Conditional x cs) w ≡ walk_conditions n (conditions cs) (walk_expr n x w)
-unfolding hidden hidden-the_row-Expr-0
+unfolding hidden hidden_expr
 walk-conditional n x cs w = refl
 
 pub walk-plain : (n : Bool) (x : Expr) (w : Walk) → walk_argument n (a.Plain x) w ≡ walk_expr n x w
-unfolding hidden hidden-the_row-Expr-0
+unfolding hidden hidden_expr
 walk-plain n x w = refl
 
 pub walk-spread : (n : Bool) (x : Expr) (w : Walk) → walk_argument n (a.Spread x) w ≡ walk_expr n x w
-unfolding hidden hidden-the_row-Expr-0
+unfolding hidden hidden_expr
 walk-spread n x w = refl
 
 pub walk-named : (n : Bool) (name : List ℕ) (x : Expr) (w : Walk) → walk_keyword n (k.Named name x) w ≡ walk_expr n x w
-unfolding hidden hidden-the_row-Expr-0
+unfolding hidden hidden_expr
 walk-named n name x w = refl
 
 pub walk-spread_keywords : (n : Bool) (x : Expr) (w : Walk) → walk_keyword n (k.Spread x) w ≡ walk_expr n x w
-unfolding hidden hidden-the_row-Expr-0
+unfolding hidden hidden_expr
 walk-spread_keywords n x w = refl
 
 pub walk-item : (n : Bool) (x : Expr) (w : Walk) → walk_step n (s.Item x) w ≡ walk_expr n x w
-unfolding hidden hidden-the_row-Expr-0
+unfolding hidden hidden_expr
 walk-item n x w = refl
 
 pub walk-slice : (n : Bool) (x y z : Expr) (w : Walk) →
     walk_step n (s.Slice x y z) w ≡ walk_expr n z (walk_expr n y (walk_expr n x w))
-unfolding hidden hidden-the_row-Expr-0
+unfolding hidden hidden_expr
 walk-slice n x y z w = refl
 
 pub walk-binary : (n : Bool) (op : BinaryOperator) (x : Expr) (w : Walk) → walk_step n (s.Binary op x) w ≡ walk_expr n x w
-unfolding hidden hidden-the_row-Expr-0
+unfolding hidden hidden_expr
 walk-binary n op x w = refl
 
 pub walk-compare : (n : Bool) (op : BinaryOperator) (x : Expr) (cs : List Comparison) (w : Walk) →
     walk_step n (s.Compare op x cs) w ≡ walk_comparisons n (comparisons cs) (walk_expr n x w)
-unfolding hidden hidden-the_row-Expr-0
+unfolding hidden hidden_expr
 walk-compare n op x cs w = refl
 
 pub walk-and : (n : Bool) (x : Expr) (w : Walk) → walk_step n (s.And x) w ≡ walk_expr n x w
-unfolding hidden hidden-the_row-Expr-0
+unfolding hidden hidden_expr
 walk-and n x w = refl
 
 pub walk-or : (n : Bool) (x : Expr) (w : Walk) → walk_step n (s.Or x) w ≡ walk_expr n x w
-unfolding hidden hidden-the_row-Expr-0
+unfolding hidden hidden_expr
 walk-or n x w = refl
 
 pub ruleset forms = (walk-plain, walk-spread, walk-spread_keywords, walk-item, walk-and, walk-or)
@@ -128,11 +110,11 @@ module _ {X : Type 0} (one : X → Walk → Walk) (row : List X → Walk → Wal
   no_more nil rest w goal none g = sym (nil w) ∙ ap {B = Walk} (λ l. row l w) (sym none) ∙ g
 
 exprs-nil : (n : Bool) (w : Walk) → walk_exprs n (exprs []) w ≡ w
-unfolding hidden exprs shape-the_row-Expr-1
+unfolding hidden exprs exprs_shape
 exprs-nil n w = refl
 
 exprs-cons : (n : Bool) (w : Walk) (x : Expr) (xs : List Expr) → walk_exprs n (exprs (x ∷ xs)) w ≡ walk_exprs n (exprs xs) (walk_expr n x w)
-unfolding hidden exprs shape-the_row-Expr-1
+unfolding hidden exprs exprs_shape
 exprs-cons n w x xs = refl
 
 pub more-exprs : (n : Bool) (all rest : List Expr) (x : Expr) (w w1 goal : Walk) → all ≡ x ∷ rest → w1 ≡ walk_expr n x w →
@@ -143,11 +125,11 @@ pub no_more-exprs : (n : Bool) (rest : List Expr) (w goal : Walk) → rest ≡ [
 no_more-exprs n = no_more (λ x w. walk_expr n x w) (λ xs w. walk_exprs n (exprs xs) w) (exprs-nil n)
 
 pairs-nil : (n : Bool) (w : Walk) → walk_pairs n (pairs []) w ≡ w
-unfolding hidden pairs shape-the_row-Pair-2
+unfolding hidden pairs pairs_shape
 pairs-nil n w = refl
 
 pairs-cons : (n : Bool) (w : Walk) (x : Pair) (xs : List Pair) → walk_pairs n (pairs (x ∷ xs)) w ≡ walk_pairs n (pairs xs) (walk_expr n x.value (walk_expr n x.key w))
-unfolding hidden pairs shape-the_row-Pair-2
+unfolding hidden pairs pairs_shape
 pairs-cons n w x xs = refl
 
 pub more-pairs : (n : Bool) (all rest : List Pair) (x : Pair) (w w1 goal : Walk) → all ≡ x ∷ rest → w1 ≡ walk_expr n x.value (walk_expr n x.key w) →
@@ -158,11 +140,11 @@ pub no_more-pairs : (n : Bool) (rest : List Pair) (w goal : Walk) → rest ≡ [
 no_more-pairs n = no_more (λ x w. walk_expr n x.value (walk_expr n x.key w)) (λ xs w. walk_pairs n (pairs xs) w) (pairs-nil n)
 
 arguments-nil : (n : Bool) (w : Walk) → walk_arguments n (arguments []) w ≡ w
-unfolding hidden arguments shape-the_row-Argument-3
+unfolding hidden arguments arguments_shape
 arguments-nil n w = refl
 
 arguments-cons : (n : Bool) (w : Walk) (x : Argument) (xs : List Argument) → walk_arguments n (arguments (x ∷ xs)) w ≡ walk_arguments n (arguments xs) (walk_argument n x w)
-unfolding hidden arguments shape-the_row-Argument-3
+unfolding hidden arguments arguments_shape
 arguments-cons n w x xs = refl
 
 pub more-arguments : (n : Bool) (all rest : List Argument) (x : Argument) (w w1 goal : Walk) → all ≡ x ∷ rest → w1 ≡ walk_argument n x w →
@@ -173,11 +155,11 @@ pub no_more-arguments : (n : Bool) (rest : List Argument) (w goal : Walk) → re
 no_more-arguments n = no_more (λ x w. walk_argument n x w) (λ xs w. walk_arguments n (arguments xs) w) (arguments-nil n)
 
 keywords-nil : (n : Bool) (w : Walk) → walk_keywords n (keywords []) w ≡ w
-unfolding hidden keywords shape-the_row-Keyword-4
+unfolding hidden keywords keywords_shape
 keywords-nil n w = refl
 
 keywords-cons : (n : Bool) (w : Walk) (x : Keyword) (xs : List Keyword) → walk_keywords n (keywords (x ∷ xs)) w ≡ walk_keywords n (keywords xs) (walk_keyword n x w)
-unfolding hidden keywords shape-the_row-Keyword-4
+unfolding hidden keywords keywords_shape
 keywords-cons n w x xs = refl
 
 pub more-keywords : (n : Bool) (all rest : List Keyword) (x : Keyword) (w w1 goal : Walk) → all ≡ x ∷ rest → w1 ≡ walk_keyword n x w →
@@ -188,11 +170,11 @@ pub no_more-keywords : (n : Bool) (rest : List Keyword) (w goal : Walk) → rest
 no_more-keywords n = no_more (λ x w. walk_keyword n x w) (λ xs w. walk_keywords n (keywords xs) w) (keywords-nil n)
 
 steps-nil : (n : Bool) (w : Walk) → walk_steps n (steps []) w ≡ w
-unfolding hidden steps shape-the_row-Step-5
+unfolding hidden steps steps_shape
 steps-nil n w = refl
 
 steps-cons : (n : Bool) (w : Walk) (x : Step) (xs : List Step) → walk_steps n (steps (x ∷ xs)) w ≡ walk_steps n (steps xs) (walk_step n x w)
-unfolding hidden steps shape-the_row-Step-5
+unfolding hidden steps steps_shape
 steps-cons n w x xs = refl
 
 pub more-steps : (n : Bool) (all rest : List Step) (x : Step) (w w1 goal : Walk) → all ≡ x ∷ rest → w1 ≡ walk_step n x w →
@@ -203,11 +185,11 @@ pub no_more-steps : (n : Bool) (rest : List Step) (w goal : Walk) → rest ≡ [
 no_more-steps n = no_more (λ x w. walk_step n x w) (λ xs w. walk_steps n (steps xs) w) (steps-nil n)
 
 conditions-nil : (n : Bool) (w : Walk) → walk_conditions n (conditions []) w ≡ w
-unfolding hidden conditions shape-the_row-Condition-6
+unfolding hidden conditions conditions_shape
 conditions-nil n w = refl
 
 conditions-cons : (n : Bool) (w : Walk) (x : Condition) (xs : List Condition) → walk_conditions n (conditions (x ∷ xs)) w ≡ walk_conditions n (conditions xs) (walk_expr n x.otherwise (walk_expr n x.test w))
-unfolding hidden conditions shape-the_row-Condition-6
+unfolding hidden conditions conditions_shape
 conditions-cons n w x xs = refl
 
 pub more-conditions : (n : Bool) (all rest : List Condition) (x : Condition) (w w1 goal : Walk) → all ≡ x ∷ rest → w1 ≡ walk_expr n x.otherwise (walk_expr n x.test w) →
@@ -218,11 +200,11 @@ pub no_more-conditions : (n : Bool) (rest : List Condition) (w goal : Walk) → 
 no_more-conditions n = no_more (λ x w. walk_expr n x.otherwise (walk_expr n x.test w)) (λ xs w. walk_conditions n (conditions xs) w) (conditions-nil n)
 
 comparisons-nil : (n : Bool) (w : Walk) → walk_comparisons n (comparisons []) w ≡ w
-unfolding hidden comparisons shape-the_row-Comparison-7
+unfolding hidden comparisons comparisons_shape
 comparisons-nil n w = refl
 
 comparisons-cons : (n : Bool) (w : Walk) (x : Comparison) (xs : List Comparison) → walk_comparisons n (comparisons (x ∷ xs)) w ≡ walk_comparisons n (comparisons xs) (walk_expr n x.right w)
-unfolding hidden comparisons shape-the_row-Comparison-7
+unfolding hidden comparisons comparisons_shape
 comparisons-cons n w x xs = refl
 
 pub more-comparisons : (n : Bool) (all rest : List Comparison) (x : Comparison) (w w1 goal : Walk) → all ≡ x ∷ rest → w1 ≡ walk_expr n x.right w →
@@ -233,11 +215,11 @@ pub no_more-comparisons : (n : Bool) (rest : List Comparison) (w goal : Walk) �
 no_more-comparisons n = no_more (λ x w. walk_expr n x.right w) (λ xs w. walk_comparisons n (comparisons xs) w) (comparisons-nil n)
 
 targets-nil : (n : Bool) (w : Walk) → walk_targets n (targets []) w ≡ w
-unfolding hidden targets shape-the_row-AssignmentTarget-0
+unfolding hidden targets targets_shape
 targets-nil n w = refl
 
 targets-cons : (n : Bool) (w : Walk) (x : AssignmentTarget) (xs : List AssignmentTarget) → walk_targets n (targets (x ∷ xs)) w ≡ walk_targets n (targets xs) (walk_target n x w)
-unfolding hidden targets shape-the_row-AssignmentTarget-0
+unfolding hidden targets targets_shape
 targets-cons n w x xs = refl
 
 pub more-targets : (n : Bool) (all rest : List AssignmentTarget) (x : AssignmentTarget) (w w1 goal : Walk) → all ≡ x ∷ rest → w1 ≡ walk_target n x w →
@@ -248,11 +230,11 @@ pub no_more-targets : (n : Bool) (rest : List AssignmentTarget) (w goal : Walk) 
 no_more-targets n = no_more (λ x w. walk_target n x w) (λ xs w. walk_targets n (targets xs) w) (targets-nil n)
 
 statements-nil : (n : Bool) (w : Walk) → walk_all n (statements []) w ≡ w
-unfolding hidden statements shape-the_row-Stmt-0
+unfolding hidden statements statements_shape
 statements-nil n w = refl
 
 statements-cons : (n : Bool) (w : Walk) (x : Stmt) (xs : List Stmt) → walk_all n (statements (x ∷ xs)) w ≡ walk_all n (statements xs) (walk n x w)
-unfolding hidden statements shape-the_row-Stmt-0
+unfolding hidden statements statements_shape
 statements-cons n w x xs = refl
 
 pub more-statements : (n : Bool) (all rest : List Stmt) (x : Stmt) (w w1 goal : Walk) → all ≡ x ∷ rest → w1 ≡ walk n x w →
@@ -264,12 +246,12 @@ no_more-statements n = no_more (λ x w. walk n x w) (λ xs w. walk_all n (statem
 
 -- ---------------------------------------------------------------- dotted names
 dotted-nil : (x : List ℕ) → dotted x (steps []) ≡ x
-unfolding hidden steps shape-the_row-Step-5
+unfolding hidden steps steps_shape
 dotted-nil x = refl
 
 dotted-cons : (x : List ℕ) (f : Step) (fs : List Step) →
     dotted x (steps (f ∷ fs)) ≡ dotted_on (attribute_of f) (method_of f) x (λ y. dotted y (steps fs))
-unfolding hidden steps shape-the_row-Step-5
+unfolding hidden steps steps_shape
 dotted-cons x f fs = refl
 
 dotted-after : (all rest : List Step) (f : Step) (o : Option (List ℕ)) (x goal : List ℕ) → all ≡ f ∷ rest → o ≡ attribute_of f →

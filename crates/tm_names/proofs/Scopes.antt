@@ -3,29 +3,14 @@ use Rattle.std.proofs.Common.{◌≡◌, ◌∙◌, ℕ, List, [], ◌∷◌, re
 use Rattle.std.specs.Prelude.{Option, Some, None, Bool, true, false, cond, codes}
 use Rattle.tm_syntax.specs.Forms.{unary, chained, conditional, with_condition, with_comparison, with_pair, plain, spread, keyword}
 use Rattle.tm_syntax.specs.Forms.{spread_keywords, item, slice, binary, compare, and_then, or_else}
-use Rattle.tm_syntax.specs.declared.tree.Expr.{Expr, Var, Const, List', Tuple', Map', Call', SelfBlock, Row_of-Expr, end_of-Expr as no_expr}
-use Rattle.tm_syntax.specs.declared.tree.Expr.{more_of-Expr as expr, Row_of-Pair, end_of-Pair as no_pair}
-use Rattle.tm_syntax.specs.declared.tree.Expr.{Row_of-Argument, end_of-Argument as no_argument, more_of-Argument as argument}
-use Rattle.tm_syntax.specs.declared.tree.Expr.{Row_of-Keyword, end_of-Keyword as no_keyword, more_of-Keyword as keyword_and, Row_of-Step}
-use Rattle.tm_syntax.specs.declared.tree.Expr.{end_of-Step as no_step, more_of-Step as step, Row_of-Condition}
-use Rattle.tm_syntax.specs.declared.tree.Expr.{end_of-Condition as no_condition}
-use Rattle.tm_syntax.specs.declared.tree.Argument.{Argument}
-use Rattle.tm_syntax.specs.declared.tree.Keyword.{Keyword}
-use Rattle.tm_syntax.specs.declared.tree.Step.{Step, Attribute, Apply', Call' as Called, Row_of-Comparison, end_of-Comparison as no_comparison}
-use Rattle.tm_syntax.specs.declared.tree.AssignmentTarget.{AssignmentTarget, Name as To, Unpack' as Items, Attribute as Member}
-use Rattle.tm_syntax.specs.declared.tree.AssignmentTarget.{Row_of-AssignmentTarget}
-use Rattle.tm_syntax.specs.declared.tree.AssignmentTarget.{end_of-AssignmentTarget as no_target, more_of-AssignmentTarget as target}
-use Rattle.tm_syntax.specs.declared.tree.Assignment.{Assignment}
-use Rattle.tm_syntax.specs.declared.tree.Parameter.{Parameter}
-use Rattle.tm_syntax.specs.declared.tree.Imported.{Imported}
-use Rattle.tm_syntax.specs.declared.tree.CaptureUse.{CaptureUse}
-use Rattle.tm_syntax.specs.declared.tree.CaptureUse.TheVariants as uses
-use Rattle.tm_syntax.specs.declared.tree.Stmt.{Stmt, EmitRaw, EmitExpr, EmitLoop, EmitBlock, EmitSuper, If', For', Break, Continue, Block'}
-use Rattle.tm_syntax.specs.declared.tree.Stmt.{Extends, Set, CaptureBlock', With', Do, AutoEscape', Macro', CallBlock', Row_of-Stmt}
-use Rattle.tm_syntax.specs.declared.tree.Stmt.{Include, Import, FromImport}
-use Rattle.tm_syntax.specs.declared.tree.Stmt.{end_of-Stmt as no_statement}
-use Rattle.tm_syntax.specs.declared.tree.Stmt.{more_of-Stmt as statement, Held-Stmt-If-2 as Otherwise, None' as no_else}
-use Rattle.tm_syntax.specs.declared.tree.Stmt.{Some' as otherwise}
+use Rattle.tm_trees.specs.Trees.{Expr, Var, Const, List', Tuple', Map', Call', SelfBlock, Row_of-Expr, no_expr, expr, Row_of-Pair, no_pair}
+use Rattle.tm_trees.specs.Trees.{Row_of-Argument, no_argument, argument, Row_of-Keyword, no_keyword, keyword_and, Row_of-Step, no_step, step}
+use Rattle.tm_trees.specs.Trees.{Row_of-Condition, no_condition, Argument, Keyword, Step, Attribute, Apply', Called, Row_of-Comparison}
+use Rattle.tm_trees.specs.Trees.{no_comparison, AssignmentTarget, To, Items, Member, Row_of-AssignmentTarget, no_target, target, Assignment}
+use Rattle.tm_trees.specs.Trees.{Parameter, Imported, CaptureUse, Stmt, EmitRaw, EmitExpr, EmitLoop, EmitBlock, EmitSuper, If', For', Break}
+use Rattle.tm_trees.specs.Trees.{Continue, Block', Extends, Set, CaptureBlock', With', Do, AutoEscape', Macro', CallBlock', Row_of-Stmt, Include}
+use Rattle.tm_trees.specs.Trees.{Import, FromImport, no_statement, statement, Otherwise, no_else, otherwise}
+use Rattle.tm_trees.specs.Trees.uses
 use Rattle.tm_syntax.specs.Names.{Walk, Scope, assign, close_scope, name_of, open_scope, outer_of, read_as, read_chain, read_first}
 use Rattle.tm_syntax.specs.Names.{dotted, is_assigned, with_assigned, with_name, read_function}
 use Rattle.tm_syntax.specs.Names.{walk, walk_all, walk_argument, walk_arguments, walk_assignments, walk_comparisons, walk_condition}

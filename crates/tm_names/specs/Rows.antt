@@ -1,17 +1,10 @@
 -- Worked rows: trees with the names that they read.
 use Rattle.std.specs.Prelude.{◌≡◌, ℕ, List, [], ◌∷◌, Some, None, true, false, codes, refl}
 use Rattle.tm_syntax.specs.Forms.{chained, plain}
-use Rattle.tm_syntax.specs.declared.tree.Application.TheVariants as applications
-use Rattle.tm_syntax.specs.declared.tree.Expr.{Expr, Var, Call', SelfBlock}
-use Rattle.tm_syntax.specs.declared.tree.Expr.{end_of-Argument as no_argument, more_of-Argument as argument, end_of-Keyword as no_keyword}
-use Rattle.tm_syntax.specs.declared.tree.Expr.{end_of-Step as no_step, more_of-Step as step}
-use Rattle.tm_syntax.specs.declared.tree.Step.{Attribute, Apply'}
-use Rattle.tm_syntax.specs.declared.tree.AssignmentTarget.{Name as To}
-use Rattle.tm_syntax.specs.declared.tree.Stmt.{Stmt, EmitExpr, EmitBlock, EmitSuper, For', Block', Extends, Set, With', Macro', CallBlock'}
-use Rattle.tm_syntax.specs.declared.tree.Stmt.{Include, Import, FromImport, Row_of-Stmt}
-use Rattle.tm_syntax.specs.declared.tree.Stmt.{end_of-Stmt as no_statement, more_of-Stmt as statement, Some' as otherwise}
-use Rattle.tm_syntax.specs.declared.tree.Parameter.{Parameter}
-use Rattle.tm_syntax.specs.declared.tree.Imported.{Imported}
+use Rattle.tm_trees.specs.Trees.applications
+use Rattle.tm_trees.specs.Trees.{Expr, Var, Call', SelfBlock, no_argument, argument, no_keyword, no_step, step, Attribute, Apply', To, Stmt}
+use Rattle.tm_trees.specs.Trees.{EmitExpr, EmitBlock, EmitSuper, For', Block', Extends, Set, With', Macro', CallBlock', Include, Import, FromImport}
+use Rattle.tm_trees.specs.Trees.{Row_of-Stmt, no_statement, statement, otherwise, Parameter, Imported}
 use Rattle.tm_syntax.specs.Names.{free_names, takes_caller, undeclared}
 
 -- ---------------------------------------------------------------- trees

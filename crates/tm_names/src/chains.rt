@@ -4,7 +4,7 @@ ghost use Rattle.std.specs.Prelude.{◌≡◌, [], ◌∷◌, IfOk, OnOk};
 ghost use Rattle.std.specs.String.{string_bytes};
 ghost use Rattle.tm_syntax.specs.Names.{attribute_of, dot, dotted};
 ghost use Rattle.tm_syntax.specs.Names.{is_method, method_of, name_of, with_member};
-ghost use Rattle.tm_syntax.specs.declared.tree.Argument.TheBlock.{hidden-the_row-Step-5 as steps};
+ghost use Rattle.tm_trees.specs.Trees.{steps};
 
 use std::alloc::{AllocError, Global};
 use tm_syntax::{Application, Expr, Name, Step};

@@ -4,13 +4,7 @@ ghost use Rattle.tm_syntax.specs.Names.{name_of, read_chain, read_first, read_fu
 ghost use Rattle.tm_syntax.specs.Names.{walk_argument, walk_arguments, walk_comparisons};
 ghost use Rattle.tm_syntax.specs.Names.{walk_conditions, walk_expr, walk_exprs, walk_filters};
 ghost use Rattle.tm_syntax.specs.Names.{walk_keyword, walk_keywords, walk_pairs, walk_step, walk_steps};
-ghost use Rattle.tm_syntax.specs.declared.tree.Argument.TheBlock.{hidden-the_row-Expr-1 as exprs};
-ghost use Rattle.tm_syntax.specs.declared.tree.Argument.TheBlock.{hidden-the_row-Pair-2 as pairs};
-ghost use Rattle.tm_syntax.specs.declared.tree.Argument.TheBlock.{hidden-the_row-Argument-3 as arguments};
-ghost use Rattle.tm_syntax.specs.declared.tree.Argument.TheBlock.{hidden-the_row-Keyword-4 as keywords};
-ghost use Rattle.tm_syntax.specs.declared.tree.Argument.TheBlock.{hidden-the_row-Step-5 as steps};
-ghost use Rattle.tm_syntax.specs.declared.tree.Argument.TheBlock.{hidden-the_row-Condition-6 as conditions};
-ghost use Rattle.tm_syntax.specs.declared.tree.Argument.TheBlock.{hidden-the_row-Comparison-7 as comparisons};
+ghost use Rattle.tm_trees.specs.Trees.{exprs, pairs, arguments, keywords, steps, conditions, comparisons};
 
 use crate::chains::{dotted, name_of};
 use crate::walker::Walker;

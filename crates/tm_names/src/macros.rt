@@ -4,7 +4,7 @@ ghost use Rattle.std.specs.Prelude.{◌≡◌, [], ◌∷◌, OnOk, IfOk, codes,
 ghost use Rattle.std.specs.String.{string_bytes};
 ghost use Rattle.tm_syntax.specs.Names.{free_names, is_among, parameter_names, takes_caller};
 ghost use Rattle.tm_syntax.specs.Names.{walk_condition, walk_parameters, without};
-ghost use Rattle.tm_syntax.specs.declared.tree.Stmt.TheBlock.{hidden-the_row-Stmt-0 as statements};
+ghost use Rattle.tm_trees.specs.Trees.{statements};
 
 use crate::walker::Walker;
 use std::alloc::{AllocError, Global};

@@ -5,9 +5,9 @@ ghost use Rattle.std.specs.String.{string_bytes};
 ghost use Rattle.tm_syntax.specs.Names.{assign, close_scope, open_scope, undeclared_in};
 ghost use Rattle.tm_syntax.specs.Names.{walk, walk_all, walk_assignments, walk_head};
 ghost use Rattle.tm_syntax.specs.Names.{walk_parameters};
-ghost use Rattle.tm_syntax.specs.declared.tree.Stmt.TheBlock.{hidden-the_row-Stmt-0 as statements};
-ghost use Rattle.tm_syntax.specs.declared.tree.Stmt.TheVariants.{CallBlock as CallTag, For, If};
-ghost use Rattle.tm_syntax.specs.declared.tree.Stmt.TheVariants.{Macro as Declare};
+ghost use Rattle.tm_trees.specs.Trees.{statements};
+ghost use Rattle.tm_trees.specs.Trees.statement_forms.{CallBlock as CallTag, For, If};
+ghost use Rattle.tm_trees.specs.Trees.statement_forms.{Macro as Declare};
 
 use crate::walker::Walker;
 use std::alloc::{AllocError, Global};

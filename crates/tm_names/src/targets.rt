@@ -1,7 +1,7 @@
 //! The names that statements assign.
 ghost use Rattle.std.specs.Prelude.{◌≡◌, [], ◌∷◌, OnOk};
 ghost use Rattle.tm_syntax.specs.Names.{walk_assignments, walk_imports, walk_set, walk_target, walk_targets, walk_use};
-ghost use Rattle.tm_syntax.specs.declared.tree.AssignmentTarget.TheBlock.{hidden-the_row-AssignmentTarget-0 as targets};
+ghost use Rattle.tm_trees.specs.Trees.{targets};
 
 use crate::walker::Walker;
 use std::alloc::AllocError;

@@ -1,6 +1,6 @@
 //! What the machine asks of the environment and the objects of the caller.
 ghost use Rattle.std.specs.Prelude.{◌≡◌, List, Ok, Some, None, MatchOption, IsSomeAnd, false, is_some, slice_get};
-ghost use Rattle.tm_syntax.specs.declared.instruction.Instruction.{Instruction};
+ghost use Rattle.tm_trees.specs.Instructions.{Instruction};
 ghost use Rattle.tm_meaning.specs.World.{HostValue as Meaning, template_at, card_at};
 ghost use Rattle.tm_meaning.specs.declared.stream.StreamId.{StreamId as Stream};
 ghost use Rattle.tm_meaning.specs.Calls.{is_required, method_object};

@@ -21,7 +21,7 @@ use Rattle.tm_operations.specs.Ranges.{AreIn64Bits}
 use Rattle.tm_primitives.specs.Places.{step_to, IsBefore}
 use Rattle.tm_values.specs.Answer.{invalid}
 use Rattle.tm_values.specs.Parts.{parts_of_vals}
-use Rattle.tm_values.specs.Plain.{fits_json, in_all_forms, vals_plain}
+use Rattle.tm_values.specs.Writable.{fits_json, in_all_forms, vals_writable}
 use Rattle.tm_values.specs.declared.parts.Parts.{Parts}
 use Rattle.tm_values.specs.Val.{Val, number, vals_of, vals_size}
 
@@ -91,7 +91,7 @@ in_json (negsuc n) h = let l : n < 2 ^ 63 = h.sfits in grind (arith, nat_tests)
 pub length_is : (x z : ℤ) (n : ℕ) → length (each number (numbers_from x z n)) ≡ n
 length_is x z n = length-map (numbers_from x z n) number ∙ length-map-range_with_len (step_to x z) 0 n
 
-pub plain_numbers : (zs : List ℤ) → AreIn64Bits zs → vals_plain (vals_of (each number zs)) ≡ in_all_forms
+pub plain_numbers : (zs : List ℤ) → AreIn64Bits zs → vals_writable (vals_of (each number zs)) ≡ in_all_forms
 plain_numbers [] h = refl
 plain_numbers (z ∷ zs) h =
     let first : fits_json z ≡ true = in_json z (h 0 z (omega arith)) in
@@ -103,7 +103,7 @@ sizes_of_numbers : (zs : List ℤ) → vals_size (vals_of (each number zs)) ≡ 
 sizes_of_numbers [] = omega arith
 sizes_of_numbers (z ∷ zs) = omega (arith, sizes_of_numbers zs)
 
-pub parts_of_numbers : (x z : ℤ) (n : ℕ) (parts : Parts) → AreIn64Bits (numbers_from x z n) → parts.plain ≡ in_all_forms → parts.size ≡ 2 * n + 1 →
+pub parts_of_numbers : (x z : ℤ) (n : ℕ) (parts : Parts) → AreIn64Bits (numbers_from x z n) → parts.writable ≡ in_all_forms → parts.size ≡ 2 * n + 1 →
     parts ≡ parts_of_vals (vals_of (each number (numbers_from x z n)))
 parts_of_numbers x z n parts h plain size =
     let zs = numbers_from x z n in

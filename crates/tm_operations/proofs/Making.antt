@@ -5,8 +5,8 @@ use Rattle.std.specs.Borrow.{Bor}
 use Rattle.tm_values.specs.Answer.{Answer, IsAnswer, is_memory_alone}
 use Rattle.tm_values.specs.declared.error.ErrorKind.{ErrorKind}
 use Rattle.tm_values.specs.Map.{IsAbove, IsMap}
-use Rattle.tm_values.specs.Plain.{plain_of, vals_plain, pairs_plain, both, as_key, in_no_form, in_print_alone}
-use Rattle.tm_values.specs.declared.plain.Plain.{Plain}
+use Rattle.tm_values.specs.Writable.{writable_of, vals_writable, pairs_writable, both, as_key, in_no_form, in_print_alone}
+use Rattle.tm_values.specs.declared.writable.Writable.{Writable}
 use Rattle.tm_values.specs.Records.{RecordData, namespace_at}
 use Rattle.tm_values.specs.Val.{Val, undefined, none, boolean, number, text, list, map, keywords, exports, function, macro, loop, namespace}
 use Rattle.tm_values.specs.Val.{Vals, no_vals, val, Pairs, no_pairs, pair, vals_of, pairs_of}
@@ -18,8 +18,8 @@ use Rattle.tm_operations.specs.declared.mapped.BegunList.{BegunList}
 use Rattle.tm_operations.specs.declared.mapped.BegunMap.{BegunMap}
 use Rattle.tm_operations.specs.declared.mapped.Kind.{Kind}
 use Rattle.tm_operations.specs.declared.mapped.Kind.TheVariants as kind
-use Rattle.tm_operations.specs.declared.mapped.Next.{Next}
-use Rattle.tm_operations.specs.declared.mapped.Next.TheVariants as next
+use Rattle.tm_operations.specs.declared.mapped.Ahead.{Ahead}
+use Rattle.tm_operations.specs.declared.mapped.Ahead.TheVariants as next
 use Rattle.tm_operations.specs.Begun.{before_items, before_pairs, made_of, list_after, map_after, resumed, outermost, part_next, comes_to}
 use Rattle.tm_operations.specs.Begun.{Ascends, AllAscend, weight, items_weight, pairs_weight, namespace_weight, left_in, left_in_all, left_of_next, left_to_make}
 use Rattle.tm_operations.specs.Begun.{items_left, pairs_left}
@@ -113,7 +113,7 @@ value_first k done key (Ok x) (Err chain) = refl
 value_first k done key (Ok x) (Ok ps) = ap (λ qs. Ok (made_of k qs)) (pairs_before_last done key x ps)
 
 module _ (r : RecordData) (bs new : List Begun) (levels : ℕ) where
-  pub map_next : (k : Kind) (done rest more : List (Val × Val)) (first : Val × Val) (n : Next) (b : BegunMap) → b.kind ≡ k →
+  pub map_next : (k : Kind) (done rest more : List (Val × Val)) (first : Val × Val) (n : Ahead) (b : BegunMap) → b.kind ≡ k →
       b.levels ≡ levels → b.key ≡ first.0 → part_next r n ≡ mapped_within r levels first.1 → b.done.items ≡ done → b.rest.now ≡ more →
       new ≡ bs ++ begun.Map b ∷ [] → rest ≡ first ∷ more →
       comes_to r new n ≡ outermost r bs (map_after r k levels done (pairs_of rest))
@@ -123,7 +123,7 @@ module _ (r : RecordData) (bs new : List Begun) (levels : ℕ) where
       ∙ ap (outermost r bs) (rw (of, at, key, is, before, following, begins) (value_first k done first.0 (mapped_within r levels first.1)
       (mapped_pairs (namespace_mapped r levels) (pairs_of more))))
 
-  pub map_less : (rest more : List (Val × Val)) (first : Val × Val) (n : Next) (b : BegunMap) → b.levels ≡ levels →
+  pub map_less : (rest more : List (Val × Val)) (first : Val × Val) (n : Ahead) (b : BegunMap) → b.levels ≡ levels →
       left_of_next r n ≡ weight (namespace_weight r levels) first.1 → b.rest.now ≡ more → new ≡ bs ++ begun.Map b ∷ [] →
       rest ≡ first ∷ more → left_to_make r new n ≤ left_in_all r bs + pairs_left r levels (pairs_of rest)
   map_less rest more first n b at is following grown begins =
@@ -154,7 +154,7 @@ both_true false b h = absurd (cc h)
 
 module _ (inside : NamespaceValues) where
   mutual
-    pub stays : (v : Val) → (plain_of v).in_json ≡ true → mapped inside v ≡ Ok v
+    pub stays : (v : Val) → (writable_of v).in_json ≡ true → mapped inside v ≡ Ok v
     stays (undefined s) h = refl
     stays none h = refl
     stays (boolean b) h = refl
@@ -169,19 +169,19 @@ module _ (inside : NamespaceValues) where
     stays (loop i n) h = refl
     stays (namespace i n) h = absurd (cc h)
 
-    items_stay : (vs : Vals) → (vals_plain vs).in_json ≡ true → mapped_items inside vs ≡ Ok vs
+    items_stay : (vs : Vals) → (vals_writable vs).in_json ≡ true → mapped_items inside vs ≡ Ok vs
     items_stay no_vals h = refl
     items_stay (val v vs) h =
-        let parts = both_true (plain_of v).in_json (vals_plain vs).in_json h in
+        let parts = both_true (writable_of v).in_json (vals_writable vs).in_json h in
         ap (λ a. with_ok a (λ x. map_ok (val x) (mapped_items inside vs))) (stays v parts.0)
         ∙ ap (map_ok (val v)) (items_stay vs parts.1)
 
-    pairs_stay : (ps : Pairs) → (pairs_plain ps).in_json ≡ true → mapped_pairs inside ps ≡ Ok ps
+    pairs_stay : (ps : Pairs) → (pairs_writable ps).in_json ≡ true → mapped_pairs inside ps ≡ Ok ps
     pairs_stay no_pairs h = refl
     pairs_stay (pair k v ps) h =
-        let parts = both_true (both (as_key k) (both (plain_of k) (plain_of v))).in_json (pairs_plain ps).in_json h in
-        let key = both_true (as_key k).in_json (both (plain_of k) (plain_of v)).in_json parts.0 in
-        let values = both_true (plain_of k).in_json (plain_of v).in_json key.1 in
+        let parts = both_true (both (as_key k) (both (writable_of k) (writable_of v))).in_json (pairs_writable ps).in_json h in
+        let key = both_true (as_key k).in_json (both (writable_of k) (writable_of v)).in_json parts.0 in
+        let values = both_true (writable_of k).in_json (writable_of v).in_json key.1 in
         ap (λ a. with_ok a (λ x. map_ok (pair k x) (mapped_pairs inside ps))) (stays v values.1)
         ∙ ap (map_ok (pair k v)) (pairs_stay ps parts.1)
 
@@ -236,7 +236,7 @@ fault_answer : (x stated : Answer Val) (e : List ErrorKind) → IsErrAnd x (λ y
 fault_answer (Ok v) stated e same h = absurd same
 fault_answer (Err y) stated e same h = subst (λ (z : List ErrorKind). is_memory_alone z ≡ false → stated ≡ Err z) (sym same) h
 
-module _ (r : RecordData) (bs new : List Begun) (now after : Next) (whole : Answer Val) (here : comes_to r bs now ≡ whole) where
+module _ (r : RecordData) (bs new : List Begun) (now after : Ahead) (whole : Answer Val) (here : comes_to r bs now ≡ whole) where
   pub part_fails : (v : Bor Val) (levels : ℕ) (x : Answer Val) (e : List ErrorKind) → now ≡ next.Part v levels → IsErrAnd x (λ y. y ≡ e) →
       (is_memory_alone e ≡ false → mapped_within r levels v.now ≡ Err e) → IsAnswer x whole
   part_fails v levels x e is same h =
@@ -248,7 +248,7 @@ module _ (r : RecordData) (bs new : List Begun) (now after : Next) (whole : Answ
 
   pub part_shrinks : (v : Bor Val) (levels : ℕ) → now ≡ next.Part v levels →
       left_to_make r new after < left_in_all r bs + weight (namespace_weight r levels) v.now → left_to_make r new after < left_to_make r bs now
-  part_shrinks v levels is h = subst (λ (n : Next). left_to_make r new after < left_to_make r bs n) (sym is) h
+  part_shrinks v levels is h = subst (λ (n : Ahead). left_to_make r new after < left_to_make r bs n) (sym is) h
 
   pub made_last : (v : Val) → now ≡ next.Made v → bs ≡ [] → whole ≡ Ok v
   made_last v is over = sym here ∙ ap (comes_to r bs) is ∙ ap (λ (cs : List Begun). outermost r cs (Ok v)) over

@@ -14,8 +14,8 @@ use Rattle.tm_operations.specs.declared.mapped.BegunList.{BegunList}
 use Rattle.tm_operations.specs.declared.mapped.BegunMap.{BegunMap}
 use Rattle.tm_operations.specs.declared.mapped.Kind.{Kind}
 use Rattle.tm_operations.specs.declared.mapped.Kind.TheVariants as kind
-use Rattle.tm_operations.specs.declared.mapped.Next.{Next}
-use Rattle.tm_operations.specs.declared.mapped.Next.TheVariants as next
+use Rattle.tm_operations.specs.declared.mapped.Ahead.{Ahead}
+use Rattle.tm_operations.specs.declared.mapped.Ahead.TheVariants as next
 
 -- ---------------------------------------------------------------- what parts become
 abbrev pub before_items : List Val → Vals → Vals
@@ -52,11 +52,11 @@ outermost r [] part = part
 outermost r (b ∷ bs) part = resumed r b (outermost r bs part)
 
 -- what comes next: a part in which namespaces may lie so deep, or one that is made
-abbrev pub part_next : RecordData → Next → Answer Val
+abbrev pub part_next : RecordData → Ahead → Answer Val
 part_next r (next.Part v levels) = mapped_within r levels v.now
 part_next r (next.Made v) = Ok v
 
-abbrev pub comes_to : RecordData → List Begun → Next → Answer Val
+abbrev pub comes_to : RecordData → List Begun → Ahead → Answer Val
 comes_to r bs n = outermost r bs (part_next r n)
 
 -- the keys of what was begun ascend
@@ -114,9 +114,9 @@ abbrev pub left_in_all : RecordData → List Begun → ℕ
 left_in_all r [] = 0
 left_in_all r (b ∷ bs) = left_in r b + left_in_all r bs
 
-abbrev pub left_of_next : RecordData → Next → ℕ
+abbrev pub left_of_next : RecordData → Ahead → ℕ
 left_of_next r (next.Part v levels) = weight (namespace_weight r levels) v.now
 left_of_next r (next.Made v) = 1
 
-abbrev pub left_to_make : RecordData → List Begun → Next → ℕ
+abbrev pub left_to_make : RecordData → List Begun → Ahead → ℕ
 left_to_make r bs n = left_in_all r bs + left_of_next r n

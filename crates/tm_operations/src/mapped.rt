@@ -61,7 +61,7 @@ pub enum Begun<'a> {
 
 /// What comes next.
 #[derive(Drop)]
-pub enum Next<'a> {
+pub enum Ahead<'a> {
     /// This part, in which namespaces may lie so deep.
     Part(&'a Value, usize),
     /// What the part that was begun last goes on with.
@@ -74,11 +74,11 @@ pub fn with_maps<R: Records>(alloc: Global, value: &Value, records: &R) -> Resul
     ensures { IsAnswer result (with_maps (R.records records.now) value.now) }
 {
     let mut begun = Vec::new(alloc);
-    let mut next = Next::Part(value, records.namespace_count());
+    let mut next = Ahead::Part(value, records.namespace_count());
     loop {
         next = match next {
-            Next::Part(part, levels) => enter(alloc, part, levels, records, &mut begun)?,
-            Next::Made(made) => match begun.pop() {
+            Ahead::Part(part, levels) => enter(alloc, part, levels, records, &mut begun)?,
+            Ahead::Made(made) => match begun.pop() {
                 Some(outer) => resume(alloc, outer, made, &mut begun)?,
                 None => return Ok(made),
             },
@@ -93,7 +93,7 @@ fn enter<'a, R: Records>(
     levels: usize,
     records: &'a R,
     begun: &mut Vec<Begun<'a>>,
-) -> Result<Next<'a>, Error>
+) -> Result<Ahead<'a>, Error>
     ensures ok { IfOk result (λ n. comes_to (R.records records.now) begun.new.items n
         ≡ outermost (R.records records.now) begun.old.items
         (mapped_within (R.records records.now) levels part.now)) }
@@ -104,8 +104,8 @@ fn enter<'a, R: Records>(
         < left_in_all (R.records records.now) begun.old.items
         + weight (namespace_weight (R.records records.now) levels) part.now) }
 {
-    if part.plain().in_json {
-        return Ok(Next::Made(part.share()?));
+    if part.writable().in_json {
+        return Ok(Ahead::Made(part.share()?));
     }
     match &part.node {
         Node::List(items, _) => next_item(alloc, levels, items.as_slice(), Vec::new(alloc), begun),
@@ -120,7 +120,7 @@ fn enter<'a, R: Records>(
         Node::Namespace(state, index) => {
             enter_namespace(alloc, *state, *index, levels, records, begun)
         }
-        _ => Ok(Next::Made(part.share()?)),
+        _ => Ok(Ahead::Made(part.share()?)),
     }
 }
 
@@ -132,7 +132,7 @@ fn enter_namespace<'a, R: Records>(
     levels: usize,
     records: &'a R,
     begun: &mut Vec<Begun<'a>>,
-) -> Result<Next<'a>, Error>
+) -> Result<Ahead<'a>, Error>
     ensures ok { IfOk result (λ n. comes_to (R.records records.now) begun.new.items n
         ≡ outermost (R.records records.now) begun.old.items
         (namespace_mapped (R.records records.now) levels state index)) }
@@ -159,7 +159,7 @@ fn all_pairs<'a>(
     levels: usize,
     pairs: &'a [(Value, Value)],
     begun: &mut Vec<Begun<'a>>,
-) -> Result<Next<'a>, Error>
+) -> Result<Ahead<'a>, Error>
     requires { IsMap pairs.now }
     ensures ok { IfOk result (λ n. (r : RecordData) → comes_to r begun.new.items n
         ≡ outermost r begun.old.items (map_after r kind levels [] (pairs_of pairs.now))) }
@@ -177,7 +177,7 @@ fn resume<'a>(
     outer: Begun<'a>,
     made: Value,
     begun: &mut Vec<Begun<'a>>,
-) -> Result<Next<'a>, Error>
+) -> Result<Ahead<'a>, Error>
     requires { Ascends outer }
     ensures ok { IfOk result (λ n. (r : RecordData) → comes_to r begun.new.items n
         ≡ outermost r begun.old.items (resumed r outer.entry (Ok made))) }
@@ -217,7 +217,7 @@ fn next_item<'a>(
     rest: &'a [Value],
     done: Vec<Value>,
     begun: &mut Vec<Begun<'a>>,
-) -> Result<Next<'a>, Error>
+) -> Result<Ahead<'a>, Error>
     ensures ok { IfOk result (λ n. (r : RecordData) → comes_to r begun.new.items n
         ≡ outermost r begun.old.items (list_after r levels done.items (vals_of rest.now))) }
     ensures err { IfErr result (λ e. e ≡ ErrorKind.OutOfMemory ∷ []) }
@@ -226,10 +226,10 @@ fn next_item<'a>(
         ≤ left_in_all r begun.old.items + items_left r levels (vals_of rest.now)) }
 {
     let Some((item, rest)) = rest.split_first() else {
-        return Ok(Next::Made(Value::list(alloc, done)?));
+        return Ok(Ahead::Made(Value::list(alloc, done)?));
     };
     begun.push(Begun::List(BegunList { levels, rest, done }))?;
-    Ok(Next::Part(item, levels))
+    Ok(Ahead::Part(item, levels))
 }
 
 // Puts a map aside for its next value, or makes it where there is none.
@@ -240,7 +240,7 @@ fn next_pair<'a>(
     rest: &'a [(Value, Value)],
     done: Vec<(Value, Value)>,
     begun: &mut Vec<Begun<'a>>,
-) -> Result<Next<'a>, Error>
+) -> Result<Ahead<'a>, Error>
     requires { IsMap (done.items ++ rest.now) }
     ensures ok { IfOk result (λ n. (r : RecordData) → comes_to r begun.new.items n
         ≡ outermost r begun.old.items (map_after r kind levels done.items (pairs_of rest.now))) }
@@ -250,7 +250,7 @@ fn next_pair<'a>(
         ≤ left_in_all r begun.old.items + pairs_left r levels (pairs_of rest.now)) }
 {
     let Some((pair, rest)) = rest.split_first() else {
-        return Ok(Next::Made(made_of(alloc, kind, ValueMap::from_ascending(done))?));
+        return Ok(Ahead::Made(made_of(alloc, kind, ValueMap::from_ascending(done))?));
     };
     let key = pair.0.share()?;
     let next = value_of(pair, levels);
@@ -265,12 +265,12 @@ fn next_pair<'a>(
 }
 
 // The value of a pair comes next.
-fn value_of<'a>(pair: &'a (Value, Value), levels: usize) -> Next<'a>
+fn value_of<'a>(pair: &'a (Value, Value), levels: usize) -> Ahead<'a>
     ensures part { (r : RecordData) → part_next r result ≡ mapped_within r levels pair.now.1 }
     ensures left { (r : RecordData) →
         left_of_next r result ≡ weight (namespace_weight r levels) pair.now.1 }
 {
-    Next::Part(&pair.1, levels)
+    Ahead::Part(&pair.1, levels)
 }
 
 // What these pairs become. Fails by OutOfMemory alone.

@@ -13,8 +13,8 @@ use std::rc::RcStr;
 use tm_definitions::LoopAttribute;
 use tm_primitives::{characters, places};
 use tm_values::{
-    Error, ErrorKind, LoopPosition, Macro, Node, Records, UndefinedBehavior, UndefinedUse, Value,
-    check_defined, find_loop, find_namespace,
+    Error, ErrorKind, LoopPosition, MacroValue, Node, Records, UndefinedBehavior, UndefinedUse,
+    Value, check_defined, find_loop, find_namespace,
 };
 
 /// The attribute `value.name`: of a map, keyword map, module or namespace the value at the text, of
@@ -136,7 +136,7 @@ fn undefined_member(value: &Value, behavior: UndefinedBehavior) -> Result<Value,
     Ok(Value::undefined())
 }
 
-fn macro_member(alloc: Global, declared: &Macro, name: &str) -> Result<Value, Error>
+fn macro_member(alloc: Global, declared: &MacroValue, name: &str) -> Result<Value, Error>
     ensures { IsAnswer result (Ok (macro_member declared.now name.now)) }
 {
     if name == "name" {

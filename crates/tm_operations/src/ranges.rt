@@ -9,7 +9,7 @@ ghost use Rattle.tm_values.specs.Answer.{IsAnswer};
 
 use std::alloc::Global;
 use std::rc::Rc;
-use tm_values::{Error, ErrorKind, Node, Parts, Plain, Value};
+use tm_values::{Error, ErrorKind, Node, Parts, Value, Writable};
 
 // The most numbers that a range has.
 const MOST: u64 = 100_000;
@@ -121,13 +121,13 @@ fn list_from(alloc: Global, start: i64, step: i64, count: u64) -> Result<Value, 
         items.push_reserved(Value::number(number_at(start, step, place)));
     }
     // JSON has every number of 64 bits, so no item has to be asked.
-    let plain = Plain {
+    let writable = Writable {
         in_print: true,
         in_json: true,
     };
     let size = 2 * count as u32 + 1;
     Ok(Value {
-        node: Node::List(Rc::new(alloc, items)?, Parts { plain, size }),
+        node: Node::List(Rc::new(alloc, items)?, Parts { writable, size }),
     })
 }
 

@@ -5,28 +5,22 @@ use Rattle.std.proofs.Math.Dec.{eqb-suc-zero}
 use Rattle.std.specs.Prelude.{get_or, Option, Some, None, is_some, if◌then◌else◌, ◌&&◌, ◌==◌, nat_eq, codes}
 use Rattle.std.specs.Cmp.Lexicographic.{pointwise}
 use denote.Hole.Carrier.{hidden}
-use Rattle.tm_syntax.specs.declared.tree.Argument.TheBlock.{shape-the_row-Argument-3, shape-the_row-Keyword-4, shape-the_row-Step-5}
-use Rattle.tm_syntax.specs.declared.tree.Argument.TheBlock.{hidden-the_row-Expr-0, hidden-the_row-Argument-3 as row_of_arguments}
-use Rattle.tm_syntax.specs.declared.tree.Argument.TheBlock.{hidden-the_row-Keyword-4 as row_of_keywords}
-use Rattle.tm_syntax.specs.declared.tree.Argument.TheBlock.{hidden-the_row-Step-5 as row_of_steps}
-use Rattle.tm_syntax.specs.declared.tree.Argument.{Argument}
-use Rattle.tm_syntax.specs.declared.tree.Argument.TheVariants as arguments
-use Rattle.tm_syntax.specs.declared.tree.Keyword.{Keyword}
-use Rattle.tm_syntax.specs.declared.tree.Step.{Step}
-use Rattle.tm_syntax.specs.declared.tree.Expr.{Expr}
-use Rattle.tm_syntax.specs.declared.tree.Expr.TheVariants as exprs
-use Rattle.tm_syntax.specs.declared.tree.Stmt.TheVariants as stmts
+use Rattle.tm_trees.specs.Trees.{arguments_shape, keywords_shape, steps_shape, hidden_expr, arguments as row_of_arguments}
+use Rattle.tm_trees.specs.Trees.{keywords as row_of_keywords, steps as row_of_steps, Argument, Keyword, Step, Expr}
+use Rattle.tm_trees.specs.Trees.argument_forms as arguments
+use Rattle.tm_trees.specs.Trees.expr_forms as exprs
+use Rattle.tm_trees.specs.Trees.statement_forms as stmts
 use Rattle.tm_syntax.specs.Forms.{plain, spread}
 use Rattle.tm_parser.specs.Statements.{is_call, is_plain, calls, last_calls, only_one, are_none, are_unnamed, loop_argument, call_or_emit}
 use Rattle.tm_parser.specs.Statements.{emit_value}
 
 pub last-nil : (b : Bool) → last_calls b (row_of_steps []) ≡ b
-unfolding hidden row_of_steps shape-the_row-Step-5
+unfolding hidden row_of_steps steps_shape
 last-nil b = refl
 
 pub last-cons : (b : Bool) (s : Step) (ss : List Step) → last_calls b (row_of_steps (s ∷ ss)) ≡ last_calls (calls s)
     (row_of_steps ss)
-unfolding hidden row_of_steps shape-the_row-Step-5
+unfolding hidden row_of_steps steps_shape
 last-cons b s ss = refl
 
 -- one step more
@@ -41,7 +35,7 @@ pub no_more : (b : Bool) (ss : List Step) (r : Bool) → ss ≡ [] → last_call
 no_more b ss r e h = sym (last-nil b) ∙ ap (λ xs. last_calls b (row_of_steps xs)) (sym e) ∙ h
 
 pub is_call_of_chain : (x : Expr) (ss : List Step) → is_call (exprs.Chain x ss) ≡ last_calls false (row_of_steps ss)
-unfolding hidden hidden-the_row-Expr-0
+unfolding hidden hidden_expr
 is_call_of_chain x ss = refl
 
 -- what a call is called with, where its name is `loop` or is another one
@@ -49,7 +43,7 @@ abbrev argument_of : Bool → List Argument → List Keyword → Option Expr
 argument_of same given named = if same && are_unnamed (row_of_keywords named) then only_one (row_of_arguments given) else None
 
 named_argument : (same : Bool) (given : List Argument) (k : Keyword) (ks : List Keyword) → argument_of same given (k ∷ ks) ≡ None
-unfolding hidden row_of_keywords shape-the_row-Keyword-4
+unfolding hidden row_of_keywords keywords_shape
 named_argument true given k ks = refl
 named_argument false given k ks = refl
 
@@ -63,7 +57,7 @@ abbrev one_in : Bool → List Argument → Option Expr
 one_in same given = if same then only_one (row_of_arguments given) else None
 
 unnamed_argument : (same : Bool) (given : List Argument) → argument_of same given [] ≡ one_in same given
-unfolding hidden row_of_keywords shape-the_row-Keyword-4
+unfolding hidden row_of_keywords keywords_shape
 unnamed_argument true given = refl
 unnamed_argument false given = refl
 
@@ -90,12 +84,12 @@ pub ruleset calls_of_loop = (other_name, with_names, one_unnamed)
 
 -- whether anything is passed to a call
 pub none-is : (given : List Argument) → are_none (row_of_arguments given) ≡ (length given == 0)
-unfolding hidden row_of_arguments shape-the_row-Argument-3
+unfolding hidden row_of_arguments arguments_shape
 none-is [] = refl
 none-is (a ∷ given) = sym (eqb-suc-zero (length given))
 
 pub unnamed-is : (named : List Keyword) → are_unnamed (row_of_keywords named) ≡ (length named == 0)
-unfolding hidden row_of_keywords shape-the_row-Keyword-4
+unfolding hidden row_of_keywords keywords_shape
 unnamed-is [] = refl
 unnamed-is (k ∷ named) = sym (eqb-suc-zero (length named))
 
@@ -103,19 +97,19 @@ pub ruleset nothing_passed = (none-is, unnamed-is)
 
 -- which arguments are one value
 none_of_none : is_some (only_one (row_of_arguments [])) ≡ false
-unfolding hidden row_of_arguments shape-the_row-Argument-3
+unfolding hidden row_of_arguments arguments_shape
 none_of_none = refl
 
 one_of_spread : (x : Expr) (more : List Argument) → only_one (row_of_arguments (spread x ∷ more)) ≡ None
-unfolding hidden row_of_arguments shape-the_row-Argument-3
+unfolding hidden row_of_arguments arguments_shape
 one_of_spread x more = refl
 
 one_of_plain : (x : Expr) → only_one (row_of_arguments (plain x ∷ [])) ≡ Some x
-unfolding hidden row_of_arguments shape-the_row-Argument-3
+unfolding hidden row_of_arguments arguments_shape
 one_of_plain x = refl
 
 one_of_more : (x : Expr) (y : Argument) (more : List Argument) → only_one (row_of_arguments (plain x ∷ y ∷ more)) ≡ None
-unfolding hidden row_of_arguments shape-the_row-Argument-3
+unfolding hidden row_of_arguments arguments_shape
 one_of_more x y more = refl
 
 pub not_one : (given : List Argument) → ¬ (length given ≡ 1) → false ≡ is_some (only_one (row_of_arguments given))
@@ -172,17 +166,17 @@ module _ (x : Expr) (f : List ℕ) (given : List Argument) (named : List Keyword
       sym (ap (λ o. call_or_emit o x) found)
 
 pub plain-is : (x : Expr) → is_plain (arguments.Plain x) ≡ true
-unfolding hidden hidden-the_row-Expr-0
+unfolding hidden hidden_expr
 plain-is x = refl
 
 pub spread-is : (x : Expr) → is_plain (arguments.Spread x) ≡ false
-unfolding hidden hidden-the_row-Expr-0
+unfolding hidden hidden_expr
 spread-is x = refl
 
 pub plain-form : (x : Expr) → arguments.Plain x ≡ plain x
-unfolding hidden hidden-the_row-Expr-0
+unfolding hidden hidden_expr
 plain-form x = refl
 
 pub spread-form : (x : Expr) → arguments.Spread x ≡ spread x
-unfolding hidden hidden-the_row-Expr-0
+unfolding hidden hidden_expr
 spread-form x = refl

@@ -3,9 +3,7 @@ use Rattle.std.proofs.Common.{◌≡◌, ◌<◌, List, length, None}
 use Rattle.tm_values.specs.declared.error.ErrorKind.{ErrorKind}
 use Rattle.tm_syntax.specs.declared.token.Token.{Token}
 use Rattle.tm_syntax.specs.declared.token.Sign.TheVariants as sign
-use Rattle.tm_syntax.specs.declared.tree.Expr.{Expr}
-use Rattle.tm_syntax.specs.declared.tree.Step.{Step}
-use Rattle.tm_syntax.specs.declared.tree.AssignmentTarget.{AssignmentTarget}
+use Rattle.tm_trees.specs.Trees.{Expr, Step, AssignmentTarget}
 use Rattle.tm_grammar.specs.Meanings.{Read, got}
 use Rattle.tm_grammar.specs.Combinators.{first, one_more}
 use Rattle.tm_values.specs.Answer.{Refused}

@@ -4,13 +4,8 @@ use Rattle.std.proofs.Common.{refl, sym, ap, ◌∙◌, arith, append_assoc, dro
 use Rattle.std.proofs.lemmas.List.{append-nil, drop_all, map-append}
 use Rattle.std.specs.Prelude.{get_or}
 use denote.Hole.Carrier.{hidden}
-use Rattle.tm_syntax.specs.declared.tree.Expr.{Expr}
-use Rattle.tm_syntax.specs.declared.tree.Stmt.{Stmt}
-use Rattle.tm_syntax.specs.declared.tree.Stmt.TheBlock.{shape-the_row-Stmt-0, hidden-the_row-Stmt-0 as row}
-use Rattle.tm_syntax.specs.declared.tree.Stmt.TheVariants as stmts
-use Rattle.tm_syntax.specs.declared.tree.ForLoop.{ForLoop}
-use Rattle.tm_syntax.specs.declared.tree.Macro.{Macro}
-use Rattle.tm_syntax.specs.declared.tree.CallBlock.{CallBlock}
+use Rattle.tm_trees.specs.Trees.{Expr, Stmt, statements_shape, statements as row, ForLoop, Macro, CallBlock}
+use Rattle.tm_trees.specs.Trees.statement_forms as stmts
 use Rattle.tm_syntax.specs.Blocks.{blocks_of, blocks_in}
 use Rattle.tm_syntax.specs.Named.{Named}
 use Rattle.tm_parser.specs.Template.{names, names_of, block_names}
@@ -21,19 +16,19 @@ names_append before after = map-append _ before after
 
 -- a list of the program is a row of children
 pub names-nil : block_names [] ≡ []
-unfolding hidden row shape-the_row-Stmt-0
+unfolding hidden row statements_shape
 names-nil = refl
 
 pub names-cons : (s : Stmt) (ss : List Stmt) → block_names (s ∷ ss) ≡ names_of s ++ block_names ss
-unfolding hidden row shape-the_row-Stmt-0
+unfolding hidden row statements_shape
 names-cons s ss = names_append (blocks_of s) (blocks_in (row ss))
 
 pub names_of_if : (x : Expr) (body : List Stmt) → names_of (stmts.If x body None) ≡ block_names body
-unfolding hidden row shape-the_row-Stmt-0
+unfolding hidden row statements_shape
 names_of_if x body = ap names (append-nil _)
 
 pub names_of_if_else : (x : Expr) (body other : List Stmt) → names_of (stmts.If x body (Some other)) ≡ block_names body ++ block_names other
-unfolding hidden row shape-the_row-Stmt-0
+unfolding hidden row statements_shape
 names_of_if_else x body other = names_append (blocks_in (row body)) (blocks_in (row other))
 
 pub names_after : Option (List Stmt) → List (List ℕ)
@@ -42,7 +37,7 @@ names_after (Some other) = block_names other
 
 for_either : (l : ForLoop) (other : Option (List Stmt)) → names_of (stmts.For (record l { other = other })) ≡ block_names l.body ++
     names_after other
-unfolding hidden row shape-the_row-Stmt-0 names_after
+unfolding hidden row statements_shape names_after
 for_either l None = names_append (blocks_in (row l.body)) []
 for_either l (Some other) = names_append (blocks_in (row l.body)) (blocks_in (row other))
 
@@ -51,15 +46,15 @@ names_of_for l = for_either l l.other
 
 pub names_of_block : (name : List ℕ) (required : Bool) (body : List Stmt) →
     names_of (stmts.Block name required body) ≡ block_names body ++ name ∷ []
-unfolding hidden row shape-the_row-Stmt-0
+unfolding hidden row statements_shape
 names_of_block name required body = names_append (blocks_in (row body)) _
 
 pub names_of_macro : (m : Macro) → names_of (stmts.Macro m) ≡ block_names m.body
-unfolding hidden row shape-the_row-Stmt-0
+unfolding hidden row statements_shape
 names_of_macro m = refl
 
 pub names_of_call : (c : CallBlock) → names_of (stmts.CallBlock c) ≡ block_names c.body
-unfolding hidden row shape-the_row-Stmt-0
+unfolding hidden row statements_shape
 names_of_call c = refl
 
 pub ruleset forms = (names_of_if, names_of_if_else, names_of_for, names_of_block, names_of_macro, names_of_call)

@@ -3,9 +3,8 @@ use Rattle.std.specs.Prelude.{option_map}
 use Rattle.std.proofs.Common.{◌≡◌, ℕ, zero, suc, ◌-◌, Bool, List, [], ◌∷◌, ◌++◌, None, Some, refl, sym, ap, ◌∙◌}
 use Rattle.tm_syntax.specs.declared.token.Tag.{Tag}
 use Rattle.tm_syntax.specs.declared.token.Token.{Token}
-use Rattle.tm_syntax.specs.declared.tree.Expr.{Expr}
-use Rattle.tm_syntax.specs.declared.tree.Step.{Step}
-use Rattle.tm_syntax.specs.declared.tree.AssignmentTarget.TheVariants as target_forms
+use Rattle.tm_trees.specs.Trees.{Expr, Step}
+use Rattle.tm_trees.specs.Trees.target_forms
 use Rattle.tm_expressions.specs.Grammar.{inside, filter_step, chained, target}
 use Rattle.tm_expressions.specs.Grammar.{target_of, lone_target, last_target, attribute_name, split_last}
 use Rattle.tm_expressions.proofs.Nesting.{suc-sub-one}

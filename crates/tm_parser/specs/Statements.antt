@@ -8,25 +8,16 @@ use Rattle.tm_syntax.specs.declared.token.Tag.TheVariants as tags
 use Rattle.tm_syntax.specs.declared.token.Sign.TheVariants as sign
 use Rattle.tm_syntax.specs.declared.token.Token.{Token}
 use Rattle.tm_syntax.specs.declared.token.Token.TheVariants as tokens
-use Rattle.tm_syntax.specs.declared.tree.Expr.{Expr, Call', SelfBlock, Row_of-Argument, end_of-Argument as no_argument}
-use Rattle.tm_syntax.specs.declared.tree.Expr.{more_of-Argument as argument, Row_of-Keyword, end_of-Keyword as no_keyword}
-use Rattle.tm_syntax.specs.declared.tree.Expr.{more_of-Keyword as keyword_and, Row_of-Step}
-use Rattle.tm_syntax.specs.declared.tree.Expr.{end_of-Step as no_step, more_of-Step as more_steps}
-use Rattle.tm_syntax.specs.declared.tree.Application.TheVariants as applications
-use Rattle.tm_syntax.specs.declared.tree.Step.{Step, Apply', Call' as Called}
-use Rattle.tm_syntax.specs.declared.tree.Step.TheVariants as steps
-use Rattle.tm_syntax.specs.declared.tree.Argument.{Argument}
+use Rattle.tm_trees.specs.Trees.{Expr, Call', SelfBlock, Row_of-Argument, no_argument, argument, Row_of-Keyword, no_keyword, keyword_and}
+use Rattle.tm_trees.specs.Trees.{Row_of-Step, no_step, step as more_steps, Step, Apply', Called, Argument, AssignmentTarget, Assignment, Parameter}
+use Rattle.tm_trees.specs.Trees.{Imported, CaptureUse, Stmt}
+use Rattle.tm_trees.specs.Trees.applications
+use Rattle.tm_trees.specs.Trees.step_forms as steps
 use Rattle.tm_syntax.specs.Forms.{plain, spread, chained as chained_steps}
 use Rattle.tm_syntax.specs.Names.{parameter_names}
-use Rattle.tm_syntax.specs.declared.tree.Expr.TheVariants as exprs
-use Rattle.tm_syntax.specs.declared.tree.AssignmentTarget.{AssignmentTarget}
-use Rattle.tm_syntax.specs.declared.tree.Assignment.{Assignment}
-use Rattle.tm_syntax.specs.declared.tree.Parameter.{Parameter}
-use Rattle.tm_syntax.specs.declared.tree.Imported.{Imported}
-use Rattle.tm_syntax.specs.declared.tree.CaptureUse.{CaptureUse}
-use Rattle.tm_syntax.specs.declared.tree.CaptureUse.TheVariants as uses
-use Rattle.tm_syntax.specs.declared.tree.Stmt.{Stmt}
-use Rattle.tm_syntax.specs.declared.tree.Stmt.TheVariants as stmts
+use Rattle.tm_trees.specs.Trees.expr_forms as exprs
+use Rattle.tm_trees.specs.Trees.uses
+use Rattle.tm_trees.specs.Trees.statement_forms as stmts
 use Rattle.tm_parser.specs.declared.tags.Start.{Start}
 use Rattle.tm_parser.specs.declared.tags.Start.TheVariants as starts
 use Rattle.tm_parser.specs.declared.loop_heads.LoopHead.{LoopHead}

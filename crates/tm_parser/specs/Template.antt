@@ -3,10 +3,8 @@ use Rattle.std.specs.Prelude.{ℕ, false, List, [], map, IsTrue}
 use Rattle.tm_syntax.specs.declared.token.Token.{Token}
 use Rattle.tm_syntax.specs.Blocks.{blocks_of, blocks_in}
 use Rattle.tm_syntax.specs.Named.{Named}
-use Rattle.tm_syntax.specs.declared.tree.Stmt.{Stmt}
-use Rattle.tm_syntax.specs.declared.tree.Stmt.TheBlock.{hidden-the_row-Stmt-0 as row}
-use Rattle.tm_syntax.specs.declared.tree.Tree.{Tree}
-use Rattle.tm_syntax.specs.declared.tree.Tree.TheVariants as trees
+use Rattle.tm_trees.specs.Trees.{Stmt, statements as row, Tree}
+use Rattle.tm_trees.specs.Trees.tree_forms as trees
 use Rattle.tm_parser.specs.Distinct.{are_distinct}
 use Rattle.tm_expressions.specs.Grammar.{expr, inside}
 use Rattle.tm_parser.specs.Statements.{body, inner}

@@ -3,11 +3,9 @@ ghost use Rattle.std.specs.Prelude.{◌≡◌, ◌++◌, [], ◌∷◌, false, i
 ghost use Rattle.tm_parser.specs.Statements as spec;
 ghost use Rattle.tm_parser.specs.Statements.{body};
 ghost use Rattle.tm_parser.specs.Statements.{statement};
-ghost use Rattle.tm_syntax.specs.declared.tree.Stmt.TheVariants.{EmitExpr};
+ghost use Rattle.tm_trees.specs.Trees.statement_forms.{EmitExpr};
 ghost use Rattle.tm_values.specs.declared.error.ErrorKind.TheVariants.{OutOfMemory};
-ghost use Rattle.tm_syntax.specs.declared.tree.Argument.TheBlock.{hidden-the_row-Step-5 as row_of_steps};
-ghost use Rattle.tm_syntax.specs.declared.tree.Argument.TheBlock.{hidden-the_row-Argument-3 as row_of_arguments};
-ghost use Rattle.tm_syntax.specs.declared.tree.Argument.TheBlock.{hidden-the_row-Keyword-4 as row_of_keywords};
+ghost use Rattle.tm_trees.specs.Trees.{steps as row_of_steps, arguments as row_of_arguments, keywords as row_of_keywords};
 
 use tm_expressions::add_one;
 use tm_items::{Boxed, Items};

@@ -5,7 +5,7 @@ ghost use Rattle.tm_parser.specs.Statements.{autoescape_tag, block_end, body, bo
 ghost use Rattle.tm_parser.specs.Statements.{else_or_end, else_tag, emission, ended_body, extends_tag, filter_tag, for_body, for_tag, if_tag, inner, jump, rest, set_block, set_tag};
 ghost use Rattle.tm_parser.specs.Statements.{set_value, statement, tag_statement, with_tag};
 ghost use Rattle.tm_grammar.specs.Combinators.{one_more, provided};
-ghost use Rattle.tm_syntax.specs.declared.tree.Stmt.TheVariants.{Break, Continue};
+ghost use Rattle.tm_trees.specs.Trees.statement_forms.{Break, Continue};
 
 use crate::assignments::{assignments, bare};
 use crate::emissions::{add_emission, is_call};

@@ -3,7 +3,7 @@ ghost use Rattle.std.specs.Prelude.{◌≡◌, List, IfOk, IfErr};
 ghost use Rattle.tm_values.specs.Answer.{Refused};
 ghost use Rattle.tm_parser.specs.Template.{SpellsExpression, SpellsNoExpression, SpellsNoTemplate, SpellsTemplate};
 ghost use Rattle.tm_syntax.specs.declared.token.Token.{Token};
-ghost use Rattle.tm_syntax.specs.declared.tree.Tree.{Tree};
+ghost use Rattle.tm_trees.specs.Trees.{Tree};
 
 use crate::blocks::has_distinct_blocks;
 use crate::statements::body;

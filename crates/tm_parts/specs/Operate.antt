@@ -3,7 +3,7 @@ use Rattle.std.specs.Prelude.{◌≡◌, ℕ, List, ◌∷◌, Ok}
 use Rattle.tm_values.specs.Val.{Val, boolean}
 use Rattle.tm_values.specs.Records.{RecordData}
 use Rattle.tm_values.specs.declared.undefined.UndefinedBehavior.{UndefinedBehavior}
-use Rattle.tm_syntax.specs.declared.tree.BinaryOperator.{BinaryOperator}
+use Rattle.tm_trees.specs.Trees.{BinaryOperator}
 use Rattle.tm_definitions.specs.Members.{attribute_of}
 use Rattle.tm_meaning.specs.Operators.{result_of}
 use Rattle.tm_values.specs.Truth.{is_undefined}

@@ -3,7 +3,7 @@ pub mod Checks
 pub mod Marked
 pub mod Members
 pub mod Parts
-pub mod Plain
+pub mod Writable
 pub mod Runs
 pub mod Spelled
 pub mod Steps

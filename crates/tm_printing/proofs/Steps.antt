@@ -7,7 +7,7 @@ use Rattle.tm_values.specs.Val.{Val, val_size}
 use Rattle.tm_printing.proofs.Begun.{Begun, past, stops}
 use Rattle.tm_printing.specs.Left.{left_text, left_weight, rest_weight, weight, power, Begins, Advances, IsNoHeavier, IsLighter}
 use Rattle.tm_printing.specs.declared.rest.Rest.{Rest}
-use Rattle.tm_printing.specs.declared.rest.Step.{Step}
+use Rattle.tm_printing.specs.declared.rest.NextValue.{NextValue}
 
 pub left_text-push : (text : Rest → List ℕ) (xs : List Rest) (x : Rest) → left_text text (xs ++ x ∷ []) ≡ text x ++ left_text text xs
 left_text-push text [] x = sym (append-nil (text x))
@@ -26,19 +26,19 @@ module _ {T : Type 0} (took stopped : T → List ℕ → T → Type 0) (laws : L
     fails_before new part = stops took stopped laws start now new whole _ (text x) (left_text text xs) begun refl part
 
     -- the list or the map is written
-    pub closed : (new : T) (o : Option Step) → o ≡ None → Advances took stopped (Ok o) now (text x) value text new
+    pub closed : (new : T) (o : Option NextValue) → o ≡ None → Advances took stopped (Ok o) now (text x) value text new
         → Begun took start whole new (left_text text xs)
     closed new o is written =
-        let taken : took now (text x) new = subst (λ (p : Option Step). Advances took stopped (Ok p) now (text x) value text new) is
+        let taken : took now (text x) new = subst (λ (p : Option NextValue). Advances took stopped (Ok p) now (text x) value text new) is
         written in
         past took stopped laws start now new whole _ (text x) (left_text text xs) begun refl taken
 
     -- a value comes next
-    pub at_value : (new : T) (o : Option Step) (s : Step) → o ≡ Some s → Advances took stopped (Ok o) now (text x) value text new
+    pub at_value : (new : T) (o : Option NextValue) (s : NextValue) → o ≡ Some s → Advances took stopped (Ok o) now (text x) value text new
         → Begun took start whole new (value s.levels s.value.now ++ (text s.after ++ left_text text xs))
     at_value new o s is written =
         let before : Advances took stopped (Ok (Some s)) now (text x) value text new =
-        subst (λ (p : Option Step). Advances took stopped (Ok p) now (text x) value text new) is written in
+        subst (λ (p : Option NextValue). Advances took stopped (Ok p) now (text x) value text new) is written in
         let v = value s.levels s.value.now in
         let parts : text x ++ left_text text xs ≡ before.0 ++ (v ++ (text s.after ++ left_text text xs)) =
         ap (λ (l : List ℕ). l ++ left_text text xs) before.1.1
@@ -70,15 +70,15 @@ module _ {T : Type 0} (took stopped : T → List ℕ → T → Type 0) (laws : L
 
 -- ---- weights
 
-pub closed_lighter : (k : ℕ) (x : Rest) (o : Option Step) → o ≡ None → IsLighter (Ok o) x → 0 < k → 0 < rest_weight k x
+pub closed_lighter : (k : ℕ) (x : Rest) (o : Option NextValue) → o ≡ None → IsLighter (Ok o) x → 0 < k → 0 < rest_weight k x
 closed_lighter k x o is light some =
-    let at_end : IsLighter (Ok None) x = subst (λ (p : Option Step). IsLighter (Ok p) x) is light in
+    let at_end : IsLighter (Ok None) x = subst (λ (p : Option NextValue). IsLighter (Ok p) x) is light in
     at_end k some
 
-pub step_lighter : (k : ℕ) (x : Rest) (o : Option Step) (s : Step) → o ≡ Some s → IsLighter (Ok o) x → 0 < k
+pub step_lighter : (k : ℕ) (x : Rest) (o : Option NextValue) (s : NextValue) → o ≡ Some s → IsLighter (Ok o) x → 0 < k
     → val_size s.value.now * power k s.levels + rest_weight k s.after < rest_weight k x
 step_lighter k x o s is light some =
-    let next : IsLighter (Ok (Some s)) x = subst (λ (p : Option Step). IsLighter (Ok p) x) is light in
+    let next : IsLighter (Ok (Some s)) x = subst (λ (p : Option NextValue). IsLighter (Ok p) x) is light in
     next k some
 
 pub opened_lighter : (r : RecordData) (levels : ℕ) (v : Val) (o : Option Rest) (y : Rest) → o ≡ Some y → IsNoHeavier (Ok o) r levels v

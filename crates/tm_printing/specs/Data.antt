@@ -9,8 +9,8 @@ use Rattle.tm_definitions.specs.Json.{json_within, data_of, items_of, members_of
 use Rattle.tm_printing.specs.Left.{weight, power, rest_weight, IsLighter}
 use Rattle.tm_printing.specs.declared.rest.Rest.{Rest}
 use Rattle.tm_printing.specs.declared.rest.Rest.TheVariants as rest
-use Rattle.tm_printing.specs.declared.compact.Next.{Next}
-use Rattle.tm_printing.specs.declared.compact.Next.TheVariants as next
+use Rattle.tm_printing.specs.declared.compact.JsonPart.{JsonPart}
+use Rattle.tm_printing.specs.declared.compact.JsonPart.TheVariants as next
 
 -- up to the closing bracket
 abbrev pub json_rest : RecordData → Rest → List ℕ
@@ -23,7 +23,7 @@ json_rest r (rest.Member value left levels) =
     ++ members_text true (members_of (namespace_data r levels) (pairs_of left.now)))
 
 -- the text before the next value, the value, and what is left after it
-abbrev pub IsNextJson : Rest → Next → Type 0
+abbrev pub IsNextJson : Rest → JsonPart → Type 0
 IsNextJson x (next.Value before step) = (r : RecordData)
     → json_rest r x
     ≡ before.now ++ (json_within r step.levels step.value.now ++ json_rest r step.after)
@@ -34,7 +34,7 @@ IsNextJson x (next.Keyed before key step) = (r : RecordData)
 IsNextJson x (next.End closing) = (r : RecordData) → json_rest r x ≡ closing.now
 
 -- the next value and what is left after it weigh less than what was left before
-abbrev pub IsNextJsonLighter : Rest → Next → Type 0
+abbrev pub IsNextJsonLighter : Rest → JsonPart → Type 0
 IsNextJsonLighter x (next.Value before step) = IsLighter (Ok (Some step)) x
 IsNextJsonLighter x (next.Keyed before key step) = IsLighter (Ok (Some step)) x
 IsNextJsonLighter x (next.End closing) = IsLighter (Ok None) x

@@ -5,7 +5,7 @@ use Rattle.tm_values.specs.Records.{RecordData}
 use Rattle.tm_values.specs.Val.{Val, val_size, vals_size, pairs_size, vals_of, pairs_of}
 use Rattle.tm_printing.specs.declared.rest.Rest.{Rest}
 use Rattle.tm_printing.specs.declared.rest.Rest.TheVariants as rest
-use Rattle.tm_printing.specs.declared.rest.Step.{Step}
+use Rattle.tm_printing.specs.declared.rest.NextValue.{NextValue}
 use Rattle.tm_printing.specs.declared.rest.Unwritten.{Unwritten}
 use Rattle.tm_printing.specs.declared.rest.Unwritten.TheVariants as unwritten
 
@@ -41,7 +41,7 @@ Begins took stopped (Err e) old text after new = stopped old text new
 -- what stands before the next value was written, or all that was left
 abbrev pub Advances :
     {T : Type 0} → (T → List ℕ → T → Type 0) → (T → List ℕ → T → Type 0)
-    → Result (Option Step) TargetFailed → T → List ℕ
+    → Result (Option NextValue) TargetFailed → T → List ℕ
     → (ℕ → Val → List ℕ) → (Rest → List ℕ) → T → Type 0
 Advances took stopped (Ok None) old text value after new = took old text new
 Advances took stopped (Ok (Some step)) old text value after new =
@@ -80,7 +80,7 @@ IsNoHeavier (Ok (Some x)) r levels v = rest_weight (weight r) x ≤ val_size v *
 IsNoHeavier (Err e) r levels v = Unit
 
 -- the next value and what is left after it weigh less than what was left before
-abbrev pub IsLighter : Result (Option Step) TargetFailed → Rest → Type 0
+abbrev pub IsLighter : Result (Option NextValue) TargetFailed → Rest → Type 0
 IsLighter (Ok None) x = (k : ℕ) → 0 < k → 0 < rest_weight k x
 IsLighter (Ok (Some step)) x = (k : ℕ) → 0 < k
     → val_size step.value.now * power k step.levels + rest_weight k step.after < rest_weight k x

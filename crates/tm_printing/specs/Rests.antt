@@ -7,8 +7,8 @@ use Rattle.tm_definitions.specs.Printed.{inner, inner_items, inner_pairs, namesp
 use Rattle.tm_printing.specs.Left.{weight, power, rest_weight, IsLighter}
 use Rattle.tm_printing.specs.declared.rest.Rest.{Rest}
 use Rattle.tm_printing.specs.declared.rest.Rest.TheVariants as rest
-use Rattle.tm_printing.specs.declared.printing.Next.{Next}
-use Rattle.tm_printing.specs.declared.printing.Next.TheVariants as next
+use Rattle.tm_printing.specs.declared.printing.TextPart.{TextPart}
+use Rattle.tm_printing.specs.declared.printing.TextPart.TheVariants as next
 
 -- up to the closing bracket
 abbrev pub printed_rest : RecordData → Rest → List ℕ
@@ -21,7 +21,7 @@ printed_rest r (rest.Member value left levels) =
     ++ inner_pairs r (namespace_text r levels) true (pairs_of left.now))
 
 -- the text before the next value, the value, and what is left after it
-abbrev pub IsNext : Rest → Next → Type 0
+abbrev pub IsNext : Rest → TextPart → Type 0
 IsNext x (next.Value before step) = (r : RecordData)
     → printed_rest r x
     ≡ before.now ++ (inner r (namespace_text r step.levels) step.value.now ++ printed_rest r step.after)
@@ -44,6 +44,6 @@ abbrev pub IsLeaf : RecordData → ℕ → Val → Type 0
 IsLeaf r levels v = inner r (namespace_text r levels) v ≡ leaf_text r v
 
 -- the next value and what is left after it weigh less than what was left before
-abbrev pub IsNextRestLighter : Rest → Next → Type 0
+abbrev pub IsNextRestLighter : Rest → TextPart → Type 0
 IsNextRestLighter x (next.Value before step) = IsLighter (Ok (Some step)) x
 IsNextRestLighter x (next.End closing) = IsLighter (Ok None) x

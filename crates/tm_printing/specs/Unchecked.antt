@@ -2,7 +2,7 @@
 use Rattle.std.specs.Prelude.{◌≡◌, ℕ, suc, ◌+◌, ◌≤◌, Bool, true, false, cond, List, [], ◌∷◌, length, slice_index_or, Some, Result, Ok, Err}
 use Rattle.tm_values.specs.Answer.{is_memory_alone}
 use Rattle.tm_values.specs.Records.{RecordData, namespace_at}
-use Rattle.tm_values.specs.Plain.{fits_json}
+use Rattle.tm_values.specs.Writable.{fits_json}
 use Rattle.tm_values.specs.Val.{number, function, macro, loop, namespace}
 use Rattle.tm_values.specs.Val.{Val, val_size, vals_size, pairs_size, vals_of, pairs_of}
 use Rattle.tm_values.specs.declared.error.ErrorKind.{ErrorKind}

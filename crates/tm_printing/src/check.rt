@@ -1,10 +1,10 @@
 //! Whether a value can be printed or written as JSON. Nothing is written here.
 ghost use Rattle.std.specs.Prelude.{◌≡◌, ℕ, ◌+◌, ◌≤◌, ◌<◌, ◌++◌, ◌∷◌, [], length, IfErr, MatchOption, OnOk};
 ghost use Rattle.tm_values.specs.Answer.{IsAnswer};
-ghost use Rattle.tm_values.specs.Plain.{fits_json};
+ghost use Rattle.tm_values.specs.Writable.{fits_json};
 ghost use Rattle.tm_values.specs.Records.{RecordData};
 ghost use Rattle.tm_values.specs.Val.{val_size, vals_size, pairs_size, vals_of, pairs_of};
-ghost use Rattle.tm_printing.specs.Plain.{is_plain};
+ghost use Rattle.tm_printing.specs.Writable.{is_plain};
 ghost use Rattle.tm_printing.specs.Unchecked.{Goes, IsUncheckedLeaf, IsParts, IsMarked, IsUnmet, leaf_verdict, mark_at};
 ghost use Rattle.tm_printing.specs.Unchecked.{nothing, one_weight, to_check};
 ghost use Rattle.tm_definitions.specs.Verdicts.{in_json, key_verdict, if_holds, no_json, nowhere, items_verdict};
@@ -289,8 +289,8 @@ fn is_plain(form: OutputFormat, value: &Value) -> bool
     ensures { result ≡ is_plain form value.now }
 {
     match form {
-        OutputFormat::Printed => value.plain().in_print,
-        OutputFormat::Json => value.plain().in_json,
+        OutputFormat::Printed => value.writable().in_print,
+        OutputFormat::Json => value.writable().in_json,
     }
 }
 

@@ -7,7 +7,7 @@ ghost use Rattle.tm_definitions.specs.Json.{json_text, key_text, number_data};
 ghost use Rattle.tm_printing.specs.Data.{IsNextJson, IsNextJsonLighter, IsJsonOpened, IsJsonLeaf, leaf_json};
 ghost use Rattle.tm_printing.specs.Left.{Writes};
 
-use crate::rest::{Rest, Step, Unwritten};
+use crate::rest::{NextValue, Rest, Unwritten};
 use crate::spelling::Json;
 use crate::text::write_json_text;
 use crate::walk::{Notation, write_parts};
@@ -59,17 +59,17 @@ impl Notation for Json {
     fn advance<'a, T: Target>(
         rest: Rest<'a>,
         target: &mut T,
-    ) -> Result<Option<Step<'a>>, TargetFailed> {
+    ) -> Result<Option<NextValue<'a>>, TargetFailed> {
         match take_next(rest) {
-            Next::Value(before, step) => {
+            JsonPart::Value(before, step) => {
                 target.take_text(before)?;
                 Ok(Some(step))
             }
-            Next::Keyed(before, key, step) => {
+            JsonPart::Keyed(before, key, step) => {
                 write_key(before, key, target)?;
                 Ok(Some(step))
             }
-            Next::End(closing) => {
+            JsonPart::End(closing) => {
                 target.take_text(closing)?;
                 Ok(None)
             }
@@ -79,47 +79,47 @@ impl Notation for Json {
 
 /// What comes next of a list or a map.
 #[derive(Clone, Copy)]
-pub enum Next<'a> {
+pub enum JsonPart<'a> {
     /// A text, and then a value.
-    Value(&'static str, Step<'a>),
+    Value(&'static str, NextValue<'a>),
     /// A text, a key with its colon, and then a value.
-    Keyed(&'static str, &'a Value, Step<'a>),
+    Keyed(&'static str, &'a Value, NextValue<'a>),
     /// The closing bracket.
     End(&'static str),
 }
 
 // What comes next.
-fn take_next<'a>(rest: Rest<'a>) -> Next<'a>
+fn take_next<'a>(rest: Rest<'a>) -> JsonPart<'a>
     ensures text { IsNextJson rest.entry result }
     ensures weight { IsNextJsonLighter rest.entry result }
 {
     match rest {
         Rest::Items(left, later, levels) => match left.split_first() {
-            Some((value, left)) => Next::Value(
+            Some((value, left)) => JsonPart::Value(
                 comma(later),
-                Step {
+                NextValue {
                     value,
                     levels,
                     after: Rest::Items(left, true, levels),
                 },
             ),
-            None => Next::End("]"),
+            None => JsonPart::End("]"),
         },
         Rest::Pairs(left, later, levels) => match left.split_first() {
-            Some((pair, left)) => Next::Keyed(
+            Some((pair, left)) => JsonPart::Keyed(
                 comma(later),
                 &pair.0,
-                Step {
+                NextValue {
                     value: &pair.1,
                     levels,
                     after: Rest::Pairs(left, true, levels),
                 },
             ),
-            None => Next::End("}"),
+            None => JsonPart::End("}"),
         },
-        Rest::Member(value, left, levels) => Next::Value(
+        Rest::Member(value, left, levels) => JsonPart::Value(
             ":",
-            Step {
+            NextValue {
                 value,
                 levels,
                 after: Rest::Pairs(left, true, levels),

@@ -8,13 +8,13 @@ ghost use Rattle.tm_definitions.specs.Printed.{printed, bare_text, inner, comma_
 ghost use Rattle.tm_printing.specs.Left.{Writes};
 ghost use Rattle.tm_printing.specs.Rests.{IsNext, IsNextRestLighter, IsOpened, IsLeaf, leaf_text};
 
-use crate::rest::{Rest, Step, Unwritten};
+use crate::rest::{NextValue, Rest, Unwritten};
 use crate::spelling::{Escape, Html, Verbatim};
 use crate::text::{write_number, write_quoted, write_spelled};
 use crate::walk::{Notation, write_parts};
 use std::alloc::Global;
 use tm_output::{Target, TargetFailed};
-use tm_values::{LoopPosition, Macro, Node, Records, Value, find_loop, find_namespace};
+use tm_values::{LoopPosition, MacroValue, Node, Records, Value, find_loop, find_namespace};
 
 /// Writes what the value is printed as. Ask `check_print` first: what it refuses has no text of its
 /// own. `Target` where the target fails, `Memory` where a list of what is left to write finds none.
@@ -103,13 +103,13 @@ impl<E: Escape> Notation for E {
     fn advance<'a, T: Target>(
         rest: Rest<'a>,
         target: &mut T,
-    ) -> Result<Option<Step<'a>>, TargetFailed> {
+    ) -> Result<Option<NextValue<'a>>, TargetFailed> {
         match take_next(rest) {
-            Next::Value(before, step) => {
+            TextPart::Value(before, step) => {
                 write_spelled::<E, T>(before, target)?;
                 Ok(Some(step))
             }
-            Next::End(closing) => {
+            TextPart::End(closing) => {
                 write_spelled::<E, T>(closing, target)?;
                 Ok(None)
             }
@@ -119,44 +119,44 @@ impl<E: Escape> Notation for E {
 
 /// What comes next of a list or a map.
 #[derive(Clone, Copy)]
-pub enum Next<'a> {
+pub enum TextPart<'a> {
     /// A text, and then a value.
-    Value(&'static str, Step<'a>),
+    Value(&'static str, NextValue<'a>),
     /// The closing bracket.
     End(&'static str),
 }
 
 // What comes next.
-fn take_next<'a>(rest: Rest<'a>) -> Next<'a>
+fn take_next<'a>(rest: Rest<'a>) -> TextPart<'a>
     ensures text { IsNext rest.entry result }
     ensures weight { IsNextRestLighter rest.entry result }
 {
     match rest {
         Rest::Items(left, later, levels) => match left.split_first() {
-            Some((value, left)) => Next::Value(
+            Some((value, left)) => TextPart::Value(
                 comma(later),
-                Step {
+                NextValue {
                     value,
                     levels,
                     after: Rest::Items(left, true, levels),
                 },
             ),
-            None => Next::End("]"),
+            None => TextPart::End("]"),
         },
         Rest::Pairs(left, later, levels) => match left.split_first() {
-            Some((pair, left)) => Next::Value(
+            Some((pair, left)) => TextPart::Value(
                 comma(later),
-                Step {
+                NextValue {
                     value: &pair.0,
                     levels,
                     after: Rest::Member(&pair.1, left, levels),
                 },
             ),
-            None => Next::End("}"),
+            None => TextPart::End("}"),
         },
-        Rest::Member(value, left, levels) => Next::Value(
+        Rest::Member(value, left, levels) => TextPart::Value(
             ": ",
-            Step {
+            NextValue {
                 value,
                 levels,
                 after: Rest::Pairs(left, true, levels),
@@ -235,7 +235,10 @@ fn write_leaf<E: Escape, R: Records, T: Target>(
     }
 }
 
-fn write_macro<E: Escape, T: Target>(declared: &Macro, target: &mut T) -> Result<(), TargetFailed>
+fn write_macro<E: Escape, T: Target>(
+    declared: &MacroValue,
+    target: &mut T,
+) -> Result<(), TargetFailed>
     ensures { Takes T.took T.stopped result target.old
         (flat_map E.spelled (macro_text declared.now)) target.new }
 {

@@ -15,7 +15,7 @@ pub enum Rest<'a> {
 
 /// The next value, the levels of namespaces that are entered in it, and what is left after it.
 #[derive(Clone, Copy)]
-pub struct Step<'a> {
+pub struct NextValue<'a> {
     /// The value.
     pub value: &'a Value,
     /// The levels.

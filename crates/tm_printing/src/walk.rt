@@ -3,7 +3,7 @@ ghost use Rattle.std.specs.Prelude.{length};
 ghost use Rattle.tm_values.specs.Records.{RecordData};
 ghost use Rattle.tm_printing.specs.Left.{ValueText, RestText, Writes, Begins, Advances, IsNoHeavier, IsLighter};
 
-use crate::rest::{Rest, Step, Unwritten};
+use crate::rest::{NextValue, Rest, Unwritten};
 use std::alloc::Global;
 use tm_output::{Target, TargetFailed};
 use tm_values::{Records, Value};
@@ -34,7 +34,7 @@ pub trait Notation {
     fn advance<'a, T: Target>(
         rest: Rest<'a>,
         target: &mut T,
-    ) -> Result<Option<Step<'a>>, TargetFailed>
+    ) -> Result<Option<NextValue<'a>>, TargetFailed>
         ensures text { (r : RecordData) → Advances T.took T.stopped result target.old
             (rest_text r rest.entry) (value_text r) (rest_text r) target.new }
         ensures weight { IsLighter result rest.entry };

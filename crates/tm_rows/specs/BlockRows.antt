@@ -1,9 +1,9 @@
 -- Streams that load a parent, and where their runs end.
 use Rattle.std.specs.Prelude.{ℕ, List, [], ◌∷◌, Option, Some, true, false, codes, pos}
 use Rattle.tm_values.specs.Val.{number, text}
-use Rattle.tm_syntax.specs.declared.instruction.Instruction.{Instruction}
-use Rattle.tm_syntax.specs.declared.instruction.Instruction.TheVariants as i
-use Rattle.tm_syntax.specs.declared.tree.Stmt.{end_of-Stmt as no_statement}
+use Rattle.tm_trees.specs.Instructions.{Instruction}
+use Rattle.tm_trees.specs.Instructions.instructions as i
+use Rattle.tm_trees.specs.Trees.{no_statement}
 use Rattle.tm_meaning.specs.Tree.{body_of}
 use Rattle.tm_meaning.specs.declared.stream.TemplateId.{TemplateId}
 use Rattle.tm_meaning.specs.declared.stream.TemplateId.TheVariants.{Own as own, Entry as entry}

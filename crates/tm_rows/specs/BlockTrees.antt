@@ -4,15 +4,11 @@ use Rattle.tm_values.specs.Val.{function, text}
 use Rattle.tm_values.specs.declared.error.ErrorKind.{ErrorKind}
 use Rattle.tm_values.specs.declared.escape.AutoEscape.{AutoEscape}
 use Rattle.tm_values.specs.declared.escape.AutoEscape.TheVariants as escapes
-use Rattle.tm_syntax.specs.declared.tree.BinaryOperator.TheVariants as binaries
-use Rattle.tm_syntax.specs.declared.tree.Application.TheVariants as applications
-use Rattle.tm_syntax.specs.declared.tree.Expr.{Expr, SelfBlock, end_of-Argument as no_argument, more_of-Argument as argument}
-use Rattle.tm_syntax.specs.declared.tree.Expr.{end_of-Keyword as no_keyword}
-use Rattle.tm_syntax.specs.declared.tree.Step.{Attribute, Apply'}
-use Rattle.tm_syntax.specs.declared.tree.AssignmentTarget.{Name as To}
-use Rattle.tm_syntax.specs.declared.tree.CaptureUse.TheVariants as uses
-use Rattle.tm_syntax.specs.declared.tree.Stmt.{Stmt, EmitExpr, EmitBlock, EmitSuper, Block', Extends, CaptureBlock', For', With'}
-use Rattle.tm_syntax.specs.declared.tree.Stmt.{end_of-Stmt as no_statement, more_of-Stmt as statement, None' as no_else}
+use Rattle.tm_trees.specs.Trees.binaries
+use Rattle.tm_trees.specs.Trees.applications
+use Rattle.tm_trees.specs.Trees.{Expr, SelfBlock, no_argument, argument, no_keyword, Attribute, Apply', To, Stmt, EmitExpr, EmitBlock, EmitSuper}
+use Rattle.tm_trees.specs.Trees.{Block', Extends, CaptureBlock', For', With', no_statement, statement, no_else}
+use Rattle.tm_trees.specs.Trees.uses
 use Rattle.tm_syntax.specs.Forms.{plain, binary}
 use Rattle.tm_meaning.specs.Tree.{Body, TemplateTree, statements}
 use Rattle.tm_meaning.specs.World.{Named, Object, World, callers, depth, name_of}

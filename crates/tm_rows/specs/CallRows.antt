@@ -2,16 +2,10 @@
 use Rattle.std.specs.Prelude.{ℕ, zero, suc, List, [], ◌∷◌, Option, Some, None, true, false, codes, pos}
 use Rattle.tm_values.specs.Val.{Val, number, text, list, map, function, vals_of, pairs_of}
 use Rattle.tm_values.specs.declared.error.ErrorKind.{ErrorKind}
-use Rattle.tm_syntax.specs.declared.tree.BinaryOperator.TheVariants as binaries
-use Rattle.tm_syntax.specs.declared.tree.Expr.{Expr, Const, List', Call', end_of-Expr as no_expr, more_of-Expr as expr}
-use Rattle.tm_syntax.specs.declared.tree.Expr.{end_of-Argument as no_argument, more_of-Argument as argument, end_of-Keyword as no_keyword}
-use Rattle.tm_syntax.specs.declared.tree.Expr.{more_of-Keyword as keyword_and}
-use Rattle.tm_syntax.specs.declared.tree.Expr.{end_of-Step as no_step, more_of-Step as step}
-use Rattle.tm_syntax.specs.declared.tree.Application.TheVariants as applications
-use Rattle.tm_syntax.specs.declared.tree.Step.{Attribute, Apply'}
-use Rattle.tm_syntax.specs.declared.tree.AssignmentTarget.{Name as To, Attribute as Member}
-use Rattle.tm_syntax.specs.declared.tree.Stmt.{Stmt, EmitExpr, EmitLoop, For', Set, Do, end_of-Stmt as no_statement}
-use Rattle.tm_syntax.specs.declared.tree.Stmt.{more_of-Stmt as statement, None' as no_else}
+use Rattle.tm_trees.specs.Trees.binaries
+use Rattle.tm_trees.specs.Trees.{Expr, Const, List', Call', no_expr, expr, no_argument, argument, no_keyword, keyword_and, no_step, step, Attribute}
+use Rattle.tm_trees.specs.Trees.{Apply', To, Member, Stmt, EmitExpr, EmitLoop, For', Set, Do, no_statement, statement, no_else}
+use Rattle.tm_trees.specs.Trees.applications
 use Rattle.tm_syntax.specs.Forms.{chained, plain, keyword, binary}
 use Rattle.tm_meaning.specs.World.{find, Stated, Function, callers, languages}
 use Rattle.tm_meaning.specs.declared.reply.Reply.{Reply}

@@ -4,12 +4,9 @@ use Rattle.tm_values.specs.Val.{Val, number}
 use Rattle.tm_values.specs.declared.error.ErrorKind.{ErrorKind}
 use Rattle.tm_values.specs.declared.error.ErrorKind.TheVariants as kind
 use Rattle.tm_values.specs.declared.escape.AutoEscape.TheVariants as escapes
-use Rattle.tm_syntax.specs.declared.tree.BinaryOperator.TheVariants as binaries
-use Rattle.tm_syntax.specs.declared.tree.Application.TheVariants as applications
-use Rattle.tm_syntax.specs.declared.tree.Expr.{Expr, SelfBlock, end_of-Argument as no_argument, end_of-Keyword as no_keyword}
-use Rattle.tm_syntax.specs.declared.tree.Expr.{end_of-Condition as no_condition, end_of-Step as no_step, more_of-Step as step}
-use Rattle.tm_syntax.specs.declared.tree.Step.{Attribute, Apply'}
-use Rattle.tm_syntax.specs.declared.tree.Stmt.{end_of-Stmt as no_statement}
+use Rattle.tm_trees.specs.Trees.binaries
+use Rattle.tm_trees.specs.Trees.applications
+use Rattle.tm_trees.specs.Trees.{Expr, SelfBlock, no_argument, no_keyword, no_condition, no_step, step, Attribute, Apply', no_statement}
 use Rattle.tm_syntax.specs.Forms.{chained, conditional, with_condition, binary, and_then}
 use Rattle.tm_meaning.specs.Tree.{body_of, expression}
 use Rattle.tm_meaning.specs.Meaning.{Outcome}

@@ -6,18 +6,14 @@ use Rattle.tm_values.specs.Val.{Val, undefined, boolean, number, text, function}
 use Rattle.tm_values.specs.Order.{bytes_in}
 use Rattle.tm_values.specs.declared.error.ErrorKind.{ErrorKind}
 use Rattle.tm_values.specs.declared.error.ErrorKind.TheVariants.{MissingArgument}
-use Rattle.tm_syntax.specs.declared.instruction.Instruction.{Instruction}
-use Rattle.tm_syntax.specs.declared.instruction.Instruction.TheVariants as i
+use Rattle.tm_trees.specs.Instructions.{Instruction}
+use Rattle.tm_trees.specs.Instructions.instructions as i
 use Rattle.tm_values.specs.declared.undefined.UndefinedBehavior.{UndefinedBehavior}
-use Rattle.tm_syntax.specs.declared.tree.Application.{Application}
-use Rattle.tm_syntax.specs.declared.tree.Application.TheVariants as applications
-use Rattle.tm_syntax.specs.declared.tree.Expr.{Expr, end_of-Argument as no_argument, more_of-Argument as argument}
-use Rattle.tm_syntax.specs.declared.tree.Expr.{end_of-Keyword as no_keyword, end_of-Step as no_step, more_of-Step as step}
-use Rattle.tm_syntax.specs.declared.tree.UnaryOperator.TheVariants as unaries
-use Rattle.tm_syntax.specs.declared.tree.Step.{Step, Apply'}
-use Rattle.tm_syntax.specs.declared.tree.CaptureUse.TheVariants as uses
-use Rattle.tm_syntax.specs.declared.tree.Stmt.{Stmt, EmitExpr, Break, CaptureBlock', With', AutoEscape', end_of-Stmt as no_statement}
-use Rattle.tm_syntax.specs.declared.tree.Stmt.{more_of-Stmt as statement, None' as no_else}
+use Rattle.tm_trees.specs.Trees.{Application, Expr, no_argument, argument, no_keyword, no_step, step, Step, Apply', Stmt, EmitExpr, Break}
+use Rattle.tm_trees.specs.Trees.{CaptureBlock', With', AutoEscape', no_statement, statement, no_else}
+use Rattle.tm_trees.specs.Trees.applications
+use Rattle.tm_trees.specs.Trees.unaries
+use Rattle.tm_trees.specs.Trees.uses
 use Rattle.tm_syntax.specs.Forms.{chained, plain, unary}
 use Rattle.tm_definitions.specs.Members.{or_undefined}
 use Rattle.tm_meaning.specs.World.{Object, callers, find}

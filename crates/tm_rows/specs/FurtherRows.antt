@@ -1,16 +1,14 @@
 -- Pages whose objects ask for further calls of macros and blocks.
 use Rattle.std.specs.Prelude.{ℕ, List, [], ◌∷◌, codes, pos, true, false}
 use Rattle.tm_values.specs.Val.{Val, function, number, text}
-use Rattle.tm_syntax.specs.declared.tree.Application.TheVariants as applications
-use Rattle.tm_syntax.specs.declared.tree.Stmt.{Stmt, AutoEscape', Block', EmitExpr, With', end_of-Stmt as no_statement}
-use Rattle.tm_syntax.specs.declared.tree.Stmt.{more_of-Stmt as statement, None' as no_else}
+use Rattle.tm_trees.specs.Trees.applications
+use Rattle.tm_trees.specs.Trees.{Stmt, AutoEscape', Block', EmitExpr, With', no_statement, statement, no_else, To}
 use Rattle.tm_meaning.specs.World.{Object, callers, languages}
 use Rattle.tm_meaning.specs.declared.function.GlobalFunction.TheVariants as own
 use Rattle.tm_meaning.specs.declared.reply.Reply.TheVariants.{Value as gives, Further as asks_for}
 use Rattle.tm_meaning.specs.declared.reply.Call.TheVariants as further
 use Rattle.tm_meaning.specs.Tree.{Body}
 use Rattle.tm_rows.specs.Rows.{Page, page, one, two, nothing, literal, literal_number, raw, a, if_one, given}
-use Rattle.tm_syntax.specs.declared.tree.AssignmentTarget.{Name as To}
 use Rattle.tm_rows.specs.CallRows.{answers, call_none}
 use Rattle.tm_rows.specs.FilterRows.{passed_alone}
 use Rattle.tm_rows.specs.LoopRows.{alone_in_list, for_x}

@@ -4,11 +4,8 @@ use Rattle.tm_values.specs.Val.{Val, number, text, namespace, loop}
 use Rattle.tm_values.specs.declared.escape.AutoEscape.{AutoEscape}
 use Rattle.tm_values.specs.declared.escape.AutoEscape.TheVariants as escapes
 use Rattle.tm_values.specs.declared.undefined.UndefinedBehavior.{UndefinedBehavior}
-use Rattle.tm_syntax.specs.declared.tree.Expr.{Expr, List', end_of-Expr as no_expr}
-use Rattle.tm_syntax.specs.declared.tree.Step.{Attribute}
-use Rattle.tm_syntax.specs.declared.tree.AssignmentTarget.{Name as To}
-use Rattle.tm_syntax.specs.declared.tree.Stmt.{Stmt, EmitExpr, EmitLoop, For', Set, With', Block', AutoEscape', end_of-Stmt as no_statement}
-use Rattle.tm_syntax.specs.declared.tree.Stmt.{more_of-Stmt as statement, None' as no_else}
+use Rattle.tm_trees.specs.Trees.{Expr, List', no_expr, Attribute, To, Stmt, EmitExpr, EmitLoop, For', Set, With', Block', AutoEscape', no_statement}
+use Rattle.tm_trees.specs.Trees.{statement, no_else}
 use Rattle.tm_meaning.specs.World.{Function, View, callers}
 use Rattle.tm_meaning.specs.declared.reply.Reply.TheVariants.{Value as gives}
 use Rattle.tm_meaning.specs.Tree.{body_of}

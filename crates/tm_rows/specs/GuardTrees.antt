@@ -4,12 +4,10 @@ use Rattle.std.specs.Prelude.{ℕ, List, [], ◌∷◌, ◌++◌, Some, None, Ok
 use Rattle.tm_values.specs.Answer.{Answer}
 use Rattle.tm_values.specs.Val.{none, number, text, list, vals_of}
 use Rattle.tm_values.specs.declared.escape.AutoEscape.TheVariants as escapes
-use Rattle.tm_syntax.specs.declared.instruction.Instruction.{Instruction}
-use Rattle.tm_syntax.specs.declared.instruction.Instruction.TheVariants as i
-use Rattle.tm_syntax.specs.declared.tree.Expr.{Expr, Const, List', end_of-Expr as no_expr}
-use Rattle.tm_syntax.specs.declared.tree.AssignmentTarget.{Name as To}
-use Rattle.tm_syntax.specs.declared.tree.Stmt.{Stmt, EmitExpr, EmitLoop, EmitSuper, AutoEscape', Block', For', Import, Include, With'}
-use Rattle.tm_syntax.specs.declared.tree.Stmt.{end_of-Stmt as no_statement, more_of-Stmt as statement, None' as no_else}
+use Rattle.tm_trees.specs.Instructions.{Instruction}
+use Rattle.tm_trees.specs.Instructions.instructions as i
+use Rattle.tm_trees.specs.Trees.{Expr, Const, List', no_expr, To, Stmt, EmitExpr, EmitLoop, EmitSuper, AutoEscape', Block', For', Import, Include}
+use Rattle.tm_trees.specs.Trees.{With', no_statement, statement, no_else}
 use Rattle.tm_syntax.specs.Code.{for_flags}
 use Rattle.tm_meaning.specs.Tree.{Body, TemplateTree}
 use Rattle.tm_meaning.specs.World.{Named}

@@ -5,17 +5,11 @@ use Rattle.tm_values.specs.Val.{text}
 use Rattle.tm_values.specs.declared.error.ErrorKind.{ErrorKind}
 use Rattle.tm_values.specs.declared.error.ErrorKind.TheVariants.{BadInclude}
 use Rattle.tm_values.specs.declared.escape.AutoEscape.TheVariants as escapes
-use Rattle.tm_syntax.specs.declared.tree.BinaryOperator.TheVariants as binaries
-use Rattle.tm_syntax.specs.declared.tree.Application.TheVariants as applications
-use Rattle.tm_syntax.specs.declared.tree.Expr.{Expr, List', Map', end_of-Argument as no_argument, more_of-Argument as argument}
-use Rattle.tm_syntax.specs.declared.tree.Expr.{end_of-Expr as no_expr, end_of-Keyword as no_keyword, end_of-Pair as no_pair}
-use Rattle.tm_syntax.specs.declared.tree.Expr.{end_of-Step as no_step, more_of-Expr as expr, more_of-Step as step}
-use Rattle.tm_syntax.specs.declared.tree.Step.{Attribute, Apply'}
-use Rattle.tm_syntax.specs.declared.tree.AssignmentTarget.{Name as To, Attribute as Member}
-use Rattle.tm_syntax.specs.declared.tree.Imported.{Imported}
-use Rattle.tm_syntax.specs.declared.tree.Stmt.{Stmt, EmitExpr, EmitBlock, EmitLoop, EmitSuper, AutoEscape', For', With'}
-use Rattle.tm_syntax.specs.declared.tree.Stmt.{Include, Import, FromImport, end_of-Stmt as no_statement, more_of-Stmt as statement}
-use Rattle.tm_syntax.specs.declared.tree.Stmt.{If', Held-Stmt-If-2 as Otherwise, None' as no_else}
+use Rattle.tm_trees.specs.Trees.binaries
+use Rattle.tm_trees.specs.Trees.applications
+use Rattle.tm_trees.specs.Trees.{Expr, List', Map', no_argument, argument, no_expr, no_keyword, no_pair, no_step, expr, step, Attribute, Apply', To}
+use Rattle.tm_trees.specs.Trees.{Member, Imported, Stmt, EmitExpr, EmitBlock, EmitLoop, EmitSuper, AutoEscape', For', With', Include, Import}
+use Rattle.tm_trees.specs.Trees.{FromImport, no_statement, statement, If', Otherwise, no_else}
 use Rattle.tm_syntax.specs.Forms.{chained, plain, binary, item, with_pair}
 use Rattle.tm_meaning.specs.Tree.{Body, TemplateTree, body_of}
 use Rattle.tm_meaning.specs.declared.stream.TemplateId.TheVariants.{Entry as entry}

@@ -1,13 +1,9 @@
 -- Pages with loops.
 use Rattle.std.specs.Prelude.{ℕ, [], ◌∷◌, Some, None, false, codes}
-use Rattle.tm_syntax.specs.declared.tree.BinaryOperator.TheVariants as binaries
-use Rattle.tm_syntax.specs.declared.tree.Expr.{Expr, List', end_of-Expr as no_expr, more_of-Expr as expr}
-use Rattle.tm_syntax.specs.declared.tree.Step.{Attribute}
-use Rattle.tm_syntax.specs.declared.tree.AssignmentTarget.{Name as To}
-use Rattle.tm_syntax.specs.declared.tree.CaptureUse.TheVariants as uses
-use Rattle.tm_syntax.specs.declared.tree.Stmt.{Stmt, EmitExpr, For', Break, Continue, Set, CaptureBlock', With'}
-use Rattle.tm_syntax.specs.declared.tree.Stmt.{end_of-Stmt as no_statement, more_of-Stmt as statement, Held-Stmt-If-2 as Otherwise}
-use Rattle.tm_syntax.specs.declared.tree.Stmt.{None' as no_else}
+use Rattle.tm_trees.specs.Trees.binaries
+use Rattle.tm_trees.specs.Trees.{Expr, List', no_expr, expr, Attribute, To, Stmt, EmitExpr, For', Break, Continue, Set, CaptureBlock', With'}
+use Rattle.tm_trees.specs.Trees.{no_statement, statement, Otherwise, no_else}
+use Rattle.tm_trees.specs.Trees.uses
 use Rattle.tm_syntax.specs.Forms.{binary}
 use Rattle.tm_meaning.specs.Tree.{body_of}
 use Rattle.tm_rows.specs.Rows.{page, nothing, raw, named, one, else_one, and_one, literal_number, x, Page}

@@ -4,8 +4,8 @@ use Rattle.tm_values.specs.Val.{MacroData, Val, number, text, list, keywords, fu
 use Rattle.tm_values.specs.declared.error.ErrorKind.{ErrorKind}
 use Rattle.tm_values.specs.declared.escape.AutoEscape.{AutoEscape}
 use Rattle.tm_values.specs.declared.escape.AutoEscape.TheVariants as escapes
-use Rattle.tm_syntax.specs.declared.instruction.Instruction.{Instruction}
-use Rattle.tm_syntax.specs.declared.instruction.Instruction.TheVariants as i
+use Rattle.tm_trees.specs.Instructions.{Instruction}
+use Rattle.tm_trees.specs.Instructions.instructions as i
 use Rattle.tm_meaning.specs.World.{callers, with_escape}
 use Rattle.tm_meaning.specs.Calls.{whole, bound_to}
 use Rattle.tm_meaning.specs.Machine.{Program, base_of}

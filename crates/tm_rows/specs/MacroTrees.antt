@@ -2,17 +2,12 @@
 use Rattle.std.specs.Prelude.{ℕ, List, [], ◌∷◌, None, Some, true, false, codes}
 use Rattle.tm_values.specs.Val.{Val}
 use Rattle.tm_values.specs.Val.{none as no_value}
-use Rattle.tm_syntax.specs.declared.tree.BinaryOperator.TheVariants as binaries
-use Rattle.tm_syntax.specs.declared.tree.Application.TheVariants as applications
-use Rattle.tm_syntax.specs.declared.tree.Expr.{Expr, Const, Call', Map', end_of-Argument as no_argument, more_of-Argument as argument}
-use Rattle.tm_syntax.specs.declared.tree.Expr.{end_of-Keyword as no_keyword, more_of-Keyword as keyword_and, end_of-Pair as no_pair}
-use Rattle.tm_syntax.specs.declared.tree.Expr.{end_of-Step as no_step, more_of-Step as step}
-use Rattle.tm_syntax.specs.declared.tree.Step.{Attribute, Apply', Call' as Called}
-use Rattle.tm_syntax.specs.declared.tree.AssignmentTarget.{Name as To}
-use Rattle.tm_syntax.specs.declared.tree.CaptureUse.TheVariants as uses
-use Rattle.tm_syntax.specs.declared.tree.Parameter.{Parameter}
-use Rattle.tm_syntax.specs.declared.tree.Stmt.{Stmt, EmitExpr, For', Set, CaptureBlock', With', Macro', CallBlock'}
-use Rattle.tm_syntax.specs.declared.tree.Stmt.{end_of-Stmt as no_statement, more_of-Stmt as statement, None' as no_else}
+use Rattle.tm_trees.specs.Trees.binaries
+use Rattle.tm_trees.specs.Trees.applications
+use Rattle.tm_trees.specs.Trees.{Expr, Const, Call', Map', no_argument, argument, no_keyword, keyword_and, no_pair, no_step, step, Attribute, Apply'}
+use Rattle.tm_trees.specs.Trees.{Called, To, Parameter, Stmt, EmitExpr, For', Set, CaptureBlock', With', Macro', CallBlock', no_statement, statement}
+use Rattle.tm_trees.specs.Trees.{no_else}
+use Rattle.tm_trees.specs.Trees.uses
 use Rattle.tm_syntax.specs.Forms.{chained, plain, spread, keyword, spread_keywords, with_pair, item, binary}
 use Rattle.tm_meaning.specs.Tree.{Body, body_of}
 use Rattle.tm_meaning.specs.World.{languages}

@@ -2,8 +2,7 @@
 use Rattle.std.specs.Prelude.{zero, [], ◌∷◌, Some, None, Ok, Err, false, codes, pos}
 use Rattle.tm_values.specs.Val.{undefined, none, number, text, function}
 use Rattle.tm_values.specs.declared.error.ErrorKind.TheVariants.{MissingArgument}
-use Rattle.tm_syntax.specs.declared.tree.Expr.{Const}
-use Rattle.tm_syntax.specs.declared.tree.Stmt.{EmitExpr, end_of-Stmt as no_statement, more_of-Stmt as statement}
+use Rattle.tm_trees.specs.Trees.{Const, EmitExpr, no_statement, statement}
 use Rattle.tm_meaning.specs.declared.reply.Reply.TheVariants.{Value as gives, Fault as faults}
 use Rattle.tm_meaning.specs.World.{Fallback, Format, formatted}
 use Rattle.tm_meaning.specs.Tree.{body_of}

@@ -1,8 +1,7 @@
 -- Pages that show what an operator, an item or a slice gives.
 use Rattle.std.specs.Prelude.{ℕ}
-use Rattle.tm_syntax.specs.declared.tree.BinaryOperator.{BinaryOperator}
-use Rattle.tm_syntax.specs.declared.tree.UnaryOperator.TheVariants.{Negate}
-use Rattle.tm_syntax.specs.declared.tree.Expr.{Expr}
+use Rattle.tm_trees.specs.Trees.{BinaryOperator, Expr}
+use Rattle.tm_trees.specs.Trees.unaries.{Negate}
 use Rattle.tm_syntax.specs.Forms.{unary, binary, item, slice}
 use Rattle.tm_rows.specs.Rows.{Page, nothing, shown, and_one, literal_number}
 use Rattle.tm_rows.specs.LoopRows.{numbers}

@@ -8,21 +8,13 @@ use Rattle.tm_values.specs.declared.escape.AutoEscape.{AutoEscape}
 use Rattle.tm_values.specs.declared.escape.AutoEscape.TheVariants as escapes
 use Rattle.tm_values.specs.declared.undefined.UndefinedBehavior.{UndefinedBehavior}
 use Rattle.tm_values.specs.declared.undefined.UndefinedBehavior.TheVariants.{Lenient}
-use Rattle.tm_syntax.specs.declared.tree.UnaryOperator.TheVariants as unaries
-use Rattle.tm_syntax.specs.declared.tree.BinaryOperator.TheVariants as binaries
-use Rattle.tm_syntax.specs.declared.tree.Expr.{Expr, Var, Const, List', Tuple', Call', end_of-Expr as no_expr, more_of-Expr as expr}
-use Rattle.tm_syntax.specs.declared.tree.Expr.{end_of-Argument as no_argument, end_of-Keyword as no_keyword, end_of-Step as no_step}
-use Rattle.tm_syntax.specs.declared.tree.Expr.{more_of-Step as step, end_of-Condition as no_condition}
-use Rattle.tm_syntax.specs.declared.tree.Step.{Step, Attribute, end_of-Comparison as no_comparison}
-use Rattle.tm_syntax.specs.declared.tree.AssignmentTarget.{AssignmentTarget, Name as To, Unpack' as Items, Attribute as Member}
-use Rattle.tm_syntax.specs.declared.tree.AssignmentTarget.{end_of-AssignmentTarget as no_target}
-use Rattle.tm_syntax.specs.declared.tree.AssignmentTarget.{more_of-AssignmentTarget as target}
-use Rattle.tm_syntax.specs.declared.tree.Assignment.{Assignment}
-use Rattle.tm_syntax.specs.declared.tree.CaptureUse.{CaptureUse}
-use Rattle.tm_syntax.specs.declared.tree.CaptureUse.TheVariants as uses
-use Rattle.tm_syntax.specs.declared.tree.Stmt.{Stmt, EmitRaw, EmitExpr, If', Block', Set, CaptureBlock', With', AutoEscape'}
-use Rattle.tm_syntax.specs.declared.tree.Stmt.{end_of-Stmt as no_statement, more_of-Stmt as statement, Held-Stmt-If-2 as Otherwise}
-use Rattle.tm_syntax.specs.declared.tree.Stmt.{None' as no_else, Some' as otherwise}
+use Rattle.tm_trees.specs.Trees.unaries
+use Rattle.tm_trees.specs.Trees.binaries
+use Rattle.tm_trees.specs.Trees.{Expr, Var, Const, List', Tuple', Call', no_expr, expr, no_argument, no_keyword, no_step, step, no_condition, Step}
+use Rattle.tm_trees.specs.Trees.{Attribute, no_comparison, AssignmentTarget, To, Items, Member, no_target, target, Assignment, CaptureUse, Stmt}
+use Rattle.tm_trees.specs.Trees.{EmitRaw, EmitExpr, If', Block', Set, CaptureBlock', With', AutoEscape', no_statement, statement, Otherwise, no_else}
+use Rattle.tm_trees.specs.Trees.{otherwise}
+use Rattle.tm_trees.specs.Trees.uses
 use Rattle.tm_syntax.specs.Forms.{unary, chained, conditional, with_condition, with_comparison, binary, compare, and_then, or_else}
 use Rattle.tm_meaning.specs.Compiled.{code_of}
 use Rattle.tm_meaning.specs.declared.stream.TemplateId.TheVariants.{Own as own}

@@ -1,13 +1,8 @@
 -- Pages that spread arguments, and that call what an expression gives.
 use Rattle.std.specs.Prelude.{ℕ, ◌+◌, List, [], ◌∷◌, codes, pos}
 use Rattle.tm_values.specs.Val.{Val, number, function}
-use Rattle.tm_syntax.specs.declared.tree.Expr.{Expr, Map', Call'}
-use Rattle.tm_syntax.specs.declared.tree.Expr.{end_of-Argument as no_argument, more_of-Argument as argument}
-use Rattle.tm_syntax.specs.declared.tree.Expr.{end_of-Keyword as no_keyword, more_of-Keyword as keyword_and, end_of-Pair as no_pair}
-use Rattle.tm_syntax.specs.declared.tree.Expr.{end_of-Step as no_step, more_of-Step as step}
-use Rattle.tm_syntax.specs.declared.tree.Application.TheVariants as applications
-use Rattle.tm_syntax.specs.declared.tree.Step.{Apply', Call' as Called}
-use Rattle.tm_syntax.specs.declared.tree.Stmt.{EmitExpr}
+use Rattle.tm_trees.specs.Trees.{Expr, Map', Call', no_argument, argument, no_keyword, keyword_and, no_pair, no_step, step, Apply', Called, EmitExpr}
+use Rattle.tm_trees.specs.Trees.applications
 use Rattle.tm_syntax.specs.Forms.{chained, plain, spread, keyword, spread_keywords, with_pair, item}
 use Rattle.tm_meaning.specs.World.{Object, callers, languages}
 use Rattle.tm_meaning.specs.declared.reply.Reply.TheVariants.{Value as gives}

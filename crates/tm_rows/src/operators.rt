@@ -2,10 +2,10 @@
 ghost use Rattle.std.specs.Prelude.{[], ◌∷◌, ◌++◌, codes};
 ghost use Rattle.std.specs.Fmt.{decimal};
 ghost use Rattle.tm_values.specs.declared.error.ErrorKind.TheVariants.{InvalidOperation};
-ghost use Rattle.tm_syntax.specs.declared.tree.BinaryOperator.TheVariants.{Equal, NotEqual, Less, LessOrEqual, Greater};
-ghost use Rattle.tm_syntax.specs.declared.tree.BinaryOperator.TheVariants.{GreaterOrEqual, In, NotIn, Add, Subtract};
-ghost use Rattle.tm_syntax.specs.declared.tree.BinaryOperator.TheVariants.{Concatenate, Multiply, Divide, FloorDivide};
-ghost use Rattle.tm_syntax.specs.declared.tree.BinaryOperator.TheVariants.{Remainder, Power};
+ghost use Rattle.tm_trees.specs.Trees.binaries.{Equal, NotEqual, Less, LessOrEqual, Greater};
+ghost use Rattle.tm_trees.specs.Trees.binaries.{GreaterOrEqual, In, NotIn, Add, Subtract};
+ghost use Rattle.tm_trees.specs.Trees.binaries.{Concatenate, Multiply, Divide, FloorDivide};
+ghost use Rattle.tm_trees.specs.Trees.binaries.{Remainder, Power};
 ghost use Rattle.tm_rows.specs.Rows.{Charges, Fails, literal_number};
 ghost use Rattle.tm_rows.specs.OperatorRows.{of_two, of_list, minus, negated, item_of_two, part_of_two};
 

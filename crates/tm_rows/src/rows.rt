@@ -38,7 +38,7 @@ ghost use Rattle.tm_rows.specs.FilterRows.{filter_block, two_filters, last_count
 ghost use Rattle.tm_rows.specs.FilterRows.{capitals_in_html, safe_in_html, break_in_filter, fault_in_filter};
 ghost use Rattle.tm_rows.specs.ObjectRows.{by_name, emitted_none, keeps_and_faults, method_of_function, no_zero};
 ghost use Rattle.tm_rows.specs.ObjectRows.{none_as_undefined, with_formatter, with_methods, zero_between};
-ghost use Rattle.tm_syntax.specs.declared.tree.Application.TheVariants.{Filter, Test, NegatedTest};
+ghost use Rattle.tm_trees.specs.Trees.applications.{Filter, Test, NegatedTest};
 ghost use Rattle.tm_values.specs.declared.undefined.UndefinedBehavior.TheVariants.{SemiStrict, Strict};
 ghost use Rattle.tm_values.specs.declared.error.ErrorKind.TheVariants.{BadStream, UnknownBlock, UnknownFilter, UnknownTest};
 

@@ -7,8 +7,8 @@ use Rattle.tm_values.specs.Val.{MacroData, Val, undefined, function, macro, loop
 use Rattle.tm_values.specs.declared.error.ErrorKind.{ErrorKind}
 use Rattle.tm_values.specs.declared.error.ErrorKind.TheVariants.{InvalidOperation, UnknownBlock, UnknownFilter, UnknownTest}
 use Rattle.tm_values.specs.declared.error.ErrorKind.TheVariants.{UnknownFunction, UnknownMethod, TooManyArguments, TemplateNotFound}
-use Rattle.tm_syntax.specs.declared.tree.Application.{Application}
-use Rattle.tm_syntax.specs.declared.tree.Application.TheVariants as applications
+use Rattle.tm_trees.specs.Trees.{Application}
+use Rattle.tm_trees.specs.Trees.applications
 use Rattle.tm_definitions.specs.Maps.{dict_of, namespace_of}
 use Rattle.tm_definitions.specs.Ranges.{range_of}
 use Rattle.tm_definitions.specs.Emitted.{text_answer}

@@ -10,14 +10,11 @@ use Rattle.tm_definitions.specs.Emitted.{text_answer}
 use Rattle.tm_definitions.specs.Spread.{merged}
 use Rattle.tm_definitions.specs.Members.{settable}
 use Rattle.tm_syntax.specs.Loops.{loops_before}
-use Rattle.tm_syntax.specs.declared.instruction.Instruction.{Instruction}
-use Rattle.tm_syntax.specs.declared.instruction.Instruction.TheVariants as i
-use Rattle.tm_syntax.specs.declared.instruction.LoopFlags.{LoopFlags}
-use Rattle.tm_syntax.specs.declared.instruction.LoopPlace.{LoopPlace}
-use Rattle.tm_syntax.specs.declared.tree.Application.{Application}
-use Rattle.tm_syntax.specs.declared.tree.Application.TheVariants as applications
-use Rattle.tm_syntax.specs.declared.tree.BinaryOperator.{BinaryOperator}
-use Rattle.tm_syntax.specs.declared.tree.UnaryOperator.TheVariants as unaries
+use Rattle.tm_trees.specs.Instructions.{Instruction, LoopFlags, LoopPlace}
+use Rattle.tm_trees.specs.Instructions.instructions as i
+use Rattle.tm_trees.specs.Trees.{Application, BinaryOperator}
+use Rattle.tm_trees.specs.Trees.applications
+use Rattle.tm_trees.specs.Trees.unaries
 use Rattle.tm_meaning.specs.World.{choose, World, Loop, HostValue, Scope, Res, Good, Bad, bind, answered, emitted, looked_up, escape_for, items_over}
 use Rattle.tm_meaning.specs.World.{enclose, module_with, unpacked_items, set_member, open_loop, push, plain_scope, loop_scope, depth}
 use Rattle.tm_meaning.specs.World.{records_of, top_mark, top_loop, with_fuel, charged}

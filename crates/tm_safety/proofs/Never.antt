@@ -11,12 +11,12 @@ use Rattle.tm_values.specs.declared.error.ErrorKind.TheVariants.{InvalidOperatio
 use Rattle.tm_primitives.specs.Whole.{in_range}
 use Rattle.tm_definitions.specs.Arithmetic.{number_answer}
 use Rattle.tm_syntax.specs.Names.{is_among}
-use Rattle.tm_syntax.specs.declared.tree.Application.{Application}
-use Rattle.tm_syntax.specs.declared.tree.Application.TheVariants as applications
-use Rattle.tm_syntax.specs.declared.tree.UnaryOperator.TheVariants as unaries
-use Rattle.tm_syntax.specs.declared.tree.BinaryOperator.TheVariants as binaries
-use Rattle.tm_syntax.specs.declared.instruction.Instruction.{Instruction}
-use Rattle.tm_syntax.specs.declared.instruction.Instruction.TheVariants as i
+use Rattle.tm_trees.specs.Trees.{Application}
+use Rattle.tm_trees.specs.Trees.applications
+use Rattle.tm_trees.specs.Trees.unaries
+use Rattle.tm_trees.specs.Trees.binaries
+use Rattle.tm_trees.specs.Instructions.{Instruction}
+use Rattle.tm_trees.specs.Instructions.instructions as i
 use Rattle.tm_meaning.specs.World.{choose, World, HostValue, Res, Good, Bad, bind, bad, need, check, answered, emitted, looked_up, find_name, view_of, items_over, module_of}
 use Rattle.tm_definitions.specs.Emitted.{text_answer}
 use Rattle.tm_meaning.specs.World.{escape_for, enclose, has_enclosed, put_enclosed, closing_over, own_closure, owning, make_macro, set_member, with_fuel, charged}

@@ -74,8 +74,8 @@ one_tag s kind.Variable cs ts us r t h k = one_emission s.variable_end cs ts us 
 one_tag s kind.Comment cs ts us r t h k = (h.0 ∙ sym k.0, same_some r t (sym h.1 ∙ k.1))
 
 -- what stands at the next tag: the text before it, its start, and what is left after that
-abbrev pub Next : Type 0
-Next = List ℕ × (Side × List ℕ)
+abbrev pub TagAhead : Type 0
+TagAhead = List ℕ × (Side × List ℕ)
 
 -- the place after a tag
 abbrev pub after_tag : Side → End → SourcePlace
@@ -83,26 +83,26 @@ after_tag start e = record { before = Some (record { kind = start.kind; whitespa
 
 one_piece : (s : Syntax) → OneStep (IsPiece s)
 one_piece s = λ p ts us q r h k.
-    let x : Next = (h.text, (h.start, h.after)) in
-    let y : Next = (k.text, (k.start, k.after)) in
+    let x : TagAhead = (h.text, (h.start, h.after)) in
+    let y : TagAhead = (k.text, (k.start, k.after)) in
     let next : y ≡ x = same_some y x (sym k.next ∙ h.next) in
     let same = one_tag s h.start.kind h.after h.inside k.inside h.end k.end h.tag
-    (subst (λ (w : Next). IsTag s w.1.0.kind w.1.1 k.inside k.end) next k.tag) in (
+    (subst (λ (w : TagAhead). IsTag s w.1.0.kind w.1.1 k.inside k.end) next k.tag) in (
       h.tokens ∙ ap (λ (w : List Token). raw (trimmed s p.before (Some h.start) h.text) ++ w) same.0
-          ∙ ap (λ (w : Next). raw (trimmed s p.before (Some w.1.0) w.0) ++ k.inside) (sym next) ∙ sym k.tokens,
-      h.place ∙ ap (λ (w : End). after_tag h.start w) same.1 ∙ ap (λ (w : Next). after_tag w.1.0 k.end) (sym next) ∙ sym k.place,
+          ∙ ap (λ (w : TagAhead). raw (trimmed s p.before (Some w.1.0) w.0) ++ k.inside) (sym next) ∙ sym k.tokens,
+      h.place ∙ ap (λ (w : End). after_tag h.start w) same.1 ∙ ap (λ (w : TagAhead). after_tag w.1.0 k.end) (sym next) ∙ sym k.place,
     )
 
 no_next : (s : Syntax) (p : SourcePlace) → first_of (tag_start s) p.rest ≡ None → NoStep (IsPiece s) p
 no_next s p e = λ ts q h. cc (sym e ∙ h.next)
 
 -- where a tag starts that is none, there is no piece
-no_tag : (s : Syntax) (p : SourcePlace) (x : Next) → first_of (tag_start s) p.rest ≡ Some x →
+no_tag : (s : Syntax) (p : SourcePlace) (x : TagAhead) → first_of (tag_start s) p.rest ≡ Some x →
     ((ts : List Token) (e : End) → IsTag s x.1.0.kind x.1.1 ts e → ⊥) → NoStep (IsPiece s) p
 no_tag s p x e none = λ ts q h.
-    let y : Next = (h.text, (h.start, h.after)) in
+    let y : TagAhead = (h.text, (h.start, h.after)) in
     let next : y ≡ x = same_some y x (sym h.next ∙ e) in
-    none h.inside h.end (subst (λ (w : Next). IsTag s w.1.0.kind w.1.1 h.inside h.end) next h.tag)
+    none h.inside h.end (subst (λ (w : TagAhead). IsTag s w.1.0.kind w.1.1 h.inside h.end) next h.tag)
 
 abbrev start_of : List ℕ → SourcePlace
 start_of cs = record { before = None; rest = cs }
@@ -116,7 +116,7 @@ pub record SourceSoFar (s : Syntax) (cs : List ℕ) (found : List Token) (before
 pub begins : (s : Syntax) (cs : List ℕ) (found : List Token) (rest : List ℕ) → found ≡ [] → rest ≡ cs → SourceSoFar s cs found None rest
 begins s cs found rest e f = record { pieces = []; steps = ap start_of (sym f); items = e }
 
-pub goes_on : (s : Syntax) (cs : List ℕ) (old mid new : List Token) (before : Option Side) (rest : List ℕ) (x : Next) (inside : List Token)
+pub goes_on : (s : Syntax) (cs : List ℕ) (old mid new : List Token) (before : Option Side) (rest : List ℕ) (x : TagAhead) (inside : List Token)
     (e : End) → SourceSoFar s cs old before rest → first_of (tag_start s) rest ≡ Some x →
     mid ≡ old ++ raw (trimmed s before (Some x.1.0) x.0) → IsTag s x.1.0.kind x.1.1 inside e → new ≡ mid ++ inside →
     SourceSoFar s cs new (Some (record { kind = x.1.0.kind; whitespace = e.0 })) e.1
@@ -154,7 +154,7 @@ ends s source old new before rest here none grown = (
 )
 
 -- where a tag starts that is none, the source spells nothing
-pub no_tokens : (s : Syntax) (source : List ℕ) (found : List Token) (before : Option Side) (rest : List ℕ) (x : Next) →
+pub no_tokens : (s : Syntax) (source : List ℕ) (found : List Token) (before : Option Side) (rest : List ℕ) (x : TagAhead) →
     SourceSoFar s (read_of s source) found before rest → first_of (tag_start s) rest ≡ Some x →
     ((ts : List Token) (e : End) → IsTag s x.1.0.kind x.1.1 ts e → ⊥) → (ts : List Token) → SpellsTokens s source ts → ⊥
 no_tokens s source found before rest x here next none ts h =

@@ -1,8 +1,8 @@
 -- A shape has one stack of each kind, and stacks are of one shape.
 use Rattle.std.proofs.Common.{arith, ◌≡◌, ℕ, zero, suc, ◌+◌, List, [], ◌∷◌, ◌++◌, length}
 use Rattle.std.proofs.Common.{refl, sym, ap, subst, ◌∙◌}
-use Rattle.tm_syntax.specs.declared.instruction.CaptureMode.{CaptureMode}
-use Rattle.tm_syntax.specs.declared.instruction.CaptureMode.TheVariants as modes
+use Rattle.tm_trees.specs.Instructions.{CaptureMode}
+use Rattle.tm_trees.specs.Instructions.modes
 use Rattle.tm_shapes.specs.declared.cells.Cell.{Cell}
 use Rattle.tm_shapes.specs.declared.cells.Item.{Item}
 use Rattle.tm_shapes.specs.declared.cells.Item.TheVariants as items

@@ -2,7 +2,7 @@
 use Rattle.std.proofs.Common.{◌≡◌, ◌∙◌, ◌≤◌, ◌-◌, ℕ, zero, suc, List, [], ◌∷◌, Bool, true, false, ◌&&◌, ◌||◌, Result, Ok, Err, IfErr, OnOk, refl, sym, ap, subst, arith}
 use Rattle.std.proofs.Common.{length, take, drop, get_or}
 use Rattle.std.specs.Result.{IsErrAnd}
-use Rattle.tm_syntax.specs.declared.instruction.Instruction.{Instruction}
+use Rattle.tm_trees.specs.Instructions.{Instruction}
 use Rattle.tm_shapes.specs.Accepts.{all_seeds, entry_seeds, start_seed}
 use Rattle.tm_shapes.specs.Shapes.{entry_shape}
 use Rattle.tm_shapes.specs.Searched.{seed_of, seeds_of}

@@ -3,7 +3,7 @@ use Rattle.std.proofs.Common.{◌≡◌, ◌∙◌, ◌+◌, ◌-◌, ℕ, zero,
 use Rattle.std.proofs.Common.{nat_eq, refl, sym, ap, arith, suc-add, zero-add}
 use Rattle.std.proofs.lemmas.Bool.Decides.{nat_tests}
 use Rattle.std.specs.Option.{option_map}
-use Rattle.tm_syntax.specs.declared.instruction.CaptureMode.{CaptureMode}
+use Rattle.tm_trees.specs.Instructions.{CaptureMode}
 use Rattle.tm_syntax.specs.Choices.{choose}
 use Rattle.tm_shapes.specs.declared.cells.Cell.{Cell}
 use Rattle.tm_shapes.specs.declared.cells.Item.{Item}

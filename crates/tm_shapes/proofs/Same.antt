@@ -1,8 +1,8 @@
 -- Shapes are the same where their stacks are.
 use Rattle.std.proofs.Common.{◌≡◌, ℕ, List, [], ◌∷◌, Option, Some, None, Bool, true, false, ◌&&◌, nat_eq, refl, sym, ap, subst}
 use Rattle.std.proofs.lemmas.Bool.{eqb-true, eq-eqb}
-use Rattle.tm_syntax.specs.declared.instruction.CaptureMode.{CaptureMode}
-use Rattle.tm_syntax.specs.declared.instruction.CaptureMode.TheVariants as modes
+use Rattle.tm_trees.specs.Instructions.{CaptureMode}
+use Rattle.tm_trees.specs.Instructions.modes
 use Rattle.tm_shapes.specs.declared.cells.Cell.{Cell}
 use Rattle.tm_shapes.specs.declared.kind.Frame.{Frame}
 use Rattle.tm_shapes.specs.declared.kind.Frame.TheVariants as frames

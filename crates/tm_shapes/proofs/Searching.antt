@@ -5,7 +5,7 @@ use Rattle.std.proofs.Common.{◌-◌, drop-cons, get_or, IfErr, OnOk, take, len
 use Rattle.std.proofs.lemmas.Option.{slice_get_past}
 use Rattle.std.specs.Slice.{IsItemAt}
 use Rattle.std.specs.Prelude.{slice_get, slice_set, option_and_then, nat_eq, ◌&&◌, is_some}
-use Rattle.tm_syntax.specs.declared.instruction.Instruction.{Instruction}
+use Rattle.tm_trees.specs.Instructions.{Instruction}
 use Rattle.tm_shapes.specs.Accepts.{Asked, Seeds, begun, ends_with, found, no_shapes, same_shape, site_of}
 use Rattle.tm_shapes.specs.Cells.{Grown}
 use Rattle.tm_shapes.specs.Flows.{Flow, refused, ends, leads, both, takes, flow_of}

@@ -1,7 +1,7 @@
 -- Where runs begin.
 use Rattle.std.proofs.Common.{◌≡◌, ◌∙◌, ℕ, List, [], ◌∷◌, ◌++◌, Option, None, Some, Bool, true, false, ◌||◌, refl, ap, append_assoc}
-use Rattle.tm_syntax.specs.declared.instruction.Instruction.{Instruction}
-use Rattle.tm_syntax.specs.declared.instruction.Instruction.TheVariants as i
+use Rattle.tm_trees.specs.Instructions.{Instruction}
+use Rattle.tm_trees.specs.Instructions.instructions as i
 use Rattle.tm_shapes.specs.Accepts.{Seeds, entry_seeds_from, has_zero, loads_zero}
 use Rattle.tm_shapes.specs.Searched.{count_after, entry_of, seed_of, seeds_of}
 use Rattle.tm_shapes.specs.declared.search.Seed.{Seed}

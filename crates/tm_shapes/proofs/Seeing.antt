@@ -2,7 +2,7 @@
 use Rattle.std.proofs.Common.{◌≡◌, ℕ, zero, suc, ◌+◌, ◌≤◌, List, [], ◌∷◌, length, Option, Some, None, Bool, true, false}
 use Rattle.std.proofs.Common.{replicate, refl, sym, ap, ◌∙◌, subst, arith}
 use Rattle.std.specs.Prelude.{option_and_then, slice_get, slice_set}
-use Rattle.tm_syntax.specs.declared.instruction.Instruction.{Instruction}
+use Rattle.tm_trees.specs.Instructions.{Instruction}
 use Rattle.tm_shapes.specs.Accepts.{Asked, Seeds, all_seeds, ask_openly, groups_in, no_groups, no_shapes, noted, site_of}
 use Rattle.tm_shapes.specs.Cells.{Grown}
 use Rattle.tm_shapes.specs.Flows.{Flow, refused, ends, leads, both, takes, flow_of}

@@ -2,7 +2,7 @@
 use Rattle.std.specs.Prelude.{◌≡◌, ◌⊎◌, ℕ, List, [], ◌∷◌, Option, None, Some, Bool, true, false, nat_eq, option_and_then, replicate, slice_get, slice_set}
 use Rattle.std.specs.Borrow.{Bor}
 use Rattle.tm_syntax.specs.Choices.{choose}
-use Rattle.tm_syntax.specs.declared.instruction.Instruction.{Instruction}
+use Rattle.tm_trees.specs.Instructions.{Instruction}
 use Rattle.tm_syntax.specs.CacheNumbers.{no_cache}
 use Rattle.tm_syntax.specs.Named.{same_name}
 use Rattle.tm_shapes.specs.Placed.{Numbered, filter_of, test_of}

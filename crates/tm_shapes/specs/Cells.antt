@@ -1,7 +1,7 @@
 -- Stacks as cells.
 use Rattle.std.specs.Prelude.{◌≡◌, ℕ, zero, suc, ◌+◌, List, [], ◌∷◌, ◌++◌, length, Option, None, Some, slice_get, Bool}
-use Rattle.tm_syntax.specs.declared.instruction.CaptureMode.{CaptureMode}
-use Rattle.tm_syntax.specs.declared.instruction.CaptureMode.TheVariants as modes
+use Rattle.tm_trees.specs.Instructions.{CaptureMode}
+use Rattle.tm_trees.specs.Instructions.modes
 use Rattle.tm_shapes.specs.declared.cells.Cell.{Cell}
 use Rattle.tm_shapes.specs.declared.cells.Item.{Item}
 use Rattle.tm_shapes.specs.declared.cells.Item.TheVariants as items

@@ -1,6 +1,6 @@
 -- Which places are entered, as marks.
 use Rattle.std.specs.Prelude.{◌≡◌, ◌≤◌, ℕ, List, length, Option, None, Some, Bool, true, nat_lt, slice_set}
-use Rattle.tm_syntax.specs.declared.instruction.Instruction.{Instruction}
+use Rattle.tm_trees.specs.Instructions.{Instruction}
 use Rattle.tm_shapes.specs.Placed.{is_entered, targets_within}
 use Rattle.tm_shapes.specs.Sites.{is_marked}
 

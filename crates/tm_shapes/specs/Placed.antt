@@ -1,7 +1,7 @@
 -- What is tested at every instruction of a stream, reached or not.
 use Rattle.std.specs.Prelude.{ℕ, ◌+◌, ◌-◌, List, [], ◌∷◌, ◌++◌, length, Option, Some, None, Bool, true, false, nat_eq, nat_lt, not, is_some, ◌&&◌, ◌||◌}
-use Rattle.tm_syntax.specs.declared.instruction.Instruction.{Instruction}
-use Rattle.tm_syntax.specs.declared.instruction.Instruction.TheVariants as i
+use Rattle.tm_trees.specs.Instructions.{Instruction}
+use Rattle.tm_trees.specs.Instructions.instructions as i
 use Rattle.tm_shapes.specs.declared.before.Before.{Before}
 use Rattle.tm_shapes.specs.declared.before.Before.TheVariants as befores
 use Rattle.tm_syntax.specs.CacheNumbers.{no_cache, cache_count}

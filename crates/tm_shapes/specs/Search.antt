@@ -1,6 +1,6 @@
 -- The search for the shapes of a stream.
 use Rattle.std.specs.Prelude.{◌≡◌, ℕ, zero, suc, List, [], ◌∷◌, length, Option, Some, None, option_and_then, slice_get, slice_set, Bool, true, false, nat_eq, ◌&&◌}
-use Rattle.tm_syntax.specs.declared.instruction.Instruction.{Instruction}
+use Rattle.tm_trees.specs.Instructions.{Instruction}
 use Rattle.tm_shapes.specs.Shapes.{Shape, Shapes, shape_at}
 use Rattle.tm_shapes.specs.Flows.{Flow, refused, ends, leads, both, takes, Site, flow_of}
 

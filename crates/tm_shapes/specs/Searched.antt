@@ -1,8 +1,8 @@
 -- The search as it stands in memory.
 use Rattle.std.specs.Prelude.{◌≡◌, ℕ, List, [], ◌∷◌, length, Option, None, Some, Bool, Result, Ok, Err}
 use Rattle.tm_syntax.specs.Entries.{name_count}
-use Rattle.tm_syntax.specs.declared.instruction.Instruction.{Instruction}
-use Rattle.tm_syntax.specs.declared.instruction.Instruction.TheVariants as i
+use Rattle.tm_trees.specs.Instructions.{Instruction}
+use Rattle.tm_trees.specs.Instructions.instructions as i
 use Rattle.tm_shapes.specs.Accepts.{Asked, Seeds, ends_with, entry_seed, read_by, read_groups, site_of, same_shape}
 use Rattle.tm_shapes.specs.Cells.{AllOnce}
 use Rattle.tm_shapes.specs.Flows.{Flow}

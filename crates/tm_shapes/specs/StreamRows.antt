@@ -1,9 +1,8 @@
 -- Streams for rows.
 use Rattle.std.specs.Prelude.{ℕ, pos, List, [], ◌∷◌, ◌++◌, Some, None, Bool, true, false, codes}
 use Rattle.tm_values.specs.Val.{Val, boolean, number, list, text, vals_of}
-use Rattle.tm_syntax.specs.declared.instruction.LoopFlags.{LoopFlags}
-use Rattle.tm_syntax.specs.declared.instruction.Instruction.{Instruction}
-use Rattle.tm_syntax.specs.declared.instruction.Instruction.TheVariants as i
+use Rattle.tm_trees.specs.Instructions.{LoopFlags, Instruction}
+use Rattle.tm_trees.specs.Instructions.instructions as i
 
 abbrev pub looping : Bool → LoopFlags
 looping recursive = record { variable = true; recursive = recursive }

@@ -43,7 +43,7 @@ impl Model for Verified {
     ghost use Rattle.tm_shapes.specs.Accepts.{accepts};
     ghost use Rattle.tm_syntax.specs.Entries.{entries};
     ghost use Rattle.tm_syntax.specs.Loops.{loop_places};
-    ghost use Rattle.tm_syntax.specs.declared.instruction.Instruction.{Instruction as Made};
+    ghost use Rattle.tm_trees.specs.Instructions.{Instruction as Made};
 
     ghost Value = { List Made };
 

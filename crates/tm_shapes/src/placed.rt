@@ -1,7 +1,7 @@
 //! What is tested at every instruction of a stream, reached or not.
 ghost use Rattle.std.specs.Prelude.{◌≡◌, ◌&&◌, IfOk, MatchOption, List, false, length, true};
 ghost use Rattle.tm_shapes.specs.declared.before.Before.TheVariants.{Nothing};
-ghost use Rattle.tm_syntax.specs.declared.instruction.Instruction.{Instruction as Made};
+ghost use Rattle.tm_trees.specs.Instructions.{Instruction as Made};
 ghost use Rattle.tm_shapes.specs.CacheNames.{CachesRefused, CachesTaken, names_of, no_names, taken, told};
 ghost use Rattle.tm_shapes.specs.Marks.{AreMarks, MarkEntered, is_among, with_mark};
 ghost use Rattle.tm_shapes.specs.Placed.{before_next, build_fits, caches_fit, filters_in, parts_fit, target, targets_within, tests_in};

@@ -12,7 +12,7 @@ ghost use Rattle.tm_shapes.specs.Sites.{IsSite};
 ghost use Rattle.tm_shapes.specs.Told.{Tells, TellsWay};
 ghost use Rattle.tm_shapes.specs.declared.cells.Cell.{Cell as Celled};
 ghost use Rattle.tm_shapes.specs.declared.refusal.Refusal.TheVariants.{BadStream};
-ghost use Rattle.tm_syntax.specs.declared.instruction.Instruction.{Instruction};
+ghost use Rattle.tm_trees.specs.Instructions.{Instruction};
 
 use crate::cells::Cells;
 use crate::flow::{Flow, Way, flow_of};

@@ -3,17 +3,13 @@ use Rattle.std.proofs.Common.{◌≡◌, ℕ, zero, suc, ◌+◌, Bool, List, []
 use Rattle.std.proofs.Common.{true, false, refl, sym, ap, ◌∙◌, subst, arith, length-append}
 use Rattle.std.specs.Prelude.{slice_get}
 use Rattle.tm_values.specs.Val.{Val}
-use Rattle.tm_syntax.specs.declared.tree.UnaryOperator.{UnaryOperator}
-use Rattle.tm_syntax.specs.declared.tree.UnaryOperator.TheVariants as unaries
-use Rattle.tm_syntax.specs.declared.tree.BinaryOperator.{BinaryOperator}
-use Rattle.tm_syntax.specs.declared.tree.BinaryOperator.TheVariants as binaries
-use Rattle.tm_syntax.specs.declared.tree.Expr.{Row_of-Argument}
-use Rattle.tm_syntax.specs.declared.tree.Expr.{Row_of-Keyword}
-use Rattle.tm_syntax.specs.declared.tree.Application.{Application}
+use Rattle.tm_trees.specs.Trees.{UnaryOperator, BinaryOperator, Row_of-Argument, Row_of-Keyword, Application}
+use Rattle.tm_trees.specs.Trees.unaries
+use Rattle.tm_trees.specs.Trees.binaries
 use Rattle.tm_syntax.specs.CacheNumbers.{no_cache}
-use Rattle.tm_syntax.specs.declared.tree.Application.TheVariants as applications
-use Rattle.tm_syntax.specs.declared.instruction.Instruction.{Instruction}
-use Rattle.tm_syntax.specs.declared.instruction.Instruction.TheVariants as i
+use Rattle.tm_trees.specs.Trees.applications
+use Rattle.tm_trees.specs.Instructions.{Instruction}
+use Rattle.tm_trees.specs.Instructions.instructions as i
 use Rattle.tm_syntax.specs.Code.{RowEnd, row_end, together, count, count_lists, count_maps, count_by}
 use Rattle.tm_syntax.specs.Code.{unary_code, binary_code, application_code, list_of_row, map_of_row, merged_code, merging, passing_by}
 use Rattle.tm_syntax.specs.Code.{has_spread_keyword}

@@ -3,10 +3,8 @@ use Rattle.std.proofs.Common.{◌≡◌, ℕ, zero, suc, ◌+◌, ◌⊎◌, Lis
 use Rattle.std.proofs.Common.{sym, ap, subst, ◌∙◌, arith}
 use Rattle.std.specs.Prelude.{slice_get}
 use Rattle.std.proofs.lemmas.List.{append-nil}
-use Rattle.tm_syntax.specs.declared.instruction.Instruction.{Instruction}
-use Rattle.tm_syntax.specs.declared.instruction.Instruction.TheVariants as i
-use Rattle.tm_syntax.specs.declared.instruction.LoopFlags.{LoopFlags}
-use Rattle.tm_syntax.specs.declared.instruction.LoopPlace.{LoopPlace}
+use Rattle.tm_trees.specs.Instructions.{Instruction, LoopFlags, LoopPlace}
+use Rattle.tm_trees.specs.Instructions.instructions as i
 use Rattle.tm_syntax.specs.declared.jump.JumpKind.{JumpKind}
 use Rattle.tm_syntax.specs.declared.jump.JumpKind.TheVariants.{IfFalse}
 use Rattle.tm_syntax.specs.Code.{for_flags, target_code, parameters_code, statements_code}
@@ -14,7 +12,7 @@ use Rattle.tm_syntax.specs.Loops.{begins, with_place, loop_places, Numbers, with
 use Rattle.tm_syntax.specs.Fragments.{Fragment, straight, ◌⨾◌, jump_out, bounded, fork, looped, break_loop, next_round, declares}
 use Rattle.tm_syntax.specs.Fragments.{MacroHead, after_body, beyond, Labels, outward, inward, jump, assemble, ending_at, over, either}
 use Rattle.tm_syntax.proofs.Standing.{HasAt, At, beyond_is}
-use Rattle.tm_simulation.proofs.Counts.{Plain, Loopless, plain, jump_none, none_loops, after_loops, none_places}
+use Rattle.tm_simulation.proofs.Counts.{Unbegun, Loopless, plain, jump_none, none_loops, after_loops, none_places}
 use Rattle.tm_simulation.proofs.Counts.{one_loop_more, counted, counted_none, Has, it, front, back}
 use Rattle.tm_simulation.proofs.Entries.{entered, entered_none, Counts}
 
@@ -98,7 +96,7 @@ IsEntered all m e = (e.1 ≡ length m.parameters) × Stands all m e.0
 -- ---------------------------------------------------------------- what code begins
 -- Wherever this code stands after so many loops and macros, these are its loops and its macros, and so many stand before what follows it.
 pub record Begins (at : Numbers) (c : Fragment) (ls : List FoundLoop) (ms : List FoundMacro) (to : Numbers) : Type 0 where
-  pub plain_code : Plain c
+  pub plain_code : Unbegun c
   pub number : counted at c ≡ to
   pub found : (all : List Instruction) (l : Labels) (pc : ℕ) → At all l pc c → Counts all at pc c →
       Paired (IsAt all) ls (loop_places pc (assemble l pc c))

@@ -3,8 +3,8 @@ use Rattle.std.proofs.Common.{◌≡◌, ℕ, suc, ◌+◌, ◌<◌, List, [], �
 use Rattle.std.specs.Prelude.{slice_get, ◌&&◌}
 use Rattle.tm_values.specs.Val.{Val, text}
 use Rattle.tm_values.specs.declared.escape.AutoEscape.{AutoEscape}
-use Rattle.tm_syntax.specs.declared.instruction.CaptureMode.TheVariants.{Capture}
-use Rattle.tm_syntax.specs.declared.instruction.Instruction.TheVariants as i
+use Rattle.tm_trees.specs.Instructions.modes.{Capture}
+use Rattle.tm_trees.specs.Instructions.instructions as i
 use Rattle.tm_meaning.specs.World.{choose, World, Res, Good, Bad, bind, tick, ticked, captured_text, is_escaping}
 use Rattle.tm_meaning.specs.Calls.{whole, NestedCall, enter_block, block_call}
 use Rattle.tm_meaning.specs.Meaning.{Run, Outcome, Ending, done, leave, next, fault, Under, so_far, use_it, after, in_place_of, block_tag}

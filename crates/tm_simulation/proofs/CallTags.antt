@@ -3,10 +3,8 @@ use Rattle.std.proofs.Common.{◌≡◌, ℕ, suc, ◌+◌, List, [], ◌∷◌,
 use Rattle.std.proofs.Common.{length-append, eqb-true}
 use Rattle.std.specs.Prelude.{codes}
 use Rattle.tm_values.specs.Val.{Val, text}
-use Rattle.tm_syntax.specs.declared.tree.Expr.{Expr, Call', Row_of-Argument, Row_of-Keyword, Row_of-Step, end_of-Step as no_step}
-use Rattle.tm_syntax.specs.declared.tree.Expr.{more_of-Step as step}
-use Rattle.tm_syntax.specs.declared.tree.Step.{Step, Apply', Call' as Called}
-use Rattle.tm_syntax.specs.declared.instruction.Instruction.TheVariants as i
+use Rattle.tm_trees.specs.Trees.{Expr, Call', Row_of-Argument, Row_of-Keyword, Row_of-Step, no_step, step, Step, Apply', Called}
+use Rattle.tm_trees.specs.Instructions.instructions as i
 use Rattle.tm_syntax.specs.Forms.{chained}
 use Rattle.tm_syntax.specs.Code.{caller_end, rows_of, together, count, count_maps, has_spread, passed_count, merging}
 use Rattle.tm_syntax.specs.Code.{expr_code, arguments_code, lists_code, keywords_code, step_code, passing_code, called_alone, step_call_code}

@@ -4,7 +4,7 @@ use Rattle.tm_values.specs.Answer.{Answer}
 use Rattle.tm_values.specs.Records.{RecordData, namespace_at}
 use Rattle.tm_values.specs.Val.{Val, undefined, none, boolean, number, text, list, map, keywords, exports, function, macro, loop, namespace}
 use Rattle.tm_values.specs.Val.{Vals, no_vals, val, Pairs, no_pairs, pair}
-use Rattle.tm_syntax.specs.declared.tree.Application.TheVariants as applications
+use Rattle.tm_trees.specs.Trees.applications
 use Rattle.tm_definitions.specs.Emitted.{map_ok}
 use Rattle.tm_definitions.specs.Mapped.{NamespaceValues, with_ok, mapped, mapped_items, mapped_pairs, namespace_mapped, with_maps}
 use Rattle.tm_definitions.specs.Printed.{entered}

@@ -2,9 +2,8 @@
 use Rattle.std.proofs.Common.{◌≡◌, ℕ, zero, suc, ◌+◌, List, [], ◌∷◌, Option, Some, None, Bool, true, false, refl}
 use Rattle.std.proofs.Common.{ap, ◌∙◌, arith}
 use Rattle.std.specs.Prelude.{slice_get}
-use Rattle.tm_syntax.specs.declared.instruction.Instruction.{Instruction}
-use Rattle.tm_syntax.specs.declared.instruction.Instruction.TheVariants as i
-use Rattle.tm_syntax.specs.declared.instruction.LoopFlags.{LoopFlags}
+use Rattle.tm_trees.specs.Instructions.{Instruction, LoopFlags}
+use Rattle.tm_trees.specs.Instructions.instructions as i
 use Rattle.tm_syntax.specs.declared.jump.JumpKind.{JumpKind}
 use Rattle.tm_syntax.specs.declared.jump.JumpKind.TheVariants.{IfFalse, IfFalseOrPop, IfTrueOrPop}
 use Rattle.tm_syntax.specs.Loops.{begins, with_place, one_more_loop, loops_before, loop_places, Numbers, within_macro}
@@ -46,16 +45,16 @@ NoneBegins [] = Unit {0}
 NoneBegins (x ∷ is) = (is_simple x ≡ true) × NoneBegins is
 
 -- code whose loops and macros are its own parts
-abbrev pub Plain : Fragment → Type 0
-Plain (straight is) = NoneBegins is
-Plain (c ⨾ d) = Plain c × Plain d
-Plain (jump_out j) = Unit {0}
-Plain (bounded c) = Plain c
-Plain (fork c d) = Plain c × Plain d
-Plain (looped g c d) = Plain c × Plain d
-Plain break_loop = Unit {0}
-Plain next_round = Unit {0}
-Plain (declares m c) = Plain c
+abbrev pub Unbegun : Fragment → Type 0
+Unbegun (straight is) = NoneBegins is
+Unbegun (c ⨾ d) = Unbegun c × Unbegun d
+Unbegun (jump_out j) = Unit {0}
+Unbegun (bounded c) = Unbegun c
+Unbegun (fork c d) = Unbegun c × Unbegun d
+Unbegun (looped g c d) = Unbegun c × Unbegun d
+Unbegun break_loop = Unit {0}
+Unbegun next_round = Unit {0}
+Unbegun (declares m c) = Unbegun c
 
 -- and code that has none
 abbrev pub Loopless : Fragment → Type 0
@@ -69,7 +68,7 @@ Loopless break_loop = Unit {0}
 Loopless next_round = Unit {0}
 Loopless (declares m c) = ⊥
 
-pub plain : (c : Fragment) → Loopless c → Plain c
+pub plain : (c : Fragment) → Loopless c → Unbegun c
 plain (straight is) h = h
 plain (c ⨾ d) h = (plain c h.0, plain d h.1)
 plain (jump_out j) h = tt
@@ -127,7 +126,7 @@ building_uncached : (xs : List (List ℕ)) (m : MacroHead) (place : ℕ) → All
 building_uncached [] m place = (refl, (refl, (refl, tt)))
 building_uncached (x ∷ xs) m place = (refl, building_uncached xs m place)
 
-pub plain_uncached : (l : Labels) (pc : ℕ) (c : Fragment) → Plain c → AllUncached (assemble l pc c)
+pub plain_uncached : (l : Labels) (pc : ℕ) (c : Fragment) → Unbegun c → AllUncached (assemble l pc c)
 plain_uncached l pc (straight is) h = none_cached is h
 plain_uncached l pc (c ⨾ d) h =
     both_uncached (assemble l pc c) (assemble l (beyond pc c) d) (plain_uncached l pc c h.0) (plain_uncached l (beyond pc c) d h.1)
@@ -228,7 +227,7 @@ counted_none at break_loop h = refl
 counted_none at next_round h = refl
 counted_none at (declares m c) h = absurd h
 
-pub loops_counted : (all : List Instruction) (l : Labels) (at : Numbers) (pc : ℕ) (c : Fragment) → At all l pc c → Plain c →
+pub loops_counted : (all : List Instruction) (l : Labels) (at : Numbers) (pc : ℕ) (c : Fragment) → At all l pc c → Unbegun c →
     loops_before pc all ≡ at.loops → loops_before (beyond pc c) all ≡ (counted at c).loops
 loops_counted all l at pc (straight is) h p e = loops_kept all pc at.loops is (none_loops is p) h e
 loops_counted all l at pc (c ⨾ d) h p e =

@@ -2,13 +2,9 @@
 use Rattle.std.proofs.Common.{ℕ, List, [], ◌∷◌, ◌++◌, Option, Some, None, Bool, false}
 use Rattle.std.specs.Prelude.{codes}
 use Rattle.tm_values.specs.Val.{Val, text}
-use Rattle.tm_syntax.specs.declared.tree.Expr.{Expr, Call', Row_of-Argument, Row_of-Keyword, Row_of-Step, end_of-Step as no_step}
-use Rattle.tm_syntax.specs.declared.tree.Expr.{more_of-Step as step}
-use Rattle.tm_syntax.specs.declared.tree.Step.{Step, Apply', Call' as Called}
+use Rattle.tm_trees.specs.Trees.{Expr, Call', Row_of-Argument, Row_of-Keyword, Row_of-Step, no_step, step, Step, Apply', Called, Parameter, To}
 use Rattle.tm_syntax.specs.Forms.{chained}
 use Rattle.tm_syntax.specs.Code.{has_spread}
-use Rattle.tm_syntax.specs.declared.tree.Parameter.{Parameter}
-use Rattle.tm_syntax.specs.declared.tree.AssignmentTarget.{Name as To}
 use Rattle.tm_syntax.specs.Fragments.{MacroHead}
 use Rattle.tm_meaning.specs.World.{World, HostValue, has_enclosed, looked_up, own_closure, enclose, make_macro}
 use Rattle.tm_meaning.specs.Calls.{Callee, applied}

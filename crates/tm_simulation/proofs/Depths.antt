@@ -2,7 +2,7 @@
 use Rattle.std.proofs.Common.{ℕ, ◌+◌, List, [], ◌∷◌, Bool, true, Ok, Err}
 use Rattle.tm_values.specs.Answer.{Answer}
 use Rattle.tm_values.specs.Val.{Val}
-use Rattle.tm_syntax.specs.declared.tree.Application.TheVariants as applications
+use Rattle.tm_trees.specs.Trees.applications
 use Rattle.tm_meaning.specs.World.{World, HostValue, Res, Good, Bad, answered, emitted}
 use Rattle.tm_meaning.specs.Calls.{Callee, apply_filter, perform_test, whole}
 use Rattle.tm_meaning.specs.Tree.{Trees, statements, empty}

@@ -9,15 +9,15 @@ use Rattle.std.specs.Ordering.{nat_cmp}
 use Rattle.std.proofs.lemmas.List.{append-nil}
 use Rattle.tm_values.specs.Val.{text}
 use Rattle.tm_values.proofs.Lists.{list_of-vals_of}
-use Rattle.tm_syntax.specs.declared.instruction.Instruction.{Instruction}
-use Rattle.tm_syntax.specs.declared.instruction.Instruction.TheVariants as i
+use Rattle.tm_trees.specs.Instructions.{Instruction}
+use Rattle.tm_trees.specs.Instructions.instructions as i
 use Rattle.tm_syntax.specs.Loops.{loops_before, Numbers, first_numbers, within_macro}
 use Rattle.tm_syntax.specs.Fragments.{Fragment, straight, ◌⨾◌, jump_out, bounded, fork, looped, break_loop, next_round, declares}
 use Rattle.tm_syntax.specs.Fragments.{MacroHead, name_list, building, after_body, beyond, Labels, outward, inward, jump}
 use Rattle.tm_syntax.specs.Fragments.{assemble, ending_at, whole_labels, assembled}
 use Rattle.tm_syntax.specs.Entries.{Entries, entries_from, entries, entry_number, name_count}
 use Rattle.tm_syntax.proofs.Standing.{At, AtWhere, beyond_is, beyond_all_is, stands_whole}
-use Rattle.tm_simulation.proofs.Counts.{builds, simple_builds, NoneBegins, Plain, Loopless, jump_none, marked_so, Has, after_one}
+use Rattle.tm_simulation.proofs.Counts.{builds, simple_builds, NoneBegins, Unbegun, Loopless, jump_none, marked_so, Has, after_one}
 use Rattle.tm_simulation.proofs.Counts.{one_begins, one_loop_more, counted, counted_none, loops_counted, it, front, back}
 
 -- ---------------------------------------------------------------- where macros are entered
@@ -220,7 +220,7 @@ declares_adds a m pc to new later f = λ es up b rest.
           ∙ ap (λ k. entries_from k None rest) (insert_between es new pc (length m.parameters) up later),
     )
 
-entered_adds : (l : Labels) (pc : ℕ) (c : Fragment) → Plain c → Adds (assemble l pc c) pc (entered pc c)
+entered_adds : (l : Labels) (pc : ℕ) (c : Fragment) → Unbegun c → Adds (assemble l pc c) pc (entered pc c)
 entered_adds l pc (straight is) h = adds_none is pc h
 entered_adds l pc (c ⨾ d) h =
     adds_both (assemble l pc c) (assemble l (beyond pc c) d) pc (beyond pc c) (entered pc c) (entered (beyond pc c) d) (grows pc c)
@@ -255,7 +255,7 @@ entered_adds l pc (declares m c) h =
     (entered_adds (ending_at end) (pc + 1) c h)
 
 -- a stream's entries are those of its code
-pub entries_are : (c : Fragment) → Plain c → entries (assembled c) ≡ entered 0 c
+pub entries_are : (c : Fragment) → Unbegun c → entries (assembled c) ≡ entered 0 c
 entries_are c h =
     let a = entered_adds (whole_labels c) 0 c h [] tt None [] in
     ap entries (sym (append-nil (assembled c))) ∙ a.1
@@ -301,7 +301,7 @@ before_it (e ∷ es) pc n rest h =
     rw (b, before_it es pc n rest h.1) (omega arith)
 
 -- Code stands among the entries of its stream.
-counts_by : (all : List Instruction) (l : Labels) (at : Numbers) (pc : ℕ) (c : Fragment) → At all l pc c → Plain c →
+counts_by : (all : List Instruction) (l : Labels) (at : Numbers) (pc : ℕ) (c : Fragment) → At all l pc c → Unbegun c →
     loops_before pc all ≡ at.loops → (before after : Entries) → entries all ≡ before ++ (entered pc c ++ after) →
     length before ≡ at.macros → UpTo pc before → Counts all at pc c
 counts_by all l at pc (straight is) h p e before after es n up = tt
@@ -364,7 +364,7 @@ counts_by all l at pc (declares m c) h p e before after es n up =
           (up_to_both (pc + 1) before here (up_to_more pc (pc + 1) before (omega arith) up) (omega arith, tt)),
     )
 
-pub counts_whole : (c : Fragment) → Plain c → Counts (assembled c) first_numbers 0 c
+pub counts_whole : (c : Fragment) → Unbegun c → Counts (assembled c) first_numbers 0 c
 counts_whole c p =
     counts_by (assembled c) (whole_labels c) first_numbers 0 c (stands_whole c) p refl [] []
     (entries_are c p ∙ sym (append-nil (entered 0 c))) refl tt

@@ -5,25 +5,14 @@ use Rattle.std.specs.Prelude.{if◌then◌else◌}
 use Rattle.tm_values.specs.Answer.{invalid}
 use Rattle.tm_values.specs.Val.{Val, text}
 use Rattle.tm_values.specs.declared.error.ErrorKind.{ErrorKind}
-use Rattle.tm_syntax.specs.declared.tree.UnaryOperator.{UnaryOperator}
-use Rattle.tm_syntax.specs.declared.tree.UnaryOperator.TheVariants as unaries
-use Rattle.tm_syntax.specs.declared.tree.BinaryOperator.{BinaryOperator}
-use Rattle.tm_syntax.specs.declared.tree.BinaryOperator.TheVariants as binaries
-use Rattle.tm_syntax.specs.declared.tree.Expr.{Expr, Var, Const, List', Tuple', Map', Call', SelfBlock, Row_of-Expr, end_of-Expr as no_expr}
-use Rattle.tm_syntax.specs.declared.tree.Expr.{more_of-Expr as expr, Row_of-Pair, end_of-Pair as no_pair}
-use Rattle.tm_syntax.specs.declared.tree.Expr.{Row_of-Argument, end_of-Argument as no_argument, more_of-Argument as argument}
-use Rattle.tm_syntax.specs.declared.tree.Expr.{Row_of-Keyword, end_of-Keyword as no_keyword, more_of-Keyword as keyword_and, Row_of-Step}
-use Rattle.tm_syntax.specs.declared.tree.Expr.{end_of-Step as no_step, more_of-Step as step, Row_of-Condition}
-use Rattle.tm_syntax.specs.declared.tree.Expr.{end_of-Condition as no_condition}
-use Rattle.tm_syntax.specs.declared.tree.Argument.{Argument}
-use Rattle.tm_syntax.specs.declared.tree.Application.{Application}
-use Rattle.tm_syntax.specs.declared.tree.Application.TheVariants as applications
-use Rattle.tm_syntax.specs.declared.tree.Step.{Step, Attribute, Apply', Call' as Called, Row_of-Comparison}
-use Rattle.tm_syntax.specs.declared.tree.Step.{end_of-Comparison as no_comparison}
-use Rattle.tm_syntax.specs.declared.tree.AssignmentTarget.{AssignmentTarget, Name as To, Unpack' as Items, Attribute as Member}
-use Rattle.tm_syntax.specs.declared.tree.AssignmentTarget.{Row_of-AssignmentTarget}
-use Rattle.tm_syntax.specs.declared.tree.AssignmentTarget.{end_of-AssignmentTarget as no_target, more_of-AssignmentTarget as target}
-use Rattle.tm_syntax.specs.declared.tree.Assignment.{Assignment}
+use Rattle.tm_trees.specs.Trees.{UnaryOperator, BinaryOperator, Expr, Var, Const, List', Tuple', Map', Call', SelfBlock, Row_of-Expr, no_expr, expr}
+use Rattle.tm_trees.specs.Trees.{Row_of-Pair, no_pair, Row_of-Argument, no_argument, argument, Row_of-Keyword, no_keyword, keyword_and, Row_of-Step}
+use Rattle.tm_trees.specs.Trees.{no_step, step, Row_of-Condition, no_condition, Argument, Application, Step, Attribute, Apply', Called}
+use Rattle.tm_trees.specs.Trees.{Row_of-Comparison, no_comparison, AssignmentTarget, To, Items, Member, Row_of-AssignmentTarget, no_target, target}
+use Rattle.tm_trees.specs.Trees.{Assignment}
+use Rattle.tm_trees.specs.Trees.unaries
+use Rattle.tm_trees.specs.Trees.binaries
+use Rattle.tm_trees.specs.Trees.applications
 use Rattle.tm_syntax.specs.Code.{pass_flags, count_targets, has_spread, has_spread_keyword}
 use Rattle.tm_syntax.specs.Forms.{unary, chained, conditional, with_condition, with_comparison, with_pair, plain, spread, keyword}
 use Rattle.tm_syntax.specs.Forms.{spread_keywords, item, slice, binary, compare, and_then, or_else}

@@ -2,16 +2,11 @@
 use Rattle.std.proofs.Common.{ℕ, ◌+◌, List, [], Option, Some, None, Bool, true, false, nat_lt, refl}
 use Rattle.tm_values.specs.Val.{Val, undefined}
 use Rattle.tm_values.specs.declared.error.ErrorKind.TheVariants.{InvalidOperation}
-use Rattle.tm_syntax.specs.declared.tree.CaptureUse.{CaptureUse}
-use Rattle.tm_syntax.specs.declared.tree.CaptureUse.TheVariants as uses
-use Rattle.tm_syntax.specs.declared.tree.Stmt.{Stmt, EmitRaw, EmitExpr, EmitLoop, EmitBlock, EmitSuper, If', For', Break, Continue, Block'}
-use Rattle.tm_syntax.specs.declared.tree.Stmt.{Extends, Set, CaptureBlock', With', Do, AutoEscape', Macro', CallBlock', Row_of-Stmt}
-use Rattle.tm_syntax.specs.declared.tree.Stmt.{Include, Import, FromImport}
-use Rattle.tm_syntax.specs.declared.tree.Stmt.{end_of-Stmt as no_statement}
-use Rattle.tm_syntax.specs.declared.tree.Stmt.{more_of-Stmt as statement}
-use Rattle.tm_syntax.specs.declared.tree.AssignmentTarget.{Name as To}
+use Rattle.tm_trees.specs.Trees.{CaptureUse, Stmt, EmitRaw, EmitExpr, EmitLoop, EmitBlock, EmitSuper, If', For', Break, Continue, Block', Extends}
+use Rattle.tm_trees.specs.Trees.{Set, CaptureBlock', With', Do, AutoEscape', Macro', CallBlock', Row_of-Stmt, Include, Import, FromImport}
+use Rattle.tm_trees.specs.Trees.{no_statement, statement, To, Otherwise, no_else, otherwise}
+use Rattle.tm_trees.specs.Trees.uses
 use Rattle.tm_syntax.specs.Code.{macro_head}
-use Rattle.tm_syntax.specs.declared.tree.Stmt.{Held-Stmt-If-2 as Otherwise, None' as no_else, Some' as otherwise}
 use Rattle.tm_syntax.specs.Loops.{Numbers, passes, within_loop, past, pasts, FoundLoop, FoundMacro}
 use Rattle.tm_meaning.specs.World.{World, answered, tick, pop, depth, emitted, escape_for, with_escape, captured_text}
 use Rattle.tm_meaning.specs.World.{plain_scope}

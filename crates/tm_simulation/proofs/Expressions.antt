@@ -3,17 +3,11 @@ use Rattle.std.proofs.Common.{◌≡◌, Bool, ℕ, ◌+◌, List, [], ◌∷◌
 use Rattle.std.proofs.Common.{false, refl, sym, subst, arith, length-append}
 use Rattle.std.specs.Prelude.{slice_get}
 use Rattle.tm_values.specs.Val.{Val, text}
-use Rattle.tm_syntax.specs.declared.tree.BinaryOperator.{BinaryOperator}
-use Rattle.tm_syntax.specs.declared.tree.Expr.{Expr, Var, Const, List', Tuple', Map', Call', SelfBlock, Row_of-Expr, end_of-Expr as no_expr}
-use Rattle.tm_syntax.specs.declared.tree.Expr.{more_of-Expr as expr, Row_of-Pair, end_of-Pair as no_pair}
-use Rattle.tm_syntax.specs.declared.tree.Expr.{Row_of-Argument, end_of-Argument as no_argument, more_of-Argument as argument}
-use Rattle.tm_syntax.specs.declared.tree.Expr.{Row_of-Keyword, end_of-Keyword as no_keyword, more_of-Keyword as keyword_and, Row_of-Step}
-use Rattle.tm_syntax.specs.declared.tree.Expr.{end_of-Step as no_step, more_of-Step as step_and, Row_of-Condition}
-use Rattle.tm_syntax.specs.declared.tree.Expr.{end_of-Condition as no_condition}
-use Rattle.tm_syntax.specs.declared.tree.Argument.{Argument}
-use Rattle.tm_syntax.specs.declared.tree.Step.{Step, Attribute, Apply', Call' as Called, Row_of-Comparison}
-use Rattle.tm_syntax.specs.declared.tree.Step.{end_of-Comparison as no_comparison}
-use Rattle.tm_syntax.specs.declared.instruction.Instruction.TheVariants as i
+use Rattle.tm_trees.specs.Trees.{BinaryOperator, Expr, Var, Const, List', Tuple', Map', Call', SelfBlock, Row_of-Expr, no_expr, expr, Row_of-Pair}
+use Rattle.tm_trees.specs.Trees.{no_pair, Row_of-Argument, no_argument, argument, Row_of-Keyword, no_keyword, keyword_and, Row_of-Step, no_step}
+use Rattle.tm_trees.specs.Trees.{step as step_and, Row_of-Condition, no_condition, Argument, Step, Attribute, Apply', Called, Row_of-Comparison}
+use Rattle.tm_trees.specs.Trees.{no_comparison}
+use Rattle.tm_trees.specs.Instructions.instructions as i
 use Rattle.tm_syntax.specs.Forms.{unary, chained, conditional, with_condition, with_comparison, with_pair, plain, spread, keyword}
 use Rattle.tm_syntax.specs.Forms.{spread_keywords, item, slice, binary, compare, and_then, or_else}
 use Rattle.tm_syntax.specs.Code.{row_end, together, count, count_maps, count_exprs, count_pairs, passed_count}

@@ -4,7 +4,7 @@ use Rattle.tm_values.specs.Answer.{Answer}
 use Rattle.tm_values.specs.Val.{Val}
 use Rattle.tm_values.specs.declared.error.ErrorKind.{ErrorKind}
 use Rattle.tm_values.specs.declared.error.ErrorKind.TheVariants.{InvalidOperation}
-use Rattle.tm_syntax.specs.declared.instruction.LoopFlags.{LoopFlags}
+use Rattle.tm_trees.specs.Instructions.{LoopFlags}
 use Rattle.tm_syntax.specs.Code.{for_flags}
 use Rattle.tm_meaning.specs.World.{choose, World, HostValue, Scope, loop_scope, next_turn, cleared, Res, Good, Bad, bind, answered, can_be_paid, charged}
 use Rattle.tm_meaning.specs.World.{with_fuel, tick, pop, depth, ticked, top_mark, turned_of}

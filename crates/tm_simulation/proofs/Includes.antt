@@ -1,9 +1,7 @@
 -- What statements keep that run another template, and of which kinds their faults are.
 use Rattle.std.proofs.Common.{◌≡◌, ℕ, List, [], ◌∷◌, Bool, true, false, nat_lt}
 use Rattle.tm_values.specs.Val.{Val, undefined}
-use Rattle.tm_syntax.specs.declared.tree.Expr.{Expr}
-use Rattle.tm_syntax.specs.declared.tree.AssignmentTarget.{AssignmentTarget}
-use Rattle.tm_syntax.specs.declared.tree.Imported.{Imported}
+use Rattle.tm_trees.specs.Trees.{Expr, AssignmentTarget, Imported}
 use Rattle.tm_meaning.specs.World.{World, HostValue, Scope, Res, bind, tick, pop, depth, plain_scope, looked_up, module_of}
 use Rattle.tm_meaning.specs.Calls.{Callee}
 use Rattle.tm_meaning.specs.Meaning.{Run, Outcome, Ending, done, leave, next, fault, Under, eval, capturing, assign, give, include}

@@ -15,9 +15,7 @@ use Rattle.tm_meaning.specs.Runs.{over, under, again_of, done_by}
 use Rattle.tm_meaning.specs.Meaning.{after, in_place_of, block_tag, audible, none_waits}
 use Rattle.tm_meaning.specs.Runs.{at_end, new_run, nests_of, rendered, chain_in}
 use Rattle.tm_meaning.specs.Meaning.{eval, import, import_names}
-use Rattle.tm_syntax.specs.declared.tree.Expr.{Expr}
-use Rattle.tm_syntax.specs.declared.tree.AssignmentTarget.{AssignmentTarget}
-use Rattle.tm_syntax.specs.declared.tree.Imported.{Imported}
+use Rattle.tm_trees.specs.Trees.{Expr, AssignmentTarget, Imported}
 use Rattle.tm_meaning.specs.Runs.{chain_of, macro_body, macro_run, stream_run, restarting, run_of, failed}
 use Rattle.tm_meaning.specs.Inheritance.{names_left, place_in}
 use Rattle.tm_simulation.specs.Kept.{UnlessFault, Stays, OnlyAdds, EndsThere, PutsBack, GivesBack, LeavesScopes, bare}

@@ -2,7 +2,7 @@
 use Rattle.std.proofs.Common.{◌≡◌, ℕ, zero, suc, ◌+◌, List, [], Bool, true, refl, ap, ◌∙◌, subst, arith}
 use Rattle.tm_values.specs.Val.{Val}
 use Rattle.tm_values.specs.declared.error.ErrorKind.TheVariants.{InvalidOperation}
-use Rattle.tm_syntax.specs.declared.tree.Expr.{Expr}
+use Rattle.tm_trees.specs.Trees.{Expr}
 use Rattle.tm_meaning.specs.World.{World, HostValue, Res, Good, Bad, root_of}
 use Rattle.tm_meaning.specs.declared.stream.StreamId.{StreamId}
 use Rattle.tm_meaning.specs.declared.stream.TemplateId.{TemplateId}

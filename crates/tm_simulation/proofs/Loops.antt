@@ -6,7 +6,7 @@ use Rattle.tm_values.specs.Val.{Val}
 use Rattle.tm_meaning.specs.World.{World, Loop, new_loop, turned, turned_at, turned_of, top_mark, next_turn, top_loop}
 use Rattle.tm_meaning.specs.Machine.{Return, Next}
 use Rattle.tm_meaning.specs.Instructions.{on_loop}
-use Rattle.tm_syntax.specs.declared.instruction.LoopFlags.{LoopFlags}
+use Rattle.tm_trees.specs.Instructions.{LoopFlags}
 use Rattle.tm_meaning.specs.declared.mark.LoopMark.{LoopMark}
 use Rattle.tm_meaning.specs.Meaning.{has_none}
 use Rattle.tm_simulation.specs.Kept.{shape, shapes}

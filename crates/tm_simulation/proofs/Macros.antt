@@ -3,10 +3,8 @@ use Rattle.std.proofs.Common.{◌≡◌, ℕ, ◌+◌, List, [], ◌∷◌, Opti
 use Rattle.std.specs.Prelude.{map as each}
 use Rattle.tm_values.specs.Val.{Val, text, boolean}
 use Rattle.tm_values.proofs.Lists.{list_of-vals_of}
-use Rattle.tm_syntax.specs.declared.tree.Expr.{Expr}
-use Rattle.tm_syntax.specs.declared.tree.Parameter.{Parameter}
-use Rattle.tm_syntax.specs.declared.tree.AssignmentTarget.{Name as To}
-use Rattle.tm_syntax.specs.declared.instruction.Instruction.TheVariants as i
+use Rattle.tm_trees.specs.Trees.{Expr, Parameter, To}
+use Rattle.tm_trees.specs.Instructions.instructions as i
 use Rattle.tm_syntax.specs.Code.{expr_code, default_code, parameter_code, parameters_code}
 use Rattle.tm_syntax.specs.Entries.{entry_number}
 use Rattle.tm_syntax.specs.Fragments.{Fragment, Labels, MacroHead, name_list, building, declares, beyond, beyond_all}

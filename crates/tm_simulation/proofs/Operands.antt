@@ -8,10 +8,8 @@ use Rattle.tm_values.specs.Val.{Val, number, text, vals_of, list_of}
 use Rattle.tm_values.specs.declared.error.ErrorKind.TheVariants.{CannotUnpack}
 use Rattle.tm_definitions.specs.Iteration.{exactly}
 use Rattle.tm_definitions.specs.Arithmetic.{added, number_answer}
-use Rattle.tm_syntax.specs.declared.tree.Expr.{Row_of-Expr, end_of-Expr as no_expr}
-use Rattle.tm_syntax.specs.declared.tree.Expr.{more_of-Expr as expr, Row_of-Pair, end_of-Pair as no_pair}
-use Rattle.tm_syntax.specs.declared.tree.Expr.{Row_of-Argument, end_of-Argument as no_argument, more_of-Argument as argument}
-use Rattle.tm_syntax.specs.declared.tree.Expr.{Row_of-Keyword, end_of-Keyword as no_keyword, more_of-Keyword as keyword_and}
+use Rattle.tm_trees.specs.Trees.{Row_of-Expr, no_expr, expr, Row_of-Pair, no_pair, Row_of-Argument, no_argument, argument, Row_of-Keyword}
+use Rattle.tm_trees.specs.Trees.{no_keyword, keyword_and}
 use Rattle.tm_syntax.specs.Forms.{with_pair, plain, spread, keyword, spread_keywords}
 use Rattle.tm_syntax.specs.Code.{RowEnd, count_maps, has_spread_keyword, merged_count, rows_of, together, count, count_lists, count_exprs}
 use Rattle.tm_syntax.specs.Code.{count_pairs}

@@ -15,10 +15,9 @@ use Rattle.tm_values.specs.declared.undefined.UndefinedBehavior.{UndefinedBehavi
 use Rattle.tm_values.specs.declared.undefined.UndefinedBehavior.TheVariants.{Lenient, Chainable, SemiStrict, Strict}
 use Rattle.tm_values.specs.declared.undefined.UndefinedUse.{UndefinedUse}
 use Rattle.tm_values.specs.declared.undefined.UndefinedUse.TheVariants as use_of
-use Rattle.tm_syntax.specs.declared.tree.UnaryOperator.{UnaryOperator}
-use Rattle.tm_syntax.specs.declared.tree.UnaryOperator.TheVariants as unaries
-use Rattle.tm_syntax.specs.declared.tree.BinaryOperator.{BinaryOperator}
-use Rattle.tm_syntax.specs.declared.tree.BinaryOperator.TheVariants as binaries
+use Rattle.tm_trees.specs.Trees.{UnaryOperator, BinaryOperator}
+use Rattle.tm_trees.specs.Trees.unaries
+use Rattle.tm_trees.specs.Trees.binaries
 use Rattle.tm_definitions.specs.Arithmetic as arithmetic
 use Rattle.tm_definitions.specs.Truth.{truth_of}
 use Rattle.tm_definitions.specs.Comparison.{compared}
@@ -35,7 +34,7 @@ use Rattle.tm_definitions.specs.Printed.{entered}
 use Rattle.tm_definitions.specs.Ranges.{range_of, given, at_most_arguments, required_in, later_in, or_invalid, some_of, bound_in, served}
 use Rattle.tm_definitions.specs.Ranges.{span_of}
 use Rattle.tm_definitions.specs.Ranges.{is_served}
-use Rattle.tm_values.specs.Plain.{fits_json}
+use Rattle.tm_values.specs.Writable.{fits_json}
 use Rattle.tm_definitions.specs.Verdicts.{Verdict, and_then, if_holds, in_json, no_json, loop_verdict, key_verdict}
 use Rattle.tm_definitions.specs.Verdicts.{NamespaceVerdicts}
 use Rattle.tm_definitions.specs.Verdicts.{verdict, items_verdict, pairs_verdict, Way, through, namespace_verdict, print_verdict, nowhere}

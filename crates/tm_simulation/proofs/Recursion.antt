@@ -4,7 +4,7 @@ use Rattle.std.proofs.Common.{true, false, refl, sym, ap, subst, arith, lt-ltb}
 use Rattle.std.specs.Prelude.{slice_get, nat_lt}
 use Rattle.tm_values.specs.Val.{Val, boolean}
 use Rattle.tm_values.specs.declared.error.ErrorKind.TheVariants.{InvalidOperation}
-use Rattle.tm_syntax.specs.declared.instruction.Instruction.TheVariants as i
+use Rattle.tm_trees.specs.Instructions.instructions as i
 use Rattle.tm_syntax.specs.Code.{for_flags}
 use Rattle.tm_syntax.specs.Fragments.{beyond}
 use Rattle.tm_syntax.specs.Fragments.{looped as a_loop}
@@ -25,7 +25,7 @@ use Rattle.tm_meaning.specs.Instructions.{pop_loop_with}
 use Rattle.tm_meaning.specs.Steps.{over as is_over}
 use Rattle.tm_simulation.specs.Kept.{shapes}
 use Rattle.tm_syntax.proofs.Standing.{HasAt, At}
-use Rattle.tm_syntax.specs.declared.instruction.LoopPlace.{LoopPlace}
+use Rattle.tm_trees.specs.Instructions.{LoopPlace}
 use Rattle.tm_syntax.specs.Loops.{FoundLoop}
 use Rattle.tm_simulation.proofs.Begins.{Both, IsAt, Looped}
 use Rattle.tm_simulation.proofs.Entries.{Counts}

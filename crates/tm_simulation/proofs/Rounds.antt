@@ -3,12 +3,10 @@ use Rattle.std.proofs.Common.{◌≡◌, ℕ, ◌+◌, ◌<◌, ◌≤◌, List,
 use Rattle.std.proofs.Common.{true, false, refl, sym, ap, ◌∙◌, subst, arith, lt-ltb}
 use Rattle.std.specs.Prelude.{pos, slice_get, nat_eq, nat_lt}
 use Rattle.tm_values.specs.Val.{Val, boolean, number}
-use Rattle.tm_syntax.specs.declared.tree.BinaryOperator.TheVariants as binaries
-use Rattle.tm_syntax.specs.declared.tree.Expr.{Expr}
-use Rattle.tm_syntax.specs.declared.tree.AssignmentTarget.{AssignmentTarget}
-use Rattle.tm_syntax.specs.declared.tree.Stmt.{Row_of-Stmt}
-use Rattle.tm_syntax.specs.declared.instruction.LoopFlags.{LoopFlags}
-use Rattle.tm_syntax.specs.declared.instruction.Instruction.TheVariants as i
+use Rattle.tm_trees.specs.Trees.binaries
+use Rattle.tm_trees.specs.Trees.{Expr, AssignmentTarget, Row_of-Stmt}
+use Rattle.tm_trees.specs.Instructions.{LoopFlags}
+use Rattle.tm_trees.specs.Instructions.instructions as i
 use Rattle.tm_syntax.specs.Code.{pass_flags}
 use Rattle.tm_syntax.specs.Code.{for_flags}
 use Rattle.tm_syntax.specs.Fragments.{Fragment, ◌⨾◌, straight, Labels, inward, beyond}

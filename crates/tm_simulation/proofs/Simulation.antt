@@ -3,12 +3,12 @@ use Rattle.std.proofs.Common.{◌≡◌, ◌≤◌, ℕ, zero, suc, ◌+◌, inl
 use Rattle.std.proofs.Common.{true, false, refl, sym, ap, ◌∙◌, subst, arith, eq-eqb, eqb-true}
 use Rattle.std.specs.Prelude.{slice_get, nat_eq, option_and_then}
 use Rattle.std.proofs.lemmas.Option.{slice_get_past}
-use Rattle.tm_syntax.specs.declared.instruction.Instruction.{Instruction}
-use Rattle.tm_syntax.specs.declared.instruction.Instruction.TheVariants as i
+use Rattle.tm_trees.specs.Instructions.{Instruction}
+use Rattle.tm_trees.specs.Instructions.instructions as i
 use Rattle.tm_syntax.specs.Fragments.{Fragment, beyond, ending_at, whole_labels, assembled}
 use Rattle.tm_syntax.specs.Blocks.{fragment_of}
 use Rattle.tm_syntax.specs.Code.{expr_code, statements_code, parameters_code}
-use Rattle.tm_syntax.specs.declared.tree.Expr.{Expr}
+use Rattle.tm_trees.specs.Trees.{Expr}
 use Rattle.tm_meaning.specs.World.{choose, root_of, World}
 use Rattle.tm_values.specs.declared.error.ErrorKind.{ErrorKind}
 use Rattle.tm_values.specs.declared.escape.AutoEscape.{AutoEscape}

@@ -3,15 +3,11 @@ use Rattle.std.proofs.Common.{◌≡◌, ℕ, ◌+◌, List, [], ◌∷◌, leng
 use Rattle.std.proofs.Common.{true, false, refl, sym, subst, arith}
 use Rattle.std.specs.Prelude.{slice_get, nat_lt, codes}
 use Rattle.tm_values.specs.Val.{Val, undefined, boolean}
-use Rattle.tm_syntax.specs.declared.tree.Stmt.{Stmt, EmitRaw, EmitExpr, EmitLoop, EmitBlock, EmitSuper, If', For', Break, Continue, Block'}
-use Rattle.tm_syntax.specs.declared.tree.Stmt.{Extends, Set, CaptureBlock', With', Do, AutoEscape', Macro', CallBlock', Row_of-Stmt}
-use Rattle.tm_syntax.specs.declared.tree.Stmt.{Include, Import, FromImport}
-use Rattle.tm_syntax.specs.declared.tree.Stmt.{end_of-Stmt as no_statement}
-use Rattle.tm_syntax.specs.declared.tree.AssignmentTarget.{Name as To}
-use Rattle.tm_syntax.specs.declared.tree.Stmt.{more_of-Stmt as statement, Held-Stmt-If-2 as Otherwise, None' as no_else}
-use Rattle.tm_syntax.specs.declared.tree.Stmt.{Some' as otherwise}
-use Rattle.tm_syntax.specs.declared.instruction.CaptureMode.TheVariants.{Capture}
-use Rattle.tm_syntax.specs.declared.instruction.Instruction.TheVariants as i
+use Rattle.tm_trees.specs.Trees.{Stmt, EmitRaw, EmitExpr, EmitLoop, EmitBlock, EmitSuper, If', For', Break, Continue, Block', Extends, Set}
+use Rattle.tm_trees.specs.Trees.{CaptureBlock', With', Do, AutoEscape', Macro', CallBlock', Row_of-Stmt, Include, Import, FromImport, no_statement}
+use Rattle.tm_trees.specs.Trees.{To, statement, Otherwise, no_else, otherwise}
+use Rattle.tm_trees.specs.Instructions.modes.{Capture}
+use Rattle.tm_trees.specs.Instructions.instructions as i
 use Rattle.tm_syntax.specs.Code.{for_flags, parameters_code, macro_head, call_code, caller_end}
 use Rattle.tm_syntax.specs.Fragments.{◌⨾◌, straight, Labels, outward, beyond, declares, looped as a_loop}
 use Rattle.tm_syntax.specs.Code.{expr_code}

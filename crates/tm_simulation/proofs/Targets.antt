@@ -4,16 +4,10 @@ use Rattle.std.proofs.Common.{true, false, refl, sym, subst, arith, lt-ltb}
 use Rattle.std.specs.Prelude.{slice_get, ◌&&◌, nat_lt}
 use Rattle.tm_values.specs.Val.{Val, undefined}
 use Rattle.tm_values.specs.declared.escape.AutoEscape.{AutoEscape}
-use Rattle.tm_syntax.specs.declared.tree.Expr.{Expr}
-use Rattle.tm_syntax.specs.declared.tree.AssignmentTarget.{AssignmentTarget, Name as To, Unpack' as Items, Attribute as Member}
-use Rattle.tm_syntax.specs.declared.tree.AssignmentTarget.{Row_of-AssignmentTarget}
-use Rattle.tm_syntax.specs.declared.tree.AssignmentTarget.{end_of-AssignmentTarget as no_target, more_of-AssignmentTarget as target}
-use Rattle.tm_syntax.specs.declared.tree.Assignment.{Assignment}
-use Rattle.tm_syntax.specs.declared.tree.CaptureUse.{CaptureUse}
-use Rattle.tm_syntax.specs.declared.tree.CaptureUse.TheVariants as uses
-use Rattle.tm_syntax.specs.declared.tree.Step.{Step}
-use Rattle.tm_syntax.specs.declared.tree.Stmt.{Row_of-Stmt}
-use Rattle.tm_syntax.specs.declared.instruction.Instruction.TheVariants as i
+use Rattle.tm_trees.specs.Trees.{Expr, AssignmentTarget, To, Items, Member, Row_of-AssignmentTarget, no_target, target, Assignment, CaptureUse, Step}
+use Rattle.tm_trees.specs.Trees.{Row_of-Stmt}
+use Rattle.tm_trees.specs.Trees.uses
+use Rattle.tm_trees.specs.Instructions.instructions as i
 use Rattle.tm_syntax.specs.Code.{count_targets, close_all}
 use Rattle.tm_syntax.specs.Fragments.{Labels, beyond_all, beyond}
 use Rattle.tm_syntax.specs.Code.{target_code, targets_code, set_code, assignments_code, filters_code, use_code}

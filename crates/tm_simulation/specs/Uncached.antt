@@ -1,8 +1,8 @@
 -- Code whose names have no cache numbers.
 use Rattle.std.specs.Prelude.{◌≡◌, List, [], ◌∷◌, Bool, true, nat_eq}
 use Rattle.tm_syntax.specs.CacheNumbers.{no_cache, numbered}
-use Rattle.tm_syntax.specs.declared.instruction.Instruction.{Instruction}
-use Rattle.tm_syntax.specs.declared.instruction.Instruction.TheVariants as i
+use Rattle.tm_trees.specs.Instructions.{Instruction}
+use Rattle.tm_trees.specs.Instructions.instructions as i
 use Rattle.tm_meaning.specs.Machine.{Program}
 use Rattle.tm_meaning.specs.declared.stream.StreamId.{StreamId}
 

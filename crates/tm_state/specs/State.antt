@@ -14,7 +14,7 @@ use Rattle.tm_meaning.specs.Runs.{first_fuel}
 use Rattle.tm_meaning.specs.declared.stream.TemplateId.{TemplateId}
 use Rattle.tm_meaning.specs.declared.stream.TemplateId.TheVariants as template_id
 use Rattle.tm_meaning.specs.declared.stream.StreamId.{StreamId}
-use Rattle.tm_syntax.specs.declared.instruction.LoopFlags.{LoopFlags}
+use Rattle.tm_trees.specs.Instructions.{LoopFlags}
 use Rattle.tm_tables.specs.Fuel.{Fuel}
 use Rattle.tm_blocks.specs.Lists.{ListsValue, with_each}
 use Rattle.tm_scopes.specs.Scopes.{exported_of}

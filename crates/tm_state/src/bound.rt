@@ -13,14 +13,14 @@ ghost use Rattle.tm_values.specs.Val.{text, text_in};
 use std::alloc::{AllocError, Global};
 use std::collections::BTreeSet;
 use std::rc::RcStr;
-use tm_values::{Error, ErrorKind, Macro, Node, Value};
+use tm_values::{Error, ErrorKind, MacroValue, Node, Value};
 
 /// The arguments of a macro that is called with these values, of which a keyword map that stands last gives some by
 /// their names, in this room. TooManyArguments where there are too many, one is given twice, or one isn't used;
 /// OutOfMemory.
 pub(crate) fn bind(
     alloc: Global,
-    declared: &Macro,
+    declared: &MacroValue,
     args: &[Value],
     room: Vec<Value>,
 ) -> Result<Vec<Value>, Error>
@@ -143,7 +143,7 @@ fn split_keywords(args: &[Value]) -> (&[Value], Option<&Value>)
 }
 
 /// Whether `caller` is given to a macro that doesn't name it among its arguments.
-pub(crate) fn takes_caller(declared: &Macro) -> bool
+pub(crate) fn takes_caller(declared: &MacroValue) -> bool
     ensures { result ≡ takes_caller declared.now }
 {
     declared.takes_caller() && !is_argument(declared.arguments(), "caller")
@@ -167,7 +167,7 @@ fn is_argument(names: &[RcStr], name: &str) -> bool
 const FEW: usize = 16;
 
 /// Whether a macro uses each value that a keyword map gives it. Fails by OutOfMemory alone.
-fn all_used(alloc: Global, declared: &Macro, keywords: Option<&Value>) -> Result<bool, Error>
+fn all_used(alloc: Global, declared: &MacroValue, keywords: Option<&Value>) -> Result<bool, Error>
     ensures { OkOrOutOfMemory result
         (λ used. used ≡ all_used declared.now (given_in keywords.entry)) }
 {
@@ -183,7 +183,7 @@ fn all_used(alloc: Global, declared: &Macro, keywords: Option<&Value>) -> Result
 }
 
 /// Whether a macro uses each of these values that are given by their keys.
-fn each_used(declared: &Macro, pairs: &[(Value, Value)]) -> bool
+fn each_used(declared: &MacroValue, pairs: &[(Value, Value)]) -> bool
     ensures { result ≡ all_used declared.now pairs.now }
 {
     let mut place = 0;
@@ -197,7 +197,7 @@ fn each_used(declared: &Macro, pairs: &[(Value, Value)]) -> bool
 }
 
 /// Whether a macro uses what is given under a key, which may be no text.
-fn is_used(declared: &Macro, key: Option<&str>) -> bool
+fn is_used(declared: &MacroValue, key: Option<&str>) -> bool
     ensures { result ≡ is_used declared.now (option_copied key.entry) }
 {
     match key {
@@ -222,7 +222,11 @@ fn name_set(alloc: Global, names: &[RcStr]) -> Result<BTreeSet<&str>, AllocError
 }
 
 /// Whether a macro, the names of whose arguments are in a set, uses each of these values that are given by their keys.
-fn each_found<'a>(declared: &Macro, names: &BTreeSet<&'a str>, pairs: &'a [(Value, Value)]) -> bool
+fn each_found<'a>(
+    declared: &MacroValue,
+    names: &BTreeSet<&'a str>,
+    pairs: &'a [(Value, Value)],
+) -> bool
     requires { HoldsNames names.now declared.now.arguments }
     ensures { result ≡ all_used declared.now pairs.now }
 {
@@ -237,7 +241,7 @@ fn each_found<'a>(declared: &Macro, names: &BTreeSet<&'a str>, pairs: &'a [(Valu
 }
 
 /// The same of what is given under a key, which may be no text.
-fn is_found<'a>(declared: &Macro, names: &BTreeSet<&'a str>, key: Option<&'a str>) -> bool
+fn is_found<'a>(declared: &MacroValue, names: &BTreeSet<&'a str>, key: Option<&'a str>) -> bool
     requires { HoldsNames names.now declared.now.arguments }
     ensures { result ≡ is_used declared.now (option_copied key.entry) }
 {

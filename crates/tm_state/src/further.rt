@@ -20,7 +20,7 @@ use tm_meaning::{Call, Reply, RunText, StreamId};
 use tm_printing::to_text;
 use tm_syntax::Name;
 use tm_tables::{CallableAnswer, Called, Host, NO_PLACE};
-use tm_values::{Error, ErrorKind, Macro, Node, Value};
+use tm_values::{Error, ErrorKind, MacroValue, Node, Value};
 
 /// What a further call came to.
 #[derive(Drop)]
@@ -207,7 +207,7 @@ impl StateData {
         &mut self,
         alloc: Global,
         host: &H,
-        declared: &Macro,
+        declared: &MacroValue,
         args: &[Value],
         levels: usize,
         test: bool,

@@ -18,7 +18,7 @@ use std::rc::RcStr;
 use tm_meaning::{RunText, StreamId};
 use tm_syntax::Name;
 use tm_tables::{Context, Found, Host};
-use tm_values::{Error, ErrorKind, Macro, Node, Value};
+use tm_values::{Error, ErrorKind, MacroValue, Node, Value};
 
 /// How deep the outer scope of a macro lies above the call.
 const MACRO_DEPTH: usize = 4;
@@ -104,7 +104,7 @@ impl StateData {
     {
         let stream = self.streams.number_of(&self.stream);
         let text = name.text()?;
-        let declared = Macro::new(text, arguments, caller, self.id(), stream, number, closure);
+        let declared = MacroValue::new(text, arguments, caller, self.id(), stream, number, closure);
         let value = Value::declared(alloc, declared)?;
         self.streams.add(stream, &self.stream)?;
         Ok(value)
@@ -119,7 +119,7 @@ impl StateData {
         &mut self,
         alloc: Global,
         host: &H,
-        declared: &Macro,
+        declared: &MacroValue,
         args: &[Value],
         levels: usize,
         text: RunText,
@@ -157,7 +157,7 @@ impl StateData {
         &mut self,
         alloc: Global,
         host: &H,
-        declared: &Macro,
+        declared: &MacroValue,
         args: &[Value],
         levels: usize,
         text: RunText,
@@ -201,7 +201,7 @@ impl StateData {
     }
 
     /// The stream of a macro, where that and the macro's closure are there.
-    fn known_stream(&self, declared: &Macro) -> Option<&StreamId>
+    fn known_stream(&self, declared: &MacroValue) -> Option<&StreamId>
         ensures { IsLent result (known_stream declared.now self.now) }
     {
         if let Some(number) = declared.closure() {
@@ -215,7 +215,7 @@ impl StateData {
     /// The macro that a name stands for in the scopes, where it stands for one and this state made macros, since others'
     /// can't be called here.
     #[inline(always)]
-    pub fn macro_named(&self, name: &Name) -> Option<&Macro>
+    pub fn macro_named(&self, name: &Name) -> Option<&MacroValue>
         ensures { IfSome result (λ m. (host : HostValue) →
             find_name (view_of host self.now) name.now ≡ Ok (Some (macro m.now))) }
     {
@@ -236,7 +236,7 @@ impl StateData {
         &self,
         alloc: Global,
         host: &H,
-        declared: &Macro,
+        declared: &MacroValue,
         args: &[Value],
         room: Vec<Value>,
     ) -> Option<(&StreamId, Vec<Value>)>
@@ -262,7 +262,7 @@ impl StateData {
     fn macro_scopes(
         &mut self,
         alloc: Global,
-        declared: &Macro,
+        declared: &MacroValue,
         args: &[Value],
         outer: usize,
     ) -> Result<Context, Error>
@@ -281,7 +281,7 @@ impl StateData {
 /// The name `caller` with its value, if the macro takes it and has no argument of that name. Fails by OutOfMemory alone.
 fn caller_of(
     alloc: Global,
-    declared: &Macro,
+    declared: &MacroValue,
     args: &[Value],
 ) -> Result<Option<(Name, Value)>, Error>
     ensures { OkOrOutOfMemory result

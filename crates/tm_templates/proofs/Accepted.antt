@@ -6,9 +6,9 @@ use Rattle.std.specs.List.{AllByRecursion}
 use Rattle.std.specs.Ordering.{match_ordering}
 use Rattle.std.specs.declared.cmp.Ordering.{Ordering}
 use Rattle.std.specs.declared.cmp.Ordering.TheVariants.{Less, Equal, Greater}
-use Rattle.tm_syntax.specs.declared.instruction.Instruction.{Instruction}
-use Rattle.tm_syntax.specs.declared.tree.Tree.{Tree}
-use Rattle.tm_syntax.specs.declared.tree.Tree.TheVariants as trees
+use Rattle.tm_trees.specs.Instructions.{Instruction}
+use Rattle.tm_trees.specs.Trees.{Tree}
+use Rattle.tm_trees.specs.Trees.tree_forms as trees
 use Rattle.tm_syntax.specs.Blocks.{FoundBlock, StreamTree, code_of, statements, stream_blocks, stream_of}
 use Rattle.tm_syntax.specs.CacheNumbers.{numbered}
 use Rattle.tm_syntax.specs.Named.{Named, by_name, find, name_cmp, put, put_each, without}

@@ -6,7 +6,7 @@ use Rattle.tm_syntax.specs.Blocks.{stream_blocks, stream_of}
 use Rattle.tm_shapes.specs.BlockCodes.{compiled_blocks}
 use Rattle.tm_syntax.specs.Named.{Named, by_name, name_cmp, put, put_each}
 use Rattle.tm_shapes.specs.declared.code.BlockCode.{BlockCode}
-use Rattle.tm_syntax.specs.declared.tree.Tree.{Tree}
+use Rattle.tm_trees.specs.Trees.{Tree}
 use Rattle.tm_scopes.specs.Places.{AreOrdered}
 use Rattle.tm_scopes.proofs.Places.{ordered-none, ordered-put}
 use Rattle.tm_templates.specs.Templates.{block_codes}

@@ -3,8 +3,8 @@ use Rattle.std.proofs.Common.{◌≡◌, ℕ, List, [], refl, sym, ap, subst, �
 use Rattle.std.specs.Option.{option_map}
 use Rattle.tm_values.specs.declared.escape.AutoEscape.{AutoEscape}
 use Rattle.tm_delimiters.specs.Syntax.{Syntax}
-use Rattle.tm_syntax.specs.declared.instruction.Instruction.{Instruction}
-use Rattle.tm_syntax.specs.declared.tree.Tree.{Tree}
+use Rattle.tm_trees.specs.Instructions.{Instruction}
+use Rattle.tm_trees.specs.Trees.{Tree}
 use Rattle.tm_syntax.specs.Blocks.{FoundBlock, statements, stream_blocks, stream_of, code_of}
 use Rattle.tm_shapes.specs.BlockCodes.{block_code}
 use Rattle.tm_shapes.specs.declared.code.BlockCode.{BlockCode}

@@ -7,9 +7,9 @@ use Rattle.std.specs.List.{AllByRecursion}
 use Rattle.tm_values.specs.declared.error.ErrorKind.{ErrorKind}
 use Rattle.tm_values.specs.declared.escape.AutoEscape.{AutoEscape}
 use Rattle.tm_values.specs.declared.escape.AutoEscape.TheVariants as escapes
-use Rattle.tm_syntax.specs.declared.tree.Tree.{Tree}
-use Rattle.tm_syntax.specs.declared.tree.Tree.TheVariants as trees
-use Rattle.tm_syntax.specs.declared.instruction.Instruction.{Instruction}
+use Rattle.tm_trees.specs.Trees.{Tree}
+use Rattle.tm_trees.specs.Trees.tree_forms as trees
+use Rattle.tm_trees.specs.Instructions.{Instruction}
 use Rattle.tm_syntax.specs.Blocks.{StreamTree, stream_of, stream_blocks, code_of}
 use Rattle.tm_syntax.specs.Names.{undeclared_in}
 use Rattle.tm_shapes.specs.BlockCodes.{compiled_blocks}

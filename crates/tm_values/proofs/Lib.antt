@@ -1,7 +1,7 @@
 pub mod Lists
 pub mod Comparisons
 pub mod Sizes
-pub mod Plains
+pub mod Writables
 pub mod Maps
 pub mod Entries
 pub mod Asked

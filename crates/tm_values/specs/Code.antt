@@ -18,13 +18,13 @@ macro_of (state, (stream, (entry, (closure, (name, (arguments, caller)))))) =
 
 -- A step: its tag, which says what it builds of a flag, a whole number, bytes, two numbers and a macro's parts, and of what lies on the
 -- stacks.
-abbrev Step : Type 0
-Step = ℕ × (Bool × (ℤ × (List ℕ × (ℕ × (ℕ × List Parts)))))
+abbrev Built : Type 0
+Built = ℕ × (Bool × (ℤ × (List ℕ × (ℕ × (ℕ × List Parts)))))
 
-abbrev step : ℕ → Bool → ℤ → List ℕ → ℕ → ℕ → List Parts → Step
+abbrev step : ℕ → Bool → ℤ → List ℕ → ℕ → ℕ → List Parts → Built
 step tag flag whole bytes first second declared = (tag, (flag, (whole, (bytes, (first, (second, declared))))))
 
-abbrev plain : ℕ → Step
+abbrev plain : ℕ → Built
 plain tag = step tag false (pos 0) [] 0 0 []
 
 -- what was built and is not part of something yet, the last first
@@ -38,7 +38,7 @@ macro_or_none [] = none
 macro_or_none (m ∷ ms) = macro (macro_of m)
 
 -- what a step without parts on the stacks builds
-abbrev leaf_of : Step → Val
+abbrev leaf_of : Built → Val
 leaf_of (tag, (flag, (whole, (bytes, (first, (second, declared)))))) =
     cond (tag == 0) (undefined flag)
     (cond (tag == 1) none
@@ -70,7 +70,7 @@ pair_put (v ∷ []) ps k = k
 pair_put (v ∷ w ∷ vs) [] k = k
 pair_put (v ∷ w ∷ vs) (p ∷ ps) k = record { values = vs; items = k.items; pairs = pair w v p ∷ ps }
 
-abbrev stepped : Step → Stacks → Stacks
+abbrev stepped : Built → Stacks → Stacks
 stepped s k =
     cond (s.0 == 9) (record k { items = no_vals ∷ k.items })
     (cond (s.0 == 10) (item_put k.values k.items k)
@@ -82,12 +82,12 @@ stepped s k =
     (cond (s.0 == 16) (pairs_closed (λ ps. exports ps s.1.1.1.0) k.pairs k)
     (push (leaf_of s) k))))))))
 
-abbrev pub built : List Step → Stacks → Stacks
+abbrev pub built : List Built → Stacks → Stacks
 built [] k = k
 built (s ∷ xs) k = built xs (stepped s k)
 
 abbrev mutual
-  pub steps : Val → List Step → List Step
+  pub steps : Val → List Built → List Built
   steps (undefined s) rest = step 0 s (pos 0) [] 0 0 [] ∷ rest
   steps none rest = plain 1 ∷ rest
   steps (boolean b) rest = step 2 b (pos 0) [] 0 0 [] ∷ rest
@@ -102,16 +102,16 @@ abbrev mutual
   steps (loop i n) rest = step 7 false (pos 0) [] i n [] ∷ rest
   steps (namespace i n) rest = step 8 false (pos 0) [] i n [] ∷ rest
 
-  pub vals_steps : Vals → List Step → List Step
+  pub vals_steps : Vals → List Built → List Built
   vals_steps no_vals rest = plain 9 ∷ rest
   vals_steps (val v vs) rest = vals_steps vs (steps v (plain 10 ∷ rest))
 
-  pub pairs_steps : Pairs → List Step → List Step
+  pub pairs_steps : Pairs → List Built → List Built
   pairs_steps no_pairs rest = plain 12 ∷ rest
   pairs_steps (pair k v ps) rest = pairs_steps ps (steps k (steps v (plain 13 ∷ rest)))
 
 mutual
-  built-steps : (x : Val) (rest : List Step) (k : Stacks) → built (steps x rest) k ≡ built rest (push x k)
+  built-steps : (x : Val) (rest : List Built) (k : Stacks) → built (steps x rest) k ≡ built rest (push x k)
   built-steps (undefined s) rest k = refl
   built-steps none rest k = refl
   built-steps (boolean b) rest k = refl
@@ -126,17 +126,17 @@ mutual
   built-steps (loop i n) rest k = refl
   built-steps (namespace i n) rest k = refl
 
-  built-vals_steps : (x : Vals) (rest : List Step) (k : Stacks) →
+  built-vals_steps : (x : Vals) (rest : List Built) (k : Stacks) →
       built (vals_steps x rest) k ≡ built rest (record k { items = x ∷ k.items })
   built-vals_steps no_vals rest k = refl
   built-vals_steps (val v vs) rest k =
       built-vals_steps vs (steps v (plain 10 ∷ rest)) k ∙ built-steps v (plain 10 ∷ rest) (record k { items = vs ∷ k.items })
 
-  built-pairs_steps : (x : Pairs) (rest : List Step) (k : Stacks) →
+  built-pairs_steps : (x : Pairs) (rest : List Built) (k : Stacks) →
       built (pairs_steps x rest) k ≡ built rest (record k { pairs = x ∷ k.pairs })
   built-pairs_steps no_pairs rest k = refl
   built-pairs_steps (pair w v ps) rest k =
-      let last : List Step = plain 13 ∷ rest in
+      let last : List Built = plain 13 ∷ rest in
       let below : Stacks = record k { pairs = ps ∷ k.pairs } in
       built-pairs_steps ps (steps w (steps v last)) k ∙ (built-steps w (steps v last) below ∙ built-steps v last (push w below))
 
@@ -154,9 +154,9 @@ abbrev coded_Parts : Coded Parts
 coded_Parts = coded× coded_ℕ (coded× coded_ℕ
     (coded× coded_ℕ (coded× (coded_option coded_ℕ) (coded× (coded_list coded_ℕ) (coded× (coded_list (coded_list coded_ℕ)) coded_bool)))))
 
-abbrev coded_Step : Coded Step
+abbrev coded_Step : Coded Built
 coded_Step = coded× coded_ℕ (coded× coded_bool
     (coded× coded_ℤ (coded× (coded_list coded_ℕ) (coded× coded_ℕ (coded× coded_ℕ (coded_list coded_Parts))))))
 
 abbrev pub coded_Val : Coded Val
-coded_Val = code_by (List Step) (coded_list coded_Step) (λ v. steps v []) (λ s. top (built s empty).values) built-back
+coded_Val = code_by (List Built) (coded_list coded_Step) (λ v. steps v []) (λ s. top (built s empty).values) built-back

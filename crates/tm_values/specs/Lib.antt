@@ -2,7 +2,7 @@ pub mod Chain
 pub mod Cause
 pub mod Name
 pub mod Val
-pub mod Plain
+pub mod Writable
 pub mod Parts
 pub mod Order
 pub mod Equality

@@ -2,7 +2,7 @@
 use Rattle.std.specs.Prelude.{map as each}
 use Rattle.std.specs.Rc.{rc_str_bytes}
 use Rattle.tm_values.specs.Val.{MacroData}
-use Rattle.tm_values.specs.declared.macros.Macro.TheInside.{Inside}
+use Rattle.tm_values.specs.declared.macros.MacroValue.TheInside.{Inside}
 
 abbrev pub macro_view : Inside → MacroData
 macro_view m =

@@ -11,7 +11,7 @@ use std::rc::RcStr;
 
 /// A macro as a value: what a template declared, and where it stands.
 #[derive(Drop)]
-pub struct Macro {
+pub struct MacroValue {
     name: RcStr,
     arguments: Vec<RcStr>,
     takes_caller: bool,
@@ -21,7 +21,7 @@ pub struct Macro {
     closure: Option<usize>,
 }
 
-impl Model for Macro {
+impl Model for MacroValue {
     ghost use Rattle.tm_values.specs.Val.{MacroData};
 
     ghost Value = { MacroData };
@@ -31,7 +31,7 @@ impl Model for Macro {
     ghost view = { macro_view };
 }
 
-impl Macro {
+impl MacroValue {
     /// A macro of this name and these arguments, which the state of this id declared: the number of
     /// its stream there, its entry in the stream, and the number of its closure where it has one.
     pub fn new(
@@ -42,7 +42,7 @@ impl Macro {
         stream: usize,
         entry: usize,
         closure: Option<usize>,
-    ) -> Macro
+    ) -> MacroValue
         ensures { result ≡ record {
           state = state;
           stream = stream;
@@ -53,7 +53,7 @@ impl Macro {
           caller = takes_caller;
         } }
     {
-        Macro {
+        MacroValue {
             name,
             arguments,
             takes_caller,
@@ -114,7 +114,7 @@ impl Macro {
     }
 
     // By state, stream, entry, closure, name, arguments, and whether `caller` is taken.
-    pub(crate) fn compare(&self, other: &Macro) -> Ordering
+    pub(crate) fn compare(&self, other: &MacroValue) -> Ordering
         ensures { result ≡ macro_cmp self.now other.now }
     {
         self.state

@@ -166,7 +166,7 @@ impl Value {
     {
         let ValueMap { pairs } = entries;
         let Parts {
-            plain: _plain,
+            writable: _writable,
             size,
         } = Parts::of_pairs(&pairs)?;
         Ok(Value {

@@ -8,7 +8,7 @@ ghost use Rattle.tm_values.specs.Equality.{same_value, same_values};
 ghost use Rattle.tm_values.specs.Val.{Val, text, boolean, number, whole_of, vals_of, pairs_of};
 
 use crate::comparing::compare_deep;
-use crate::macros::Macro;
+use crate::macros::MacroValue;
 use crate::value::{Node, Value};
 use std::cmp::Ordering;
 
@@ -99,7 +99,7 @@ impl Value {
 }
 
 // Where a macro stands to a value, which is one too.
-pub(crate) fn compare_macro(left: &Macro, right: &Value) -> Ordering
+pub(crate) fn compare_macro(left: &MacroValue, right: &Value) -> Ordering
     ensures { result ≡ macro_against left.now right.now }
 {
     match &right.node {

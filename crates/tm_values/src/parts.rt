@@ -5,14 +5,14 @@ ghost use Rattle.tm_values.specs.Parts.{parts_of_vals, parts_of_pairs};
 ghost use Rattle.tm_values.specs.Val.{val_size, vals_of, pairs_of};
 
 use crate::error::{Error, ErrorKind};
-use crate::plain::{Plain, pair_plain};
 use crate::value::{Node, Value};
+use crate::writable::{Writable, pair_writable};
 
 /// What a value keeps of its parts.
 #[derive(Clone, Copy)]
 pub struct Parts {
     /// In which forms none of them is refused.
-    pub plain: Plain,
+    pub writable: Writable,
     /// The size of the value that has them: one for itself, and for each part its size and one. A value whose size is no
     /// `u32` isn't made: there is no memory for it.
     pub size: u32,
@@ -20,31 +20,31 @@ pub struct Parts {
 
 impl Parts {
     /// What is kept of these values, as the items of a list. OutOfMemory where the list would be too large.
-    #[tactic(auto, using(crate::proofs::Plains::both_regroups))]
+    #[tactic(auto, using(crate::proofs::Writables::both_regroups))]
     pub(crate) fn of_values(values: &[Value]) -> Result<Parts, Error>
         ensures { OkOrOutOfMemory result (λ parts. parts ≡ parts_of_vals (vals_of values.now)) }
     {
-        let mut plain = Plain::in_all_forms();
+        let mut writable = Writable::in_all_forms();
         let mut size = 1;
         for value in values {
-            plain = plain.both(value.plain());
+            writable = writable.both(value.writable());
             size = with_part(size, value)?;
         }
-        Ok(Parts { plain, size })
+        Ok(Parts { writable, size })
     }
 
     /// What is kept of these keys and values. OutOfMemory where a map of them would be too large.
-    #[tactic(auto, using(crate::proofs::Plains::both_regroups))]
+    #[tactic(auto, using(crate::proofs::Writables::both_regroups))]
     pub(crate) fn of_pairs(pairs: &[(Value, Value)]) -> Result<Parts, Error>
         ensures { OkOrOutOfMemory result (λ parts. parts ≡ parts_of_pairs (pairs_of pairs.now)) }
     {
-        let mut plain = Plain::in_all_forms();
+        let mut writable = Writable::in_all_forms();
         let mut size = 1;
         for pair in pairs {
-            plain = plain.both(pair_plain(pair));
+            writable = writable.both(pair_writable(pair));
             size = with_part(with_part(size, &pair.0)?, &pair.1)?;
         }
-        Ok(Parts { plain, size })
+        Ok(Parts { writable, size })
     }
 }
 

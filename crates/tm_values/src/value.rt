@@ -10,7 +10,7 @@ ghost use Rattle.tm_values.specs.Val.{vals_of, text_in, list_in, entries_in, ite
 
 use crate::dropping::{Held, drop_owner};
 use crate::error::Error;
-use crate::macros::Macro;
+use crate::macros::MacroValue;
 use crate::parts::Parts;
 use crate::shared_text::SharedText;
 use std::alloc::Global;
@@ -49,7 +49,7 @@ pub enum Node {
     /// A function, by its number.
     Function(usize),
     /// A macro.
-    Macro(Rc<Macro>),
+    Macro(Rc<MacroValue>),
     /// A loop of the state of this id, by the number of its record there.
     Loop(u64, usize),
     /// A namespace of the state of this id, by the number of its record there.
@@ -209,7 +209,7 @@ impl Value {
     }
 
     /// A macro as a value. Fails by OutOfMemory alone.
-    pub fn declared(alloc: Global, declared: Macro) -> Result<Value, Error>
+    pub fn declared(alloc: Global, declared: MacroValue) -> Result<Value, Error>
         ensures { OkOrOutOfMemory result (λ v. v ≡ macro declared) }
     {
         Ok(Value {

@@ -6,7 +6,7 @@ use Rattle.tm_values.specs.Val.{Val, undefined}
 use Rattle.tm_values.specs.declared.error.ErrorKind.{ErrorKind}
 use Rattle.std.specs.Result.{IsErr, IsErrAnd}
 use Rattle.tm_meaning.specs.World.{World, Named, Scopes, plain_scope}
-use Rattle.tm_syntax.specs.declared.instruction.LoopPlace.{LoopPlace}
+use Rattle.tm_trees.specs.Instructions.{LoopPlace}
 use Rattle.tm_meaning.specs.Calls.{Asked, outermost, runs, recurs}
 use Rattle.tm_meaning.specs.Machine.{Capture, Config, Next, Program, asked, first_run, goes, nested, new_capture, on_taken}
 use Rattle.tm_meaning.specs.Machine.{place_of_loop, recursion, take_n, taken, waiting}

@@ -3,7 +3,7 @@ use Rattle.std.proofs.Common.{◌≡◌, ℕ, ◌<◌, List, [], ◌∷◌, leng
 use Rattle.std.proofs.Common.{ap}
 use Rattle.tm_values.specs.Val.{Val}
 use Rattle.tm_meaning.specs.World.{World}
-use Rattle.tm_syntax.specs.declared.instruction.LoopPlace.{LoopPlace}
+use Rattle.tm_trees.specs.Instructions.{LoopPlace}
 use Rattle.tm_meaning.specs.Calls.{Asked, has, refused, runs, recurs}
 use Rattle.tm_meaning.specs.Machine.{Activation, Capture, Config, Next, Program, asked, recursion, place_of_loop, new_capture, stuck}
 use Rattle.tm_meaning.specs.Machine.{on_taken, take_n, taken}

@@ -3,7 +3,7 @@ use Rattle.std.proofs.Common.{◌≡◌, ◌≤◌, ◌<◌, ◌+◌, ◌-◌, �
 use Rattle.std.proofs.lemmas.List.{length-drop}
 use Rattle.std.proofs.Math.Seq.{drop-nil}
 use Rattle.tm_values.specs.Val.{Val, undefined}
-use Rattle.tm_syntax.specs.declared.instruction.LoopFlags.{LoopFlags}
+use Rattle.tm_trees.specs.Instructions.{LoopFlags}
 use Rattle.tm_meaning.specs.World.{Scope, Scopes, World, loop_scope, owning, plain_scope, pop, without_first}
 use Rattle.tm_meaning.specs.Calls.{include_frames, outermost}
 use Rattle.tm_meaning.specs.declared.base.Base.{Base}

@@ -6,9 +6,9 @@ use Rattle.std.specs.Prelude.{IsTrue, if◌then◌else◌}
 use Rattle.tm_values.specs.Truth.{is_undefined}
 use Rattle.tm_values.specs.Val.{MacroData, Val, boolean, macro, text}
 use Rattle.tm_values.specs.declared.escape.AutoEscape.{AutoEscape}
-use Rattle.tm_syntax.specs.declared.instruction.Instruction.{Instruction}
-use Rattle.tm_syntax.specs.declared.instruction.Instruction.TheVariants as i
-use Rattle.tm_syntax.specs.declared.tree.BinaryOperator.{BinaryOperator}
+use Rattle.tm_trees.specs.Instructions.{Instruction}
+use Rattle.tm_trees.specs.Instructions.instructions as i
+use Rattle.tm_trees.specs.Trees.{BinaryOperator}
 use Rattle.tm_syntax.specs.Entries.{entries}
 use Rattle.tm_syntax.specs.Named.{find, same_name}
 use Rattle.tm_definitions.specs.Emitted.{emission_verdict, emitted_text}

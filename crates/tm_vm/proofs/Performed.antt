@@ -13,7 +13,7 @@ use Rattle.tm_meaning.specs.declared.stream.StreamId.{StreamId}
 use Rattle.std.proofs.Common.{◌-◌, nat_le}
 use Rattle.std.proofs.lemmas.Bool.Decides.{nat_tests}
 use Rattle.tm_meaning.specs.Steps.{act, charge_of, effect, pay, step}
-use Rattle.tm_syntax.specs.declared.instruction.Instruction.{Instruction}
+use Rattle.tm_trees.specs.Instructions.{Instruction}
 use Rattle.tm_state.specs.Answers.{KeepsFixed, KeepsFixedAndNames, OneDeeper, fixed_of}
 use Rattle.tm_vm.proofs.Ground.{same_as_no_fewer, standing_same, stays, stays_over}
 use Rattle.tm_vm.proofs.Loop.{fixed_same, fixed_then, kept_same}

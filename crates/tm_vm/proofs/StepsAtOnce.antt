@@ -1,6 +1,6 @@
 -- A step that is done at once.
 use Rattle.std.proofs.Common.{◌≡◌, ◌<◌, ◌+◌, ◌-◌, ℕ, List, Option, Some, Ok, Err, refl, arith, slice_get}
-use Rattle.tm_syntax.specs.declared.instruction.Instruction.{Instruction}
+use Rattle.tm_trees.specs.Instructions.{Instruction}
 use Rattle.tm_meaning.specs.World.{CanPay}
 use Rattle.tm_meaning.specs.Machine.{Config, Program}
 use Rattle.tm_meaning.specs.Steps.{charge_of, effect}

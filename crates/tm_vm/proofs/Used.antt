@@ -9,7 +9,7 @@ use Rattle.tm_syntax.specs.Named.{same_name}
 use Rattle.tm_meaning.specs.Instructions.{apply_of, apply_filter_of, perform_test_of, on_used, used, holding, with_filters, with_tests}
 use Rattle.tm_meaning.specs.Machine.{Caches, Config, Program}
 use Rattle.tm_parts.specs.declared.halt.Halt.{Halt}
-use Rattle.tm_syntax.specs.declared.tree.Application.TheVariants as applications
+use Rattle.tm_trees.specs.Trees.applications
 use Rattle.tm_vm.specs.Answers.{Needs}
 use Rattle.tm_vm.specs.declared.flow.Flow.{Flow}
 

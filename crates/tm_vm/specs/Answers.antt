@@ -6,7 +6,7 @@ use Rattle.std.specs.declared.rc.RcStr.{RcStr}
 use Rattle.std.specs.declared.alloc.Global.{Global}
 use Rattle.std.specs.Io.KnownBytes.{Appends}
 use Rattle.tm_meaning.specs.Memory.{is_want_of_memory}
-use Rattle.tm_syntax.specs.declared.instruction.Instruction.{Instruction}
+use Rattle.tm_trees.specs.Instructions.{Instruction}
 use Rattle.tm_meaning.specs.World.{World, HostValue, Named, Scopes}
 use Rattle.tm_meaning.specs.Calls.{Asked, outermost}
 use Rattle.tm_values.specs.declared.error.ErrorKind.TheVariants.{OutOfMemory}

@@ -1,7 +1,7 @@
 -- What comes of an instruction that is done at once where it can be.
 use Rattle.std.specs.Prelude.{◌≡◌, ◌-◌, ℕ, List, [], ◌∷◌, Option, Result, Ok, Err, Bool, true, false}
 use Rattle.tm_values.specs.declared.error.ErrorKind.TheVariants.{OutOfMemory}
-use Rattle.tm_syntax.specs.declared.instruction.Instruction.{Instruction}
+use Rattle.tm_trees.specs.Instructions.{Instruction}
 use Rattle.tm_meaning.specs.World.{CanPay}
 use Rattle.tm_meaning.specs.Steps.{charge_of, step}
 use Rattle.tm_meaning.specs.Machine.{Config, Next, Program}

@@ -10,8 +10,8 @@ use Rattle.tm_definitions.specs.Emitted.{emission_verdict, emitted_text}
 use Rattle.tm_syntax.specs.Named.{find, put}
 use Rattle.tm_values.specs.declared.error.ErrorKind.{ErrorKind}
 use Rattle.tm_values.specs.declared.escape.AutoEscape.{AutoEscape}
-use Rattle.tm_syntax.specs.declared.instruction.Instruction.{Instruction}
-use Rattle.tm_syntax.specs.declared.instruction.Instruction.TheVariants as instruction
+use Rattle.tm_trees.specs.Instructions.{Instruction}
+use Rattle.tm_trees.specs.Instructions.instructions as instruction
 use Rattle.tm_values.specs.Truth.{is_undefined}
 use Rattle.tm_meaning.specs.World.{Bindings, CanPay, World, plain_scope}
 use Rattle.tm_meaning.specs.declared.base.Base.{Base}

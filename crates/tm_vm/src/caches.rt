@@ -23,12 +23,12 @@ fn place_of<H: Host>(host: &H, application: Application, name: &str) -> usize {
 
 /// The name that a cache holds, and where what it names stands. A contract sees the name alone.
 #[derive(Drop)]
-struct Held {
+struct CachedName {
     name: Name,
     place: usize,
 }
 
-impl Model for Held {
+impl Model for CachedName {
     ghost use Rattle.std.specs.Prelude.{List, ℕ};
 
     ghost Value = { List ℕ };
@@ -36,7 +36,7 @@ impl Model for Held {
     ghost view = { λ held. held.name };
 }
 
-impl Held {
+impl CachedName {
     /// Whether this is the name.
     #[inline(always)]
     fn is(&self, name: &Name) -> bool
@@ -56,7 +56,7 @@ impl Held {
 /// takes no memory for them.
 #[derive(Drop)]
 pub(crate) struct Caches {
-    names: Vec<Option<Held>>,
+    names: Vec<Option<CachedName>>,
 }
 
 impl Model for Caches {
@@ -108,7 +108,7 @@ impl Caches {
 
     /// What a cache holds.
     #[inline(always)]
-    fn held(&self, cache: usize) -> Option<&Held>
+    fn held(&self, cache: usize) -> Option<&CachedName>
         ensures { MatchOption result
             ((slice_get self.now cache ≡ None) ⊎ (slice_get self.now cache ≡ Some None))
             (λ held. slice_get self.now cache ≡ Some (Some held.now)) }
@@ -130,7 +130,7 @@ impl Caches {
             self.names.push(None)?;
         }
         let name = name.share()?;
-        self.names[cache] = Some(Held { name, place });
+        self.names[cache] = Some(CachedName { name, place });
         Ok(())
     }
 }

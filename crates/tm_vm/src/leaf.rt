@@ -2,7 +2,7 @@
 ghost use Rattle.std.specs.Prelude.{◌≡◌, ◌≤◌, ◌<◌, ◌+◌, ◌-◌, ◌^◌, ◌++◌, [], ◌∷◌, IfErr, IfOk, IfSome, IsTrue, OnOk, Some, slice_get, true};
 ghost use Rattle.tm_values.specs.Answer.{IsLent, OkOrOutOfMemory, OrStays};
 ghost use Rattle.tm_values.specs.Val.{text};
-ghost use Rattle.tm_syntax.specs.declared.instruction.Instruction.TheVariants as instruction;
+ghost use Rattle.tm_trees.specs.Instructions.instructions as instruction;
 ghost use Rattle.tm_meaning.specs.Memory.{is_want_of_memory};
 ghost use Rattle.tm_meaning.specs.World.{is_escaping, CanPay};
 ghost use Rattle.tm_meaning.specs.Instructions.{call_function_of};

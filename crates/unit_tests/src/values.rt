@@ -3,7 +3,7 @@ use std::alloc::Global;
 use std::rc::RcStr;
 use std::test::Fail;
 use tm_values::{
-    Error, Macro, NoRecords, Records, SharedText, Value, ValueMap, find_loop, find_namespace,
+    Error, MacroValue, NoRecords, Records, SharedText, Value, ValueMap, find_loop, find_namespace,
 };
 
 fn has_no_records() -> bool {
@@ -32,7 +32,7 @@ fn makes_a_macro(alloc: Global) -> Result<bool, Error> {
     let name = RcStr::from_str(alloc, "m")?;
     let declared = Value::declared(
         alloc,
-        Macro::new(name, Vec::new(alloc), false, 1, 2, 3, None),
+        MacroValue::new(name, Vec::new(alloc), false, 1, 2, 3, None),
     )?;
     Ok(declared == declared.share()? && declared != Value::none())
 }

@@ -2,7 +2,7 @@ use Rattle.std.proofs.Common.{◌∙◌, ap, sym}
 use Rattle.std.proofs.lemmas.Result.{on_ok_weaker}
 use Rattle.tm_syntax.specs.Code.{row_end}
 use Rattle.tm_syntax.specs.Fragments.{straight}
-use Rattle.tm_syntax.specs.declared.tree.Argument.TheBlock.{hidden-the_row-Step-5 as steps}
+use Rattle.tm_trees.specs.Trees.{steps}
 use Rattle.tm_generator.specs.Building.{Builder, put}
 use Rattle.tm_generator.specs.Opened.{steps_end, ending, ending_count}
 use Rattle.tm_generator.proofs.Opened.{chain-end}

@@ -1,8 +1,7 @@
 use Rattle.std.proofs.Common.{◌≡◌, ◌+◌, List, OnOk, refl, sym, ap, subst, ◌∙◌}
 use Rattle.std.proofs.lemmas.List.{drop_all}
 use Rattle.std.proofs.lemmas.Result.{on_ok_weaker}
-use Rattle.tm_syntax.specs.declared.tree.Comparison.{Comparison}
-use Rattle.tm_syntax.specs.declared.tree.Argument.TheBlock.{hidden-the_row-Comparison-7 as comparisons}
+use Rattle.tm_trees.specs.Trees.{Comparison, comparisons}
 use Rattle.tm_syntax.specs.Code.{expr_code, row_code, unary_code}
 use Rattle.tm_generator.specs.Building.{Builder, put}
 use Rattle.tm_generator.proofs.PutExpressions.{made-unary, made-chain, made-slice, made-binary, made-compare}

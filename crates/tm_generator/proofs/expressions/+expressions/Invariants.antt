@@ -3,14 +3,9 @@ use Rattle.tm_generator.specs.Building.{put, asked, kept, answered}
 use Rattle.tm_generator.specs.Opened.{listing_code, lists_of, maps_of, no_end}
 use Rattle.tm_generator.proofs.Spreading.{after}
 use Rattle.tm_syntax.specs.Code.{exprs_code, pairs_code, keywords_code, steps_code, links_code}
-use Rattle.tm_syntax.specs.declared.tree.Argument.TheBlock.{hidden-the_row-Expr-1 as exprs}
-use Rattle.tm_syntax.specs.declared.tree.Argument.TheBlock.{hidden-the_row-Pair-2 as pairs}
-use Rattle.tm_syntax.specs.declared.tree.Argument.TheBlock.{hidden-the_row-Argument-3 as arguments}
-use Rattle.tm_syntax.specs.declared.tree.Argument.TheBlock.{hidden-the_row-Keyword-4 as keywords}
-use Rattle.tm_syntax.specs.declared.tree.Argument.TheBlock.{hidden-the_row-Step-5 as steps}
-use Rattle.tm_syntax.specs.declared.tree.Argument.TheBlock.{hidden-the_row-Comparison-7 as comparisons}
-use Rattle.tm_syntax.specs.declared.tree.Expr.TheVariants as e
-use Rattle.tm_syntax.specs.declared.tree.Step.TheVariants.{Apply, Call}
+use Rattle.tm_trees.specs.Trees.{exprs, pairs, arguments, keywords, steps, comparisons}
+use Rattle.tm_trees.specs.Trees.expr_forms as e
+use Rattle.tm_trees.specs.Trees.step_forms.{Apply, Call}
 use Rattle.tm_syntax.proofs.tree.Expr.TheLaws.{the_size as size_of_expr}
 use Rattle.tm_syntax.proofs.tree.Step.TheLaws.{the_size}
 use Rattle.tm_generator.proofs.expressions.+expressions.Given as goal

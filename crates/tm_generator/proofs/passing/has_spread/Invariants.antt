@@ -1,6 +1,6 @@
 use Rattle.std.proofs.Common.{◌≡◌, drop}
 use Rattle.tm_syntax.specs.Code.{has_spread}
-use Rattle.tm_syntax.specs.declared.tree.Argument.TheBlock.{hidden-the_row-Argument-3 as arguments}
+use Rattle.tm_trees.specs.Trees.{arguments}
 use Rattle.tm_generator.proofs.passing.has_spread.Given as goal
 
 abbrev pub invariant-loop-argument : goal.invariant-loop-argument

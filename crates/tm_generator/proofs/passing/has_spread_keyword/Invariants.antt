@@ -1,6 +1,6 @@
 use Rattle.std.proofs.Common.{◌≡◌, drop}
 use Rattle.tm_syntax.specs.Code.{has_spread_keyword}
-use Rattle.tm_syntax.specs.declared.tree.Argument.TheBlock.{hidden-the_row-Keyword-4 as keywords}
+use Rattle.tm_trees.specs.Trees.{keywords}
 use Rattle.tm_generator.proofs.passing.has_spread_keyword.Given as goal
 
 abbrev pub invariant-loop-keyword : goal.invariant-loop-keyword

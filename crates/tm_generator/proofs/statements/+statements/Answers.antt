@@ -4,7 +4,7 @@ use Rattle.std.proofs.lemmas.Result.{on_ok_weaker}
 use Rattle.tm_syntax.specs.Blocks.{body_of, statements as of_statements}
 use Rattle.tm_syntax.specs.CacheNumbers.{numbered}
 use Rattle.tm_syntax.specs.Code.{stream_code}
-use Rattle.tm_syntax.specs.declared.tree.Stmt.TheBlock.{hidden-the_row-Stmt-0 as statements}
+use Rattle.tm_trees.specs.Trees.{statements}
 use Rattle.tm_shapes.specs.Accepts.{accepts}
 use Rattle.tm_shapes.specs.declared.kind.Form.TheVariants.{Template}
 use Rattle.tm_generator.proofs.PutExpressions.{next}

@@ -3,9 +3,9 @@ use Rattle.tm_syntax.specs.Blocks.{blocks_in}
 use Rattle.tm_shapes.specs.BlockCodes.{compiled_blocks}
 use Rattle.tm_syntax.specs.Code.{statements_code}
 use Rattle.tm_syntax.specs.Named.{put_each}
-use Rattle.tm_syntax.specs.declared.tree.Stmt.TheBlock.{hidden-the_row-Stmt-0 as statements}
+use Rattle.tm_trees.specs.Trees.{statements}
 use Rattle.tm_generator.specs.Building.{put_in}
-use Rattle.tm_syntax.specs.declared.tree.Stmt.TheVariants.{AutoEscape, Block, CallBlock, CaptureBlock, For, If, Macro, With}
+use Rattle.tm_trees.specs.Trees.statement_forms.{AutoEscape, Block, CallBlock, CaptureBlock, For, If, Macro, With}
 use Rattle.tm_syntax.proofs.tree.Stmt.TheLaws.{the_size}
 use Rattle.tm_generator.proofs.statements.+statements.Given as goal
 

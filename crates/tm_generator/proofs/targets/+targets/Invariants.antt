@@ -1,6 +1,6 @@
 use Rattle.std.proofs.Common.{◌≡◌, drop}
 use Rattle.tm_syntax.specs.Code.{targets_code}
-use Rattle.tm_syntax.specs.declared.tree.AssignmentTarget.TheBlock.{hidden-the_row-AssignmentTarget-0 as targets}
+use Rattle.tm_trees.specs.Trees.{targets}
 use Rattle.tm_generator.specs.Building.{put}
 use Rattle.tm_generator.proofs.targets.+targets.Given as goal
 

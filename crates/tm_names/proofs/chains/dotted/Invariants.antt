@@ -1,7 +1,7 @@
 use Rattle.std.proofs.Common.{◌≡◌, drop}
 use Rattle.std.specs.String.{string_bytes}
 use Rattle.tm_syntax.specs.Names.{dotted}
-use Rattle.tm_syntax.specs.declared.tree.Argument.TheBlock.{hidden-the_row-Step-5 as steps}
+use Rattle.tm_trees.specs.Trees.{steps}
 use Rattle.tm_names.proofs.chains.dotted.Given as goal
 
 abbrev pub invariant-loop-step : goal.invariant-loop-step

@@ -6,8 +6,8 @@ use Rattle.tm_operations.specs.declared.mapped.Kind.TheVariants as kind
 use Rattle.tm_operations.proofs.Making.{if_ok, list_within, list_lighter, map_within, map_lighter, stays}
 use Rattle.tm_operations.proofs.mapped.enter.Goals as goal
 
-pub returns-then-plain-clause-ok : goal.returns-then-plain-clause-ok
-returns-then-plain-clause-ok g c =
+pub returns-then-writable-clause-ok : goal.returns-then-writable-clause-ok
+returns-then-writable-clause-ok g c =
     let r = g.R.Records.records c.args.records.now in
     ap (outermost r c.args.begun.now.items)
     (ap Ok (search rules) ∙ sym (stays (namespace_mapped r c.args.levels) c.args.part.now (search rules)))

@@ -1,5 +1,5 @@
 use Rattle.std.proofs.Common.{◌≡◌, drop, false}
-use Rattle.tm_syntax.specs.declared.tree.Argument.TheBlock.{hidden-the_row-Step-5 as row_of_steps}
+use Rattle.tm_trees.specs.Trees.{steps as row_of_steps}
 use Rattle.tm_parser.specs.Statements.{last_calls}
 use Rattle.tm_parser.proofs.emissions.ends_in_call.Given as goal
 

@@ -1,6 +1,6 @@
 use Rattle.std.proofs.Common.{false, sym, ap, ◌∙◌}
 use Rattle.tm_parser.specs.Statements as spec
-use Rattle.tm_syntax.specs.declared.tree.Argument.TheBlock.{hidden-the_row-Step-5 as row_of_steps}
+use Rattle.tm_trees.specs.Trees.{steps as row_of_steps}
 use Rattle.tm_parser.proofs.Calls.{is_call_of_chain}
 use Rattle.tm_parser.proofs.emissions.is_call.Goals as goal
 

@@ -1,6 +1,6 @@
 use Rattle.std.proofs.Common.{sym, ap, ◌∙◌, ◌&&◌}
 use Rattle.tm_parser.specs.Statements.{are_unnamed}
-use Rattle.tm_syntax.specs.declared.tree.Argument.TheBlock.{hidden-the_row-Keyword-4 as row_of_keywords}
+use Rattle.tm_trees.specs.Trees.{keywords as row_of_keywords}
 use Rattle.tm_parser.proofs.Calls.{none-is, unnamed-is}
 use Rattle.tm_parser.proofs.emissions.is_nothing.Goals as goal
 

@@ -1,7 +1,7 @@
 use Rattle.std.proofs.Common.{◌≡◌, false, List, [], sym, ◌∙◌, ap}
 use Rattle.tm_syntax.specs.declared.token.Token.{Token}
-use Rattle.tm_syntax.specs.declared.tree.Tree.{Tree}
-use Rattle.tm_syntax.specs.declared.tree.Tree.TheVariants as trees
+use Rattle.tm_trees.specs.Trees.{Tree}
+use Rattle.tm_trees.specs.Trees.tree_forms as trees
 use Rattle.tm_grammar.specs.Laws.{same_got}
 use Rattle.tm_expressions.specs.Grammar.{inside}
 use Rattle.tm_parser.specs.Statements.{body, inner}

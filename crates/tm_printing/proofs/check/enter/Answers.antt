@@ -2,7 +2,7 @@ use Rattle.std.proofs.Common.{sym, ◌∙◌, ◌+◌, arith}
 use Rattle.tm_definitions.specs.Verdicts.{verdict}
 use Rattle.tm_values.specs.Val.{val_size}
 use Rattle.tm_printing.proofs.Checks.{instead, goes_put, goes_leaf, weight_put, unweighed, no_namespace}
-use Rattle.tm_printing.proofs.Plain.{plain_fine}
+use Rattle.tm_printing.proofs.Writable.{plain_fine}
 use Rattle.tm_printing.specs.Unchecked.{nothing, to_check}
 use Rattle.tm_printing.proofs.check.enter.Goals as goal
 

@@ -1,12 +1,6 @@
 use Rattle.std.proofs.Common.{◌≡◌, ◌+◌, ◌*◌, drop}
 use Rattle.tm_syntax.specs.Names.{walk_exprs, walk_pairs, walk_arguments, walk_keywords, walk_steps, walk_conditions, walk_comparisons}
-use Rattle.tm_syntax.specs.declared.tree.Argument.TheBlock.{hidden-the_row-Expr-1 as exprs}
-use Rattle.tm_syntax.specs.declared.tree.Argument.TheBlock.{hidden-the_row-Pair-2 as pairs}
-use Rattle.tm_syntax.specs.declared.tree.Argument.TheBlock.{hidden-the_row-Argument-3 as arguments}
-use Rattle.tm_syntax.specs.declared.tree.Argument.TheBlock.{hidden-the_row-Keyword-4 as keywords}
-use Rattle.tm_syntax.specs.declared.tree.Argument.TheBlock.{hidden-the_row-Step-5 as steps}
-use Rattle.tm_syntax.specs.declared.tree.Argument.TheBlock.{hidden-the_row-Condition-6 as conditions}
-use Rattle.tm_syntax.specs.declared.tree.Argument.TheBlock.{hidden-the_row-Comparison-7 as comparisons}
+use Rattle.tm_trees.specs.Trees.{exprs, pairs, arguments, keywords, steps, conditions, comparisons}
 use Rattle.tm_names.proofs.walker.Walker.+expressions.Given as goal
 
 abbrev pub invariant-walk_exprs-loop-item : goal.invariant-walk_exprs-loop-item

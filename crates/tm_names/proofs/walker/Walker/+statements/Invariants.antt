@@ -1,7 +1,7 @@
 use Rattle.std.proofs.Common.{◌≡◌, ◌+◌, ◌*◌, drop}
 use Rattle.tm_syntax.specs.Names.{walk_all}
-use Rattle.tm_syntax.specs.declared.tree.Stmt.TheBlock.{hidden-the_row-Stmt-0 as statements}
-use Rattle.tm_syntax.specs.declared.tree.Stmt.TheVariants.{CallBlock, For, If, Macro}
+use Rattle.tm_trees.specs.Trees.{statements}
+use Rattle.tm_trees.specs.Trees.statement_forms.{CallBlock, For, If, Macro}
 use Rattle.tm_syntax.proofs.tree.Stmt.TheLaws.{the_size}
 use Rattle.tm_names.proofs.walker.Walker.+statements.Given as goal
 

@@ -1,6 +1,6 @@
 use Rattle.std.proofs.Common.{◌≡◌, drop}
 use Rattle.tm_syntax.specs.Names.{walk_targets}
-use Rattle.tm_syntax.specs.declared.tree.AssignmentTarget.TheBlock.{hidden-the_row-AssignmentTarget-0 as targets}
+use Rattle.tm_trees.specs.Trees.{targets}
 use Rattle.tm_names.proofs.walker.Walker.+targets.Given as goal
 
 abbrev pub invariant-walk_targets-loop-part : goal.invariant-walk_targets-loop-part

@@ -4,8 +4,7 @@ use Rattle.tm_shapes.specs.Accepts.{accepts}
 use Rattle.tm_shapes.specs.declared.kind.Form.TheVariants.{Template}
 use Rattle.tm_syntax.specs.Entries.{Entries, entries}
 use Rattle.tm_syntax.specs.Loops.{loop_places}
-use Rattle.tm_syntax.specs.declared.instruction.LoopPlace.{LoopPlace}
-use Rattle.tm_syntax.specs.declared.instruction.Instruction.{Instruction}
+use Rattle.tm_trees.specs.Instructions.{LoopPlace, Instruction}
 use Rattle.tm_shapes.proofs.code.Verified.empty.Goals as goal
 
 abbrev Indexed : List LoopPlace → Entries → List Instruction → Type 0

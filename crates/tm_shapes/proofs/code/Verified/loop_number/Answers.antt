@@ -2,8 +2,7 @@ use Rattle.std.proofs.Common.{rules, of_calls, ◌≡◌, ltb, subst, ◌∙◌,
 use Rattle.std.proofs.lemmas.Fn.{always_returns_same}
 use Rattle.std.proofs.lemmas.List.Sorted.{IsPartitionedBy-ltb}
 use Rattle.tm_syntax.specs.Loops.{loops_before}
-use Rattle.tm_syntax.specs.declared.instruction.LoopPlace.{LoopPlace}
-use Rattle.tm_syntax.specs.declared.instruction.Instruction.{Instruction}
+use Rattle.tm_trees.specs.Instructions.{LoopPlace, Instruction}
 use Rattle.tm_shapes.proofs.Places.{made_in_order, numbered}
 use Rattle.tm_shapes.proofs.code.Verified.loop_number.Goals as goal
 

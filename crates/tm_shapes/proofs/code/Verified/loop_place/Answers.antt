@@ -1,6 +1,6 @@
 use Rattle.std.proofs.Common.{◌≡◌, List, Some, slice_get, sym, ◌∙◌, arith, subst}
 use Rattle.tm_syntax.specs.Loops.{loop_places}
-use Rattle.tm_syntax.specs.declared.instruction.Instruction.{Instruction}
+use Rattle.tm_trees.specs.Instructions.{Instruction}
 use Rattle.tm_shapes.proofs.Places.{within, read_at}
 use Rattle.tm_shapes.proofs.code.Verified.loop_place.Goals as goal
 

@@ -1,5 +1,5 @@
 use Rattle.std.proofs.Common.{◌≡◌, ◌+◌, drop}
-use Rattle.tm_values.specs.Plain.{both, pairs_plain}
+use Rattle.tm_values.specs.Writable.{both, pairs_writable}
 use Rattle.tm_values.specs.Val.{pairs_of, pairs_size}
 use Rattle.tm_values.proofs.parts.Parts.of_pairs.Given as goal
 
@@ -7,6 +7,6 @@ use Rattle.tm_values.proofs.parts.Parts.of_pairs.Given as goal
 abbrev pub invariant-loop-pair : goal.invariant-loop-pair
 invariant-loop-pair l =
     record {
-      plain : both l.plain (pairs_plain (pairs_of (drop l.pair-index l.pairs))) ≡ pairs_plain (pairs_of l.pairs);
+      writable : both l.writable (pairs_writable (pairs_of (drop l.pair-index l.pairs))) ≡ pairs_writable (pairs_of l.pairs);
       size : l.size + pairs_size (pairs_of (drop l.pair-index l.pairs)) ≡ pairs_size (pairs_of l.pairs) + 1;
     }

@@ -1,5 +1,5 @@
 use Rattle.std.proofs.Common.{◌≡◌, ◌+◌, drop}
-use Rattle.tm_values.specs.Plain.{both, vals_plain}
+use Rattle.tm_values.specs.Writable.{both, vals_writable}
 use Rattle.tm_values.specs.Val.{vals_of, vals_size}
 use Rattle.tm_values.proofs.parts.Parts.of_values.Given as goal
 
@@ -7,6 +7,6 @@ use Rattle.tm_values.proofs.parts.Parts.of_values.Given as goal
 abbrev pub invariant-loop-value : goal.invariant-loop-value
 invariant-loop-value l =
     record {
-      plain : both l.plain (vals_plain (vals_of (drop l.value-index l.values))) ≡ vals_plain (vals_of l.values);
+      writable : both l.writable (vals_writable (vals_of (drop l.value-index l.values))) ≡ vals_writable (vals_of l.values);
       size : l.size + vals_size (vals_of (drop l.value-index l.values)) ≡ vals_size (vals_of l.values) + 1;
     }

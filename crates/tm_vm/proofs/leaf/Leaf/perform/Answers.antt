@@ -1,6 +1,6 @@
 use Rattle.std.proofs.Common.{refl}
-use Rattle.tm_syntax.specs.declared.instruction.Instruction.TheVariants as i
-use Rattle.tm_syntax.specs.declared.tree.BinaryOperator.TheVariants as binaries
+use Rattle.tm_trees.specs.Instructions.instructions as i
+use Rattle.tm_trees.specs.Trees.binaries
 use Rattle.tm_vm.proofs.Leaves.{operates_as}
 use Rattle.tm_vm.proofs.leaf.Leaf.perform.Goals as goal
 

@@ -1,5 +1,5 @@
 use Rattle.std.proofs.Common.{◌≡◌, ◌∙◌, ap, sym, Some, slice_get, arith}
-use Rattle.tm_syntax.specs.declared.instruction.Instruction.TheVariants as i
+use Rattle.tm_trees.specs.Instructions.instructions as i
 use Rattle.tm_vm.specs.Leaves.{LeafRun}
 use Rattle.tm_vm.proofs.Leaves.{returns, strides, strides_by}
 use Rattle.tm_vm.proofs.leaf.Leaf.step.Goals as goal

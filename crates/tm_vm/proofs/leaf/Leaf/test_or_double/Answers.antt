@@ -1,5 +1,5 @@
 use Rattle.std.proofs.Common.{◌≡◌, ◌<◌, ◌∙◌, ap, subst, arith, slice_get}
-use Rattle.tm_syntax.specs.declared.instruction.Instruction.TheVariants as i
+use Rattle.tm_trees.specs.Instructions.instructions as i
 use Rattle.tm_vm.specs.Leaves.{LeafRun, RunsOn}
 use Rattle.tm_vm.proofs.Leaves.{doubles, skips, strides}
 use Rattle.tm_vm.proofs.leaf.Leaf.test_or_double.Goals as goal

@@ -1,6 +1,6 @@
 use Rattle.std.proofs.Common.{◌≡◌, ◌≤◌, ◌+◌, ◌∙◌, ◌∷◌, List, ap, arith, drop, slice_get, sym, subst}
 use Rattle.tm_syntax.specs.Entries.{entries}
-use Rattle.tm_syntax.specs.declared.instruction.Instruction.{Instruction}
+use Rattle.tm_trees.specs.Instructions.{Instruction}
 use Rattle.tm_meaning.specs.Machine.{Config}
 use Rattle.tm_vm.specs.Answers.{program}
 use Rattle.tm_vm.specs.Leaves.{GivesText, LeafRun, RunsOut, begun}

@@ -1,21 +1,21 @@
 -- Values that are plain in a form are fine in it.
 use Rattle.std.proofs.Common.{◌≡◌, Bool, true, false, cond, ℤ, refl, ap, ◌∙◌}
-use Rattle.tm_values.specs.Plain.{plain_of, vals_plain, pairs_plain, both, as_key, fits_json, in_print_alone, in_no_form}
+use Rattle.tm_values.specs.Writable.{writable_of, vals_writable, pairs_writable, both, as_key, fits_json, in_print_alone, in_no_form}
 use Rattle.tm_values.specs.Records.{RecordData}
 use Rattle.tm_values.specs.Val.{Val, undefined, none, boolean, number, text, list, map, keywords, exports, function, macro, loop, namespace}
 use Rattle.tm_values.specs.Val.{Vals, no_vals, val, Pairs, no_pairs, pair}
-use Rattle.tm_values.specs.declared.plain.Plain.{Plain}
+use Rattle.tm_values.specs.declared.writable.Writable.{Writable}
 use Rattle.tm_definitions.specs.Verdicts.{NamespaceVerdicts, Verdict, fine, and_then, verdict, items_verdict, pairs_verdict, member_verdict}
 use Rattle.tm_definitions.specs.Verdicts.{in_json, key_verdict, if_holds, no_json}
 use Rattle.tm_definitions.specs.declared.output_format.OutputFormat.{OutputFormat}
 use Rattle.tm_definitions.specs.declared.output_format.OutputFormat.TheVariants.{Printed, Json}
-use Rattle.tm_printing.specs.Plain.{holds_in, is_plain}
+use Rattle.tm_printing.specs.Writable.{holds_in, is_plain}
 
 both_true : (a b : Bool) → cond a b false ≡ true → (a ≡ true) × (b ≡ true)
 both_true true b h = (refl, h)
 both_true false b h = absurd (cc h)
 
-both_hold : (form : OutputFormat) (a b : Plain) → holds_in form (both a b) ≡ true → (holds_in form a ≡ true) × (holds_in form b ≡ true)
+both_hold : (form : OutputFormat) (a b : Writable) → holds_in form (both a b) ≡ true → (holds_in form a ≡ true) × (holds_in form b ≡ true)
 both_hold Printed a b h = both_true a.in_print b.in_print h
 both_hold Json a b h = both_true a.in_json b.in_json h
 
@@ -60,18 +60,18 @@ module _ (form : OutputFormat) (r : RecordData) (inside : NamespaceVerdicts) whe
     plain_fine (loop i n) h = absurd (no_form form h)
     plain_fine (namespace i n) h = absurd (no_form form h)
 
-    vals_fine : (vs : Vals) → holds_in form (vals_plain vs) ≡ true → items_verdict form r inside vs ≡ fine
+    vals_fine : (vs : Vals) → holds_in form (vals_writable vs) ≡ true → items_verdict form r inside vs ≡ fine
     vals_fine no_vals h = refl
     vals_fine (val v vs) h =
-        let parts = both_hold form (plain_of v) (vals_plain vs) h in
+        let parts = both_hold form (writable_of v) (vals_writable vs) h in
         joined (verdict form r inside v) (items_verdict form r inside vs) (plain_fine v parts.0) (vals_fine vs parts.1)
 
-    pairs_fine : (ps : Pairs) → holds_in form (pairs_plain ps) ≡ true → pairs_verdict form r inside ps ≡ fine
+    pairs_fine : (ps : Pairs) → holds_in form (pairs_writable ps) ≡ true → pairs_verdict form r inside ps ≡ fine
     pairs_fine no_pairs h = refl
     pairs_fine (pair k v ps) h =
-        let parts = both_hold form (both (as_key k) (both (plain_of k) (plain_of v))) (pairs_plain ps) h in
-        let key = both_hold form (as_key k) (both (plain_of k) (plain_of v)) parts.0 in
-        let values = both_hold form (plain_of k) (plain_of v) key.1 in
+        let parts = both_hold form (both (as_key k) (both (writable_of k) (writable_of v))) (pairs_writable ps) h in
+        let key = both_hold form (as_key k) (both (writable_of k) (writable_of v)) parts.0 in
+        let values = both_hold form (writable_of k) (writable_of v) key.1 in
         let of_value = joined (verdict form r inside k) (verdict form r inside v) (plain_fine k values.0) (plain_fine v values.1) in
         joined (member_verdict form k (verdict form r inside k) (verdict form r inside v)) (pairs_verdict form r inside ps)
         (joined (in_json form (key_verdict k)) _ (key_fine form k key.0) of_value) (pairs_fine ps parts.1)
