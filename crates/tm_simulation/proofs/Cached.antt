@@ -266,24 +266,9 @@ module _ (s : StreamId) (fs ts : Caches) where
           (λ vs rest. after_same (merged_values host vs c.world) _ _ (λ v w. (here, refl)))
       effect_same f (i.UnpackLists n) none = on_taken_same (taken n [] c.run.operands) c.world _ _
           (λ vs rest. after_same (items_of_lists host vs c.world) _ _ (λ us w. (here, refl)))
-      effect_same f i.Eq none = two_same (operated host binaries.Equal)
-      effect_same f i.Ne none = two_same (operated host binaries.NotEqual)
-      effect_same f i.Lt none = two_same (operated host binaries.Less)
-      effect_same f i.Lte none = two_same (operated host binaries.LessOrEqual)
-      effect_same f i.Gt none = two_same (operated host binaries.Greater)
-      effect_same f i.Gte none = two_same (operated host binaries.GreaterOrEqual)
-      effect_same f i.In none = two_same (operated host binaries.In)
       effect_same f (i.CompareAndPreserve op) none =
           on_top_same c.run.operands c.world _ _ (λ b vs. on_top_same vs c.world _ _ (λ a rest.
           after_same (operated host op a b c.world) _ _ (λ x w. (here, refl))))
-      effect_same f i.Add none = two_same (operated host binaries.Add)
-      effect_same f i.Sub none = two_same (operated host binaries.Subtract)
-      effect_same f i.StringConcat none = two_same (operated host binaries.Concatenate)
-      effect_same f i.Mul none = two_same (operated host binaries.Multiply)
-      effect_same f i.Div none = two_same (operated host binaries.Divide)
-      effect_same f i.IntDiv none = two_same (operated host binaries.FloorDivide)
-      effect_same f i.Rem none = two_same (operated host binaries.Remainder)
-      effect_same f i.Pow none = two_same (operated host binaries.Power)
       effect_same f i.Neg none = one_same (applied_unary host unaries.Negate)
       effect_same f i.Not none = one_same (applied_unary host unaries.Not)
       effect_same f i.IsUndefined none = on_top_same c.run.operands c.world _ _ (λ v vs. (here, refl))
@@ -350,6 +335,7 @@ module _ (s : StreamId) (fs ts : Caches) where
       effect_same f i.PushAutoEscape none = on_top_same c.run.operands c.world _ _
           (λ v vs. after_same (answered (escape_for f.first v) c.world) _ _ (λ e w. (here, refl)))
       effect_same f i.PopAutoEscape none = pop_escape_same c.run.escapes
+      effect_same f _ none = two_same _
 
   -- ---------------------------------------------------------------- ends of runs
   back_with_same : (value : Bool) (t : RunText) (r : Activation) (ks : List Capture) (w : World) → r.stream ≡ s →
