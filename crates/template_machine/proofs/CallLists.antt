@@ -23,12 +23,12 @@ use Rattle.tm_meaning.specs.declared.reply.Call.{Call}
 use Rattle.tm_meaning.specs.declared.reply.Call.TheVariants as further
 use Rattle.tm_state.specs.State.{IsSaved, undo_of, saved_scopes}
 use Rattle.tm_state.specs.Answers.{Becomes, call_of}
-use Rattle.tm_state.specs.declared.saved.Saved.{Saved}
-use Rattle.tm_state.specs.declared.saved.Saved.TheVariants as saved
-use Rattle.tm_state.specs.declared.saved.SavedMacro.{SavedMacro}
-use Rattle.tm_state.specs.declared.nested.NestedRun.{NestedRun}
-use Rattle.tm_state.specs.declared.calls.CallResult.{CallResult}
-use Rattle.tm_state.specs.declared.calls.CallResult.TheVariants as outcome
+use Rattle.tm_records.specs.declared.saved.Saved.{Saved}
+use Rattle.tm_records.specs.declared.saved.Saved.TheVariants as saved
+use Rattle.tm_records.specs.declared.saved.SavedMacro.{SavedMacro}
+use Rattle.tm_records.specs.declared.nested.NestedRun.{NestedRun}
+use Rattle.tm_records.specs.declared.results.CallResult.{CallResult}
+use Rattle.tm_records.specs.declared.results.CallResult.TheVariants as outcome
 use Rattle.template_machine.specs.Renders.{KeepsLists, SameLists, is_of_block, runs_a_block}
 
 -- ---------------------------------------------------------------- whatever is asked for, so is its property

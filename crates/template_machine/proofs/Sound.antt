@@ -17,10 +17,10 @@ use Rattle.tm_safety.proofs.Comes.{Comes}
 use Rattle.tm_safety.proofs.Never.{leaves_records, never_stuck}
 use Rattle.tm_state.specs.Answers.{Becomes, call_of}
 use Rattle.tm_state.specs.State.{put_back}
-use Rattle.tm_state.specs.declared.calls.CallResult.{CallResult}
-use Rattle.tm_state.specs.declared.calls.CallResult.TheVariants as outcome
-use Rattle.tm_state.specs.declared.saved.Saved.{Saved}
-use Rattle.tm_state.specs.declared.saved.Saved.TheVariants as saved
+use Rattle.tm_records.specs.declared.results.CallResult.{CallResult}
+use Rattle.tm_records.specs.declared.results.CallResult.TheVariants as outcome
+use Rattle.tm_records.specs.declared.saved.Saved.{Saved}
+use Rattle.tm_records.specs.declared.saved.Saved.TheVariants as saved
 use Rattle.tm_objects.specs.Stated.{StatedObjects}
 use Rattle.template_machine.specs.Environment.{TemplateValue, code}
 use Rattle.template_machine.specs.Renders.{IsStarted, RunEnds, SoundRecords, forgetting, program_of}

@@ -21,9 +21,9 @@ use Rattle.tm_shapes.specs.Verified.{IsAccepted}
 use Rattle.tm_safety.specs.Runs.{stream_of}
 use Rattle.tm_state.specs.Answers.{Becomes, NeedsRun, call_of}
 use Rattle.tm_state.specs.State.{after_block, callee_of, put_back}
-use Rattle.tm_state.specs.declared.saved.Saved.TheVariants as saved
-use Rattle.tm_state.specs.declared.saved.SavedBlock.{SavedBlock}
-use Rattle.tm_state.specs.declared.nested.NestedRun.{NestedRun}
+use Rattle.tm_records.specs.declared.saved.Saved.TheVariants as saved
+use Rattle.tm_records.specs.declared.saved.SavedBlock.{SavedBlock}
+use Rattle.tm_records.specs.declared.nested.NestedRun.{NestedRun}
 use Rattle.tm_objects.specs.Stated.{StatedObjects}
 use Rattle.tm_vm.specs.Answers.{HaltsAs, ReachesEnd}
 use Rattle.tm_vm.proofs.Loop.{undone_is}

@@ -22,10 +22,10 @@ use Rattle.tm_meaning.specs.Runs.{evaluated, first_world, nests_of, rendered, re
 pub use Rattle.tm_simulation.specs.Called.{as_text, call_by_name, called, maps_in}
 use Rattle.tm_state.specs.Answers.{HasOneMore}
 use Rattle.tm_state.specs.State.{callee_of, runs_block, saved_of, saved_scopes}
-use Rattle.tm_state.specs.declared.saved.Saved.TheVariants as saved
-use Rattle.tm_state.specs.declared.calls.CallResult.{CallResult}
-use Rattle.tm_state.specs.declared.calls.CallResult.TheVariants as outcome
-use Rattle.tm_state.specs.declared.saved.SavedBlock.{SavedBlock}
+use Rattle.tm_records.specs.declared.saved.Saved.TheVariants as saved
+use Rattle.tm_records.specs.declared.results.CallResult.{CallResult}
+use Rattle.tm_records.specs.declared.results.CallResult.TheVariants as outcome
+use Rattle.tm_records.specs.declared.saved.SavedBlock.{SavedBlock}
 use Rattle.tm_output.specs.Counts.{saturating_increment, AppendsBeginning}
 use Rattle.tm_parts.specs.declared.halt.Halt.{Halt}
 use Rattle.tm_parts.specs.declared.halt.Halt.TheVariants as halt

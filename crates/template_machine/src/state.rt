@@ -19,7 +19,7 @@ ghost use Rattle.tm_safety.specs.Runs.{stream_of};
 ghost use Rattle.template_machine.specs.Renders.{KeepsLists, SameLists, runs_a_block};
 ghost use Rattle.tm_values.specs.Val.{macro};
 ghost use Rattle.tm_state.specs.State.{saved_scopes};
-ghost use Rattle.tm_state.specs.declared.saved.Saved.TheVariants as saved;
+ghost use Rattle.tm_records.specs.declared.saved.Saved.TheVariants as saved;
 ghost use Rattle.template_machine.specs.Renders.{BlockWritten, IsMacroCall, IsCapturedRun, IsEntered, IsFresh, IsTested, Ran, RanApart};
 ghost use Rattle.tm_meaning.specs.Machine.{new_capture};
 ghost use Rattle.tm_vm.specs.Answers.{NoFewer};

@@ -771,41 +771,11 @@ module _ (code : List Instruction) (read : Readings) (sh : Shapes) (marks : List
       pub flow_three : (x : Instruction) → slice_get code n ≡ Some x →
           (x ≡ i.Swap → (d : Kind) (more : List Kind) → in_row at ≡ true → t.part.operands ≡ d ∷ value ∷ more → ⊥) →
           shape_at sh n ≡ Some t → Has sh (flow_of at x t) → Three (flow_of site_open x s) (flow_of at x t) (flow_of by_marks x u)
-      flow_three (i.EmitRaw x) at_it never there h = replaces_three 0 0 h
-      flow_three i.Emit at_it never there h = replaces_three 1 0 h
-      flow_three (i.Lookup x) at_it never there h = replaces_three 0 1 h
       flow_three (i.LoadConst v) at_it never there h = load_three (place_inside code n (i.LoadConst v) at_it) there v h
-      flow_three (i.GetAttr x) at_it never there h = replaces_three 1 1 h
-      flow_three i.GetItem at_it never there h = replaces_three 2 1 h
-      flow_three i.Slice at_it never there h = replaces_three 4 1 h
       flow_three (i.BuildList c) at_it never there h = replaces_counted_three c h
-      flow_three (i.BuildTuple c) at_it never there h = replaces_three c 1 h
-      flow_three (i.BuildMap c) at_it never there h = replaces_three (c + c) 1 h
-      flow_three (i.BuildKwargs c) at_it never there h = replaces_three (c + c) 1 h
-      flow_three (i.MergeKwargs c) at_it never there h = replaces_three c 1 h
       flow_three (i.UnpackLists c) at_it never there h = unpack_three c h
-      flow_three i.Eq at_it never there h = replaces_three 2 1 h
-      flow_three i.Ne at_it never there h = replaces_three 2 1 h
-      flow_three i.Lt at_it never there h = replaces_three 2 1 h
-      flow_three i.Lte at_it never there h = replaces_three 2 1 h
-      flow_three i.Gt at_it never there h = replaces_three 2 1 h
-      flow_three i.Gte at_it never there h = replaces_three 2 1 h
-      flow_three i.In at_it never there h = replaces_three 2 1 h
-      flow_three (i.CompareAndPreserve op) at_it never there h = replaces_three 2 2 h
       flow_three i.Add at_it never there h = add_three js t.part.operands ops h
-      flow_three i.Sub at_it never there h = replaces_three 2 1 h
-      flow_three i.StringConcat at_it never there h = replaces_three 2 1 h
-      flow_three i.Mul at_it never there h = replaces_three 2 1 h
-      flow_three i.Div at_it never there h = replaces_three 2 1 h
-      flow_three i.IntDiv at_it never there h = replaces_three 2 1 h
-      flow_three i.Rem at_it never there h = replaces_three 2 1 h
-      flow_three i.Pow at_it never there h = replaces_three 2 1 h
-      flow_three i.Neg at_it never there h = replaces_three 1 1 h
-      flow_three i.Not at_it never there h = replaces_three 1 1 h
-      flow_three i.IsUndefined at_it never there h = replaces_three 1 1 h
       flow_three i.Swap at_it never there h = swap_three js t.part.operands ops (never refl) h
-      flow_three i.DupTop at_it never there h = replaces_three 1 2 h
-      flow_three i.DiscardTop at_it never there h = replaces_three 1 0 h
       flow_three (i.Jump m) at_it never there h = leads_three m js bs t u ops lower (λ _. refl)
       flow_three (i.JumpIfFalse m) at_it never there h = jump_if_three m h
       flow_three (i.JumpIfFalseOrPop m) at_it never there h = jump_or_pop_three m h
@@ -815,20 +785,9 @@ module _ (code : List Instruction) (read : Readings) (sh : Shapes) (marks : List
       flow_three (i.CallObject c) at_it never there h = replaces_counted_three c h
       flow_three (i.ApplyFilter x c cache) at_it never there h = replaces_counted_three c h
       flow_three (i.PerformTest x c cache) at_it never there h = replaces_counted_three c h
-      flow_three i.FastRecurse at_it never there h = replaces_three 1 0 h
-      flow_three (i.CallBlock b) at_it never there h = replaces_three 0 0 h
-      flow_three i.FastSuper at_it never there h = replaces_three 0 0 h
-      flow_three i.LoadBlocks at_it never there h = replaces_three 1 0 h
-      flow_three (i.Include missing) at_it never there h = replaces_three 1 0 h
-      flow_three i.IncludeModule at_it never there h = replaces_three 1 0 h
-      flow_three i.ExportLocals at_it never there h = replaces_three 1 1 h
-      flow_three (i.StoreLocal x) at_it never there h = replaces_three 1 0 h
-      flow_three (i.Enclose x) at_it never there h = replaces_three 0 0 h
       flow_three i.GetClosure at_it never there h = closure_three h
       flow_three (i.BuildMacro x place caller) at_it never there h = macro_three place js t.part.operands ops h
       flow_three i.Return at_it never there h = return_three h
-      flow_three (i.UnpackList c) at_it never there h = replaces_three 1 c h
-      flow_three (i.SetAttr x) at_it never there h = replaces_three 2 0 h
       flow_three i.PushWith at_it never there h = on_three (with_frames (scope ∷ t.part.frames) t) refl refl
       flow_three i.PopFrame at_it never there h = frame_three t.part.frames h
       flow_three (i.PushLoop flags) at_it never there h = push_loop_three flags.recursive h
@@ -839,3 +798,4 @@ module _ (code : List Instruction) (read : Readings) (sh : Shapes) (marks : List
       flow_three i.EndCapture at_it never there h = capture_three t.part.captures h
       flow_three i.PushAutoEscape at_it never there h = push_escape_three h
       flow_three i.PopAutoEscape at_it never there h = pop_escape_three t.part.escapes h
+      flow_three _ at_it never there h = replaces_three _ _ h

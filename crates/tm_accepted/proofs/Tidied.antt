@@ -10,7 +10,6 @@ use Rattle.tm_trees.specs.Trees.{target, Assignment, Parameter, Imported, Captur
 use Rattle.tm_trees.specs.Trees.{For', Break, Continue, Block', Extends, Set, CaptureBlock', With', Do, AutoEscape', Macro', CallBlock', Row_of-Stmt}
 use Rattle.tm_trees.specs.Trees.{Include, Import, FromImport, no_statement, statement, Otherwise, no_else, otherwise}
 use Rattle.tm_trees.specs.Trees.unaries
-use Rattle.tm_trees.specs.Trees.binaries
 use Rattle.tm_trees.specs.Trees.applications
 use Rattle.tm_trees.specs.Trees.uses
 use Rattle.tm_trees.specs.Instructions.{Instruction}
@@ -57,22 +56,7 @@ module _ (macros : Bool) where
   unary_tidy unaries.Negate = one i.Neg refl
 
   binary_plain : (op : BinaryOperator) → all_plain (binary_code op) ≡ true
-  binary_plain binaries.Equal = refl
-  binary_plain binaries.NotEqual = refl
-  binary_plain binaries.Less = refl
-  binary_plain binaries.LessOrEqual = refl
-  binary_plain binaries.Greater = refl
-  binary_plain binaries.GreaterOrEqual = refl
-  binary_plain binaries.In = refl
-  binary_plain binaries.NotIn = refl
-  binary_plain binaries.Add = refl
-  binary_plain binaries.Subtract = refl
-  binary_plain binaries.Concatenate = refl
-  binary_plain binaries.Multiply = refl
-  binary_plain binaries.Divide = refl
-  binary_plain binaries.FloorDivide = refl
-  binary_plain binaries.Remainder = refl
-  binary_plain binaries.Power = refl
+  binary_plain _ = refl
 
   binary_tidy : (op : BinaryOperator) → TidyBy macros (straight (binary_code op))
   binary_tidy op = plain_chunks (binary_code op) (binary_plain op)

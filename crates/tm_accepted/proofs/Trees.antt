@@ -96,23 +96,10 @@ add_step : Replaces 2 1 (straight (i.Add ∷ []))
 add_step e s ks pc = (Over 1 ks s, (as_value, tt, tt, λ r. refl), refl)
 
 binary_types : (op : BinaryOperator) → Replaces 2 1 (straight (binary_code op))
-binary_types binaries.Equal = one_step i.Eq 2 1 (λ at s. refl)
-binary_types binaries.NotEqual = one_step i.Ne 2 1 (λ at s. refl)
-binary_types binaries.Less = one_step i.Lt 2 1 (λ at s. refl)
-binary_types binaries.LessOrEqual = one_step i.Lte 2 1 (λ at s. refl)
-binary_types binaries.Greater = one_step i.Gt 2 1 (λ at s. refl)
-binary_types binaries.GreaterOrEqual = one_step i.Gte 2 1 (λ at s. refl)
-binary_types binaries.In = one_step i.In 2 1 (λ at s. refl)
 binary_types binaries.NotIn = λ e s ks pc.
     (Over 1 ks s, (as_value, tt, tt, λ r. refl), one_step i.Not 1 1 (λ at s. refl) e s ks (pc + 1))
 binary_types binaries.Add = add_step
-binary_types binaries.Subtract = one_step i.Sub 2 1 (λ at s. refl)
-binary_types binaries.Concatenate = one_step i.StringConcat 2 1 (λ at s. refl)
-binary_types binaries.Multiply = one_step i.Mul 2 1 (λ at s. refl)
-binary_types binaries.Divide = one_step i.Div 2 1 (λ at s. refl)
-binary_types binaries.FloorDivide = one_step i.IntDiv 2 1 (λ at s. refl)
-binary_types binaries.Remainder = one_step i.Rem 2 1 (λ at s. refl)
-binary_types binaries.Power = one_step i.Pow 2 1 (λ at s. refl)
+binary_types _ = one_step _ 2 1 (λ at s. refl)
 
 -- a row of values becomes a list, and one of pairs a map, where there are any
 row_types : (n : ℕ) → Replaces n (rows_of n) (straight (list_of_row n))

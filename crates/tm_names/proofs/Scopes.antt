@@ -7,8 +7,8 @@ use Rattle.tm_trees.specs.Trees.{Expr, Var, Const, List', Tuple', Map', Call', S
 use Rattle.tm_trees.specs.Trees.{Row_of-Argument, no_argument, argument, Row_of-Keyword, no_keyword, keyword_and, Row_of-Step, no_step, step}
 use Rattle.tm_trees.specs.Trees.{Row_of-Condition, no_condition, Argument, Keyword, Step, Attribute, Apply', Called, Row_of-Comparison}
 use Rattle.tm_trees.specs.Trees.{no_comparison, AssignmentTarget, To, Items, Member, Row_of-AssignmentTarget, no_target, target, Assignment}
-use Rattle.tm_trees.specs.Trees.{Parameter, Imported, CaptureUse, Stmt, EmitRaw, EmitExpr, EmitLoop, EmitBlock, EmitSuper, If', For', Break}
-use Rattle.tm_trees.specs.Trees.{Continue, Block', Extends, Set, CaptureBlock', With', Do, AutoEscape', Macro', CallBlock', Row_of-Stmt, Include}
+use Rattle.tm_trees.specs.Trees.{Parameter, Imported, CaptureUse, Stmt, EmitLoop, If', For'}
+use Rattle.tm_trees.specs.Trees.{Block', Set, CaptureBlock', With', AutoEscape', Macro', CallBlock', Row_of-Stmt}
 use Rattle.tm_trees.specs.Trees.{Import, FromImport, no_statement, statement, Otherwise, no_else, otherwise}
 use Rattle.tm_trees.specs.Trees.uses
 use Rattle.tm_syntax.specs.Names.{Walk, Scope, assign, close_scope, name_of, open_scope, outer_of, read_as, read_chain, read_first}
@@ -153,31 +153,23 @@ head_within d t c k =
 
 mutual
   walk_within : (d : Bool) (s : Stmt) (k : Walk) → outer (walk d s k) ≡ outer k
-  walk_within d (EmitRaw t) k = refl
-  walk_within d (EmitExpr e) k = expr_within d e k
   walk_within d (EmitLoop e) k = expr_within d e _ ∙ ap outer_of (read_stays (codes "loop") (codes "loop") k)
   walk_within d (If' c _ body other) k = else_within d other _ ∙ all_within d body _ ∙ expr_within d c k
   walk_within d (For' t e c recursive _ body other) k =
       else_within d other _ ∙ ap outer_of (all_within d body _ ∙ head_within d t c _) ∙ expr_within d e k
-  walk_within d Break k = refl
-  walk_within d Continue k = refl
-  walk_within d (EmitBlock x) k = refl
-  walk_within d EmitSuper k = refl
-  walk_within d (Extends e) k = expr_within d e k
   walk_within d (Block' x required _ body) k = ap outer_of (all_within d body (open_scope k))
   walk_within d (Set t e) k = expr_within d e _ ∙ target_within d t k
   walk_within d (CaptureBlock' u filters _ body) k =
       all_within d body _ ∙ ap outer_of (filters_stay d filters _) ∙ use_within d u k
   walk_within d (With' given _ body) k = ap outer_of (all_within d body _ ∙ assignments_within d given (open_scope k))
-  walk_within d (Do e) k = expr_within d e k
   walk_within d (AutoEscape' e _ body) k = all_within d body _ ∙ expr_within d e k
   walk_within d (Macro' x ps _ body) k = ap outer_of (all_within d body _ ∙ parameters_within d ps _
       ∙ assign_within (codes "caller") (open_scope (assign x k))) ∙ assign_within x k
   walk_within d (CallBlock' e ps _ body) k = ap outer_of (all_within d body _ ∙ parameters_within d ps _
       ∙ assign_within (codes "caller") (open_scope (walk_expr d e k))) ∙ expr_within d e k
-  walk_within d (Include e missing) k = expr_within d e k
   walk_within d (Import e t) k = target_within d t _ ∙ expr_within d e k
   walk_within d (FromImport e xs) k = imports_within xs _ ∙ expr_within d e k
+  walk_within d _ k = search (expr_within, refl)
 
   all_within : {n : _} → (d : Bool) (ss : Row_of-Stmt n) (k : Walk) → outer (walk_all d ss k) ≡ outer k
   all_within d no_statement k = refl

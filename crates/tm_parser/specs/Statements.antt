@@ -18,15 +18,15 @@ use Rattle.tm_syntax.specs.Names.{parameter_names}
 use Rattle.tm_trees.specs.Trees.expr_forms as exprs
 use Rattle.tm_trees.specs.Trees.uses
 use Rattle.tm_trees.specs.Trees.statement_forms as stmts
-use Rattle.tm_parser.specs.declared.tables.Start.{Start}
-use Rattle.tm_parser.specs.declared.tables.Start.TheVariants as starts
-use Rattle.tm_parser.specs.declared.targets.LoopHead.{LoopHead}
+use Rattle.tm_parser.specs.declared.tags.Start.{Start}
+use Rattle.tm_parser.specs.declared.tags.Start.TheVariants as starts
+use Rattle.tm_parser.specs.declared.loop_heads.LoopHead.{LoopHead}
 use Rattle.tm_grammar.specs.Combinators.{provided, first, nothing, pure, ◌>>=◌, branch, token, not_before, one_more, many_from}
 use Rattle.tm_grammar.specs.Rule.{Look}
 use Rattle.tm_parser.specs.Distinct.{are_distinct}
-use Rattle.tm_parser.specs.Looks.{ahead}
-use Rattle.tm_parser.specs.Grammar.{Rule, Inside, inside, items, more_items, whole, expr, target}
-use Rattle.tm_parser.specs.Tokens.{is, a_name, is_comma}
+use Rattle.tm_expressions.specs.Looks.{ahead}
+use Rattle.tm_expressions.specs.Grammar.{Rule, Inside, inside, items, more_items, whole, expr, target}
+use Rattle.tm_expressions.specs.Tokens.{is, a_name, is_comma}
 
 -- this tag
 abbrev pub is_tag : Tag → Token → Option (Unit {0})

@@ -6,7 +6,7 @@ use Rattle.tm_syntax.specs.Named.{Named}
 use Rattle.tm_trees.specs.Trees.{Stmt, statements as row, Tree}
 use Rattle.tm_trees.specs.Trees.tree_forms as trees
 use Rattle.tm_parser.specs.Distinct.{are_distinct}
-use Rattle.tm_parser.specs.Grammar.{expr, inside}
+use Rattle.tm_expressions.specs.Grammar.{expr, inside}
 use Rattle.tm_parser.specs.Statements.{body, inner}
 
 abbrev pub names : {A : Type 0} → Named A → List (List ℕ)

@@ -7,7 +7,7 @@ ghost use Rattle.tm_trees.specs.Trees.statement_forms.{EmitExpr};
 ghost use Rattle.tm_values.specs.declared.error.ErrorKind.TheVariants.{OutOfMemory};
 ghost use Rattle.tm_trees.specs.Trees.{steps as row_of_steps, arguments as row_of_arguments, keywords as row_of_keywords};
 
-use crate::lists::add_one;
+use tm_expressions::add_one;
 use tm_items::{Boxed, Items};
 use tm_syntax::{Application, Argument, Expr, Keyword, Step, Stmt};
 use tm_values::Error;

@@ -1,19 +1,16 @@
 //! From the tokens of a template or an expression to its tree.
 #![tactic(auto)]
 
-mod applications;
+mod assignments;
 mod blocks;
-mod cursor;
 mod distinct;
 mod emissions;
-mod expressions;
+mod filters;
 mod imports;
-mod lists;
+mod loop_heads;
 mod macros;
-mod operators;
-mod primaries;
 mod statements;
-mod tables;
+mod tags;
 mod targets;
 mod template;
 

@@ -1,8 +1,8 @@
-//! Blocks, also as `self` has them, macros and calls with a body: bodies around which is no loop, and parameters.
+//! Blocks, macros and calls with a body: bodies around which is no loop, and parameters.
 ghost use Rattle.std.specs.Prelude.{◌≡◌, [], ◌∷◌, false, IfOk, MatchResult};
-ghost use Rattle.tm_parser.specs.Parses.{Adds, Parses};
+ghost use Rattle.tm_expressions.specs.Parses.{Adds, Parses};
 ghost use Rattle.tm_parser.specs.Distinct as spec;
-ghost use Rattle.tm_parser.specs.Grammar.{inside, items, more_items, of_self};
+ghost use Rattle.tm_expressions.specs.Grammar.{inside, items, more_items};
 ghost use Rattle.tm_parser.specs.Statements as statements;
 ghost use Rattle.tm_parser.specs.Statements.{block_tag, call_block, call_parameters, call_tag, default_value, inner};
 ghost use Rattle.tm_parser.specs.Statements.{macro_tag, named_body, named_end, parameter, parameters};
@@ -11,258 +11,261 @@ ghost use Rattle.tm_syntax.specs.Names.{parameter_names};
 ghost use Rattle.tm_syntax.specs.declared.token.Sign.TheVariants as sign;
 ghost use Rattle.tm_values.specs.declared.error.ErrorKind.TheVariants.{OutOfMemory};
 
-use crate::cursor::{Cursor, refusal};
 use crate::distinct::are_distinct;
 use crate::emissions::is_call;
-use crate::lists::{add_one, boxed, with_one};
+use crate::statements::{body_after, inner_body};
+use crate::tags::{expect_same, expect_tag, take_word};
 use std::alloc::{AllocError, Global};
+use tm_expressions::{Cursor, add_one, boxed, refusal, with_one};
 use tm_items::{Boxed, Items};
 use tm_syntax::{Application, CallBlock, Expr, Macro, Name, Parameter, Sign, Step, Stmt, Tag};
 use tm_values::Error;
 
-// Each method reads one rule, with `depth` nestings to go. SyntaxError where no tokens spell it.
-impl Cursor<'_> {
-    /// A block's name, whether another template has to replace it, and its body, up to its end tag.
-    #[cycle(statements)]
-    #[tactic(auto, unfolding(crate::specs::Statements::block_tag))]
-    #[inline(never)]
-    pub fn block_tag(
-        &mut self,
-        alloc: Global,
-        depth: u8,
-        body: &mut Items<Stmt>,
-    ) -> Result<(), Error>
-        ensures { Adds result body.new self.new
-            ((one_more (block_tag (inner depth)) body.old).reads self.old) }
-    {
-        let name = self.expect_name()?;
-        let required = self.take_word("required");
-        self.expect(Sign::BlockEnd)?;
-        let inner = self.named_body(alloc, depth, Tag::Endblock, &name)?;
-        add_one(body, Stmt::Block(name, required, inner))
-    }
+// Each function reads one rule, with `depth` nestings to go. SyntaxError where no tokens spell it.
 
-    /// The name `self`, or the block that is called after it.
-    #[tactic(auto, unfolding(crate::specs::Grammar::of_self))]
-    #[inline(never)]
-    pub fn of_self(&mut self, alloc: Global, depth: u8, name: Name) -> Result<Boxed<Expr>, Error>
-        ensures { Parses result self.new ((of_self (inside depth) name).reads self.old) }
-    {
-        if let Some(block) = self.take_bare_call()? {
-            self.room(depth)?;
-            return boxed(alloc, Expr::SelfBlock(block));
-        }
-        boxed(alloc, Expr::Var(name))
-    }
+/// A block's name, whether another template has to replace it, and its body, up to its end tag.
+#[cycle(statements)]
+#[tactic(auto, unfolding(crate::specs::Statements::block_tag))]
+#[inline(never)]
+pub fn block_tag(
+    cursor: &mut Cursor<'_>,
+    alloc: Global,
+    depth: u8,
+    body: &mut Items<Stmt>,
+) -> Result<(), Error>
+    ensures { Adds result body.new cursor.new
+        ((one_more (block_tag (inner depth)) body.old).reads cursor.old) }
+{
+    let name = cursor.expect_name()?;
+    let required = take_word(cursor, "required");
+    cursor.expect(Sign::BlockEnd)?;
+    let inner = named_body(cursor, alloc, depth, Tag::Endblock, &name)?;
+    add_one(body, Stmt::Block(name, required, inner))
+}
 
-    /// A macro's name, parameters and body, up to its end tag.
-    #[cycle(statements)]
-    #[tactic(auto, unfolding(crate::specs::Statements::macro_tag))]
-    #[inline(never)]
-    pub fn macro_tag(
-        &mut self,
-        alloc: Global,
-        depth: u8,
-        body: &mut Items<Stmt>,
-    ) -> Result<(), Error>
-        ensures { Adds result body.new self.new
-            ((one_more (macro_tag (inner depth)) body.old).reads self.old) }
-    {
-        let name = self.expect_name()?;
-        self.expect(Sign::OpenRound)?;
-        let parameters = self.inner_parameters(alloc, depth)?;
-        self.expect(Sign::BlockEnd)?;
-        let inner = self.named_body(alloc, depth, Tag::Endmacro, &name)?;
-        let statement = Stmt::Macro(Macro {
-            name,
-            parameters,
-            body: inner,
-        });
-        add_one(body, statement)
-    }
+/// A macro's name, parameters and body, up to its end tag.
+#[cycle(statements)]
+#[tactic(auto, unfolding(crate::specs::Statements::macro_tag))]
+#[inline(never)]
+pub fn macro_tag(
+    cursor: &mut Cursor<'_>,
+    alloc: Global,
+    depth: u8,
+    body: &mut Items<Stmt>,
+) -> Result<(), Error>
+    ensures { Adds result body.new cursor.new
+        ((one_more (macro_tag (inner depth)) body.old).reads cursor.old) }
+{
+    let name = cursor.expect_name()?;
+    cursor.expect(Sign::OpenRound)?;
+    let parameters = inner_parameters(cursor, alloc, depth)?;
+    cursor.expect(Sign::BlockEnd)?;
+    let inner = named_body(cursor, alloc, depth, Tag::Endmacro, &name)?;
+    let statement = Stmt::Macro(Macro {
+        name,
+        parameters,
+        body: inner,
+    });
+    add_one(body, statement)
+}
 
-    /// The body of a block or a macro of this name, up to its end tag.
-    #[cycle(statements)]
-    #[tactic(auto, unfolding(crate::specs::Statements::named_body))]
-    fn named_body(
-        &mut self,
-        alloc: Global,
-        depth: u8,
-        end: Tag,
-        name: &Name,
-    ) -> Result<Items<Stmt>, Error>
-        ensures { Parses result self.new ((named_body (inner depth) end name.now).reads self.old) }
-    {
-        let body = self.inner_body(alloc, depth, false)?;
-        self.expect_named_end(end, name)?;
-        Ok(body)
-    }
+/// The body of a block or a macro of this name, up to its end tag.
+#[cycle(statements)]
+#[tactic(auto, unfolding(crate::specs::Statements::named_body))]
+fn named_body(
+    cursor: &mut Cursor<'_>,
+    alloc: Global,
+    depth: u8,
+    end: Tag,
+    name: &Name,
+) -> Result<Items<Stmt>, Error>
+    ensures { Parses result cursor.new ((named_body (inner depth) end name.now).reads cursor.old) }
+{
+    let body = inner_body(cursor, alloc, depth, false)?;
+    expect_named_end(cursor, end, name)?;
+    Ok(body)
+}
 
-    /// Takes this end tag, which may say the name again.
-    fn expect_named_end(&mut self, end: Tag, name: &Name) -> Result<(), Error>
-        ensures { Parses result self.new ((named_end end name.now).reads self.old) }
-    {
-        self.expect_tag(end)?;
-        self.expect_same(name)?;
-        self.expect(Sign::BlockEnd)
-    }
+/// Takes this end tag, which may say the name again.
+fn expect_named_end(cursor: &mut Cursor<'_>, end: Tag, name: &Name) -> Result<(), Error>
+    ensures { Parses result cursor.new ((named_end end name.now).reads cursor.old) }
+{
+    expect_tag(cursor, end)?;
+    expect_same(cursor, name)?;
+    cursor.expect(Sign::BlockEnd)
+}
 
-    /// The parameters of a call's body, if any, the call and the body, up to its end tag.
-    #[cycle(statements)]
-    #[tactic(auto, unfolding(crate::specs::Statements::call_tag))]
-    #[inline(never)]
-    pub fn call_tag(
-        &mut self,
-        alloc: Global,
-        depth: u8,
-        body: &mut Items<Stmt>,
-    ) -> Result<(), Error>
-        ensures { Adds result body.new self.new
-            ((one_more (call_tag (inside depth) (inner depth)) body.old).reads self.old) }
-    {
-        let parameters = self.call_parameters(alloc, depth)?;
-        let call = self.inner_expr(alloc, depth)?;
-        self.call_block(alloc, depth, parameters, call, body)
-    }
+/// The parameters of a call's body, if any, the call and the body, up to its end tag.
+#[cycle(statements)]
+#[tactic(auto, unfolding(crate::specs::Statements::call_tag))]
+#[inline(never)]
+pub fn call_tag(
+    cursor: &mut Cursor<'_>,
+    alloc: Global,
+    depth: u8,
+    body: &mut Items<Stmt>,
+) -> Result<(), Error>
+    ensures { Adds result body.new cursor.new
+        ((one_more (call_tag (inside depth) (inner depth)) body.old).reads cursor.old) }
+{
+    let parameters = call_parameters(cursor, alloc, depth)?;
+    let call = cursor.inner_expr(alloc, depth)?;
+    call_block(cursor, alloc, depth, parameters, call, body)
+}
 
-    /// What stands after the expression of a call's tag. SyntaxError also where that is no call.
-    #[cycle(statements)]
-    #[tactic(auto, unfolding(crate::specs::Statements::call_block))]
-    fn call_block(
-        &mut self,
-        alloc: Global,
-        depth: u8,
-        parameters: Items<Parameter>,
-        call: Boxed<Expr>,
-        body: &mut Items<Stmt>,
-    ) -> Result<(), Error>
-        ensures { Adds result body.new self.new
-            ((one_more (call_block (inner depth) parameters call) body.old).reads self.old) }
-    {
-        if !is_call(call.get()) {
-            return Err(refusal());
-        }
-        let inner = self.body_after(alloc, depth, Tag::Endcall, false)?;
-        let call = with_caller(alloc, call)?;
-        let statement = Stmt::CallBlock(CallBlock {
-            call,
-            parameters,
-            body: inner,
-        });
-        add_one(body, statement)
+/// What stands after the expression of a call's tag. SyntaxError also where that is no call.
+#[cycle(statements)]
+#[tactic(auto, unfolding(crate::specs::Statements::call_block))]
+fn call_block(
+    cursor: &mut Cursor<'_>,
+    alloc: Global,
+    depth: u8,
+    parameters: Items<Parameter>,
+    call: Boxed<Expr>,
+    body: &mut Items<Stmt>,
+) -> Result<(), Error>
+    ensures { Adds result body.new cursor.new
+        ((one_more (call_block (inner depth) parameters call) body.old).reads cursor.old) }
+{
+    if !is_call(call.get()) {
+        return Err(refusal());
     }
+    let inner = body_after(cursor, alloc, depth, Tag::Endcall, false)?;
+    let call = with_caller(alloc, call)?;
+    let statement = Stmt::CallBlock(CallBlock {
+        call,
+        parameters,
+        body: inner,
+    });
+    add_one(body, statement)
+}
 
-    /// The parameters of a call's body, none where no bracket opens. SyntaxError also where one has
-    /// a default.
-    #[tactic(auto, unfolding(crate::specs::Statements::call_parameters))]
-    #[inline(never)]
-    fn call_parameters(&mut self, alloc: Global, depth: u8) -> Result<Items<Parameter>, Error>
-        ensures { Parses result self.new ((call_parameters (inner depth)).reads self.old) }
-    {
-        if !self.take(Sign::OpenRound) {
-            return Ok(Items::new(alloc));
-        }
-        let parameters = self.inner_parameters(alloc, depth)?;
-        if !have_no_default(parameters.as_slice()) {
-            return Err(refusal());
-        }
-        Ok(parameters)
+/// The parameters of a call's body, none where no bracket opens. SyntaxError also where one has
+/// a default.
+#[tactic(auto, unfolding(crate::specs::Statements::call_parameters))]
+#[inline(never)]
+fn call_parameters(
+    cursor: &mut Cursor<'_>,
+    alloc: Global,
+    depth: u8,
+) -> Result<Items<Parameter>, Error>
+    ensures { Parses result cursor.new ((call_parameters (inner depth)).reads cursor.old) }
+{
+    if !cursor.take(Sign::OpenRound) {
+        return Ok(Items::new(alloc));
     }
+    let parameters = inner_parameters(cursor, alloc, depth)?;
+    if !have_no_default(parameters.as_slice()) {
+        return Err(refusal());
+    }
+    Ok(parameters)
+}
 
-    /// Parameters after their opening bracket, inside one nesting more.
-    #[tactic(auto, using(crate::proofs::Nesting::macros))]
-    #[inline(never)]
-    fn inner_parameters(&mut self, alloc: Global, depth: u8) -> Result<Items<Parameter>, Error>
-        ensures { Parses result self.new ((inner depth).parameters.reads self.old) }
-    {
-        if depth == 0 {
-            return Err(refusal());
-        }
-        self.parameters(alloc, depth - 1)
+/// Parameters after their opening bracket, inside one nesting more.
+#[tactic(auto, using(crate::proofs::Nesting::macros))]
+#[inline(never)]
+fn inner_parameters(
+    cursor: &mut Cursor<'_>,
+    alloc: Global,
+    depth: u8,
+) -> Result<Items<Parameter>, Error>
+    ensures { Parses result cursor.new ((inner depth).parameters.reads cursor.old) }
+{
+    if depth == 0 {
+        return Err(refusal());
     }
+    parameters(cursor, alloc, depth - 1)
+}
 
-    /// Parameters after their opening bracket, and their end; no name is that of two.
-    #[tactic(auto, unfolding(crate::specs::Statements::parameters))]
-    fn parameters(&mut self, alloc: Global, depth: u8) -> Result<Items<Parameter>, Error>
-        ensures { Parses result self.new ((parameters (inside depth)).reads self.old) }
-    {
-        self.room(depth)?;
-        let parameters = self.listed_parameters(alloc, depth)?;
-        if !has_distinct_names(alloc, parameters.as_slice())? {
-            return Err(refusal());
-        }
-        Ok(parameters)
+/// Parameters after their opening bracket, and their end; no name is that of two.
+#[tactic(auto, unfolding(crate::specs::Statements::parameters))]
+fn parameters(cursor: &mut Cursor<'_>, alloc: Global, depth: u8) -> Result<Items<Parameter>, Error>
+    ensures { Parses result cursor.new ((parameters (inside depth)).reads cursor.old) }
+{
+    cursor.room(depth)?;
+    let parameters = listed_parameters(cursor, alloc, depth)?;
+    if !has_distinct_names(alloc, parameters.as_slice())? {
+        return Err(refusal());
     }
+    Ok(parameters)
+}
 
-    /// Parameters, and the end of their brackets.
-    #[tactic(auto, unfolding(crate::specs::Grammar::items))]
-    fn listed_parameters(&mut self, alloc: Global, depth: u8) -> Result<Items<Parameter>, Error>
-        ensures { Parses result self.new
-            ((items sign.CloseRound (parameter (inside depth)) []).reads self.old) }
-    {
-        let parameters = Items::new(alloc);
-        if self.take(Sign::CloseRound) {
-            return Ok(parameters);
-        }
-        let parameters = self.one_parameter(alloc, depth, parameters)?;
-        let parameters = self.more_parameters(alloc, depth, parameters)?;
-        self.take(Sign::Comma);
-        self.expect(Sign::CloseRound)?;
-        Ok(parameters)
+/// Parameters, and the end of their brackets.
+#[tactic(auto, unfolding(tm_expressions::specs::Grammar::items))]
+fn listed_parameters(
+    cursor: &mut Cursor<'_>,
+    alloc: Global,
+    depth: u8,
+) -> Result<Items<Parameter>, Error>
+    ensures { Parses result cursor.new
+        ((items sign.CloseRound (parameter (inside depth)) []).reads cursor.old) }
+{
+    let parameters = Items::new(alloc);
+    if cursor.take(Sign::CloseRound) {
+        return Ok(parameters);
     }
+    let parameters = one_parameter(cursor, alloc, depth, parameters)?;
+    let parameters = more_parameters(cursor, alloc, depth, parameters)?;
+    cursor.take(Sign::Comma);
+    cursor.expect(Sign::CloseRound)?;
+    Ok(parameters)
+}
 
-    /// More parameters, each after a comma.
-    #[tactic(auto, using(crate::proofs::Loops::commas))]
-    fn more_parameters(
-        &mut self,
-        alloc: Global,
-        depth: u8,
-        first: Items<Parameter>,
-    ) -> Result<Items<Parameter>, Error>
-        ensures { Parses result self.new
-            ((more_items sign.CloseRound (parameter (inside depth)) first).reads self.old) }
-    {
-        let mut parameters = first;
-        while self.take_comma(Sign::CloseRound) {
-            parameters = self.one_parameter(alloc, depth, parameters)?;
-        }
-        Ok(parameters)
+/// More parameters, each after a comma.
+#[tactic(auto, using(tm_expressions::proofs::Loops::commas))]
+fn more_parameters(
+    cursor: &mut Cursor<'_>,
+    alloc: Global,
+    depth: u8,
+    first: Items<Parameter>,
+) -> Result<Items<Parameter>, Error>
+    ensures { Parses result cursor.new
+        ((more_items sign.CloseRound (parameter (inside depth)) first).reads cursor.old) }
+{
+    let mut parameters = first;
+    while cursor.take_comma(Sign::CloseRound) {
+        parameters = one_parameter(cursor, alloc, depth, parameters)?;
     }
+    Ok(parameters)
+}
 
-    /// A parameter, at the end of others.
-    fn one_parameter(
-        &mut self,
-        alloc: Global,
-        depth: u8,
-        parameters: Items<Parameter>,
-    ) -> Result<Items<Parameter>, Error>
-        ensures { Parses result self.new
-            ((one_more (parameter (inside depth)) parameters).reads self.old) }
-    {
-        let parameter = self.parameter(alloc, depth)?;
-        with_one(parameters, parameter)
-    }
+/// A parameter, at the end of others.
+fn one_parameter(
+    cursor: &mut Cursor<'_>,
+    alloc: Global,
+    depth: u8,
+    parameters: Items<Parameter>,
+) -> Result<Items<Parameter>, Error>
+    ensures { Parses result cursor.new
+        ((one_more (parameter (inside depth)) parameters).reads cursor.old) }
+{
+    let parameter = parameter(cursor, alloc, depth)?;
+    with_one(parameters, parameter)
+}
 
-    /// A parameter's name, and its default or none.
-    #[tactic(auto, unfolding(crate::specs::Statements::parameter))]
-    fn parameter(&mut self, alloc: Global, depth: u8) -> Result<Parameter, Error>
-        ensures { Parses result self.new ((parameter (inside depth)).reads self.old) }
-    {
-        let name = self.expect_name()?;
-        let default = self.default_value(alloc, depth)?;
-        Ok(Parameter { name, default })
-    }
+/// A parameter's name, and its default or none.
+#[tactic(auto, unfolding(crate::specs::Statements::parameter))]
+fn parameter(cursor: &mut Cursor<'_>, alloc: Global, depth: u8) -> Result<Parameter, Error>
+    ensures { Parses result cursor.new ((parameter (inside depth)).reads cursor.old) }
+{
+    let name = cursor.expect_name()?;
+    let default = default_value(cursor, alloc, depth)?;
+    Ok(Parameter { name, default })
+}
 
-    /// The default of a parameter, if it stands there.
-    #[tactic(auto, unfolding(crate::specs::Statements::default_value))]
-    fn default_value(&mut self, alloc: Global, depth: u8) -> Result<Option<Boxed<Expr>>, Error>
-        ensures { Parses result self.new ((default_value (inside depth)).reads self.old) }
-    {
-        if self.take(Sign::Assign) {
-            return Ok(Some(self.inner_expr(alloc, depth)?));
-        }
-        Ok(None)
+/// The default of a parameter, if it stands there.
+#[tactic(auto, unfolding(crate::specs::Statements::default_value))]
+fn default_value(
+    cursor: &mut Cursor<'_>,
+    alloc: Global,
+    depth: u8,
+) -> Result<Option<Boxed<Expr>>, Error>
+    ensures { Parses result cursor.new ((default_value (inside depth)).reads cursor.old) }
+{
+    if cursor.take(Sign::Assign) {
+        return Ok(Some(cursor.inner_expr(alloc, depth)?));
     }
+    Ok(None)
 }
 
 /// What a call with a body calls: a block is a method of `self`, since it is passed this.

@@ -1,389 +1,194 @@
-//! Targets, and what is given to them.
-ghost use Rattle.std.specs.Prelude.{◌≡◌, [], MatchResult, None, Some};
-ghost use Rattle.tm_parser.specs.Parses.{Parses};
+//! What assignments and loops give values to.
+ghost use Rattle.std.specs.Prelude.{◌≡◌, [], IfSome, MatchResult, None, Some, is_some};
+ghost use Rattle.tm_expressions.specs.Parses.{Parses, TakesFirst, TakesSign};
 ghost use Rattle.tm_values.specs.Answer.{Refused};
-ghost use Rattle.tm_parser.specs.Grammar as grammar;
-ghost use Rattle.tm_parser.specs.Grammar.{inside, expr, items, member, more_items, more_targets, several, single, target};
-ghost use Rattle.tm_parser.specs.Grammar.{target_steps_from, whole};
-ghost use Rattle.tm_parser.specs.Statements.{assignment, bare, bare_tuple, loop_condition, inner, iterated, iterated_tuple, loop_head};
-ghost use Rattle.tm_parser.specs.Statements.{more_iterated};
+ghost use Rattle.tm_expressions.specs.Grammar as grammar;
+ghost use Rattle.tm_expressions.specs.Grammar.{inside, member, more_targets, several, single, target, target_comma};
+ghost use Rattle.tm_expressions.specs.Grammar.{target_steps_from};
+ghost use Rattle.tm_expressions.specs.Tokens as tokens;
+ghost use Rattle.tm_expressions.specs.Tokens.{a_target_link, ends_target};
+ghost use Rattle.tm_expressions.specs.Waiting.{role_of};
 ghost use Rattle.tm_grammar.specs.Combinators.{one_more};
-ghost use Rattle.tm_syntax.specs.declared.token.Sign.TheVariants as sign;
+ghost use Rattle.tm_grammar.specs.Meanings.{first_sees};
 
-use crate::cursor::{Cursor, refusal};
-use crate::expressions::chained;
-use crate::lists::{boxed, with_one};
-use crate::tables::POSTFIX_LEVEL;
 use std::alloc::Global;
+use tm_expressions::{Cursor, Link, POSTFIX_LEVEL, chained, refusal, with_one};
 use tm_items::{Boxed, Items};
-use tm_syntax::{Assignment, AssignmentTarget, Expr, Name, Sign, Step};
+use tm_syntax::{AssignmentTarget, Expr, Name, Sign, Step, Token};
 use tm_values::Error;
 
-/// What a loop goes over, and how.
-#[derive(Drop)]
-pub struct LoopHead {
-    /// What is iterated.
-    pub iterable: Boxed<Expr>,
-    /// The condition of an item that is taken.
-    pub condition: Option<Boxed<Expr>>,
-    /// Whether the loop can be called.
-    pub recursive: bool,
+// Each function reads one rule, with `depth` nestings to go. SyntaxError where no tokens spell it.
+
+/// A target inside one nesting more.
+#[cycle(targets)]
+#[tactic(auto, using(crate::proofs::Nesting::targets))]
+#[inline(never)]
+pub fn inner_target(
+    cursor: &mut Cursor<'_>,
+    alloc: Global,
+    depth: u8,
+) -> Result<AssignmentTarget, Error>
+    ensures { Parses result cursor.new ((inside depth).target.reads cursor.old) }
+{
+    if depth == 0 {
+        return Err(refusal());
+    }
+    target(cursor, alloc, depth - 1)
 }
 
-// Each method reads one rule, with `depth` nestings to go. SyntaxError where no tokens spell it.
-impl Cursor<'_> {
-    /// A target inside one nesting more.
-    #[cycle(targets)]
-    #[tactic(auto, using(crate::proofs::Nesting::targets))]
-    #[inline(never)]
-    pub fn inner_target(&mut self, alloc: Global, depth: u8) -> Result<AssignmentTarget, Error>
-        ensures { Parses result self.new ((inside depth).target.reads self.old) }
-    {
-        if depth == 0 {
-            return Err(refusal());
+/// One target, or several between commas.
+#[cycle(targets)]
+#[tactic(auto, unfolding(tm_expressions::specs::Grammar::target))]
+#[inline(never)]
+pub fn target(cursor: &mut Cursor<'_>, alloc: Global, depth: u8) -> Result<AssignmentTarget, Error>
+    ensures { Parses result cursor.new ((target (inside depth)).reads cursor.old) }
+{
+    let first = single(cursor, alloc, depth)?;
+    if !cursor.is_at_comma() {
+        return Ok(first);
+    }
+    several(cursor, alloc, depth, first)
+}
+
+/// Several targets after the first one, with a comma after the last one or none.
+#[cycle(targets)]
+#[tactic(auto, unfolding(tm_expressions::specs::Grammar::several))]
+fn several(
+    cursor: &mut Cursor<'_>,
+    alloc: Global,
+    depth: u8,
+    first: AssignmentTarget,
+) -> Result<AssignmentTarget, Error>
+    ensures { Parses result cursor.new ((several (inside depth) first).reads cursor.old) }
+{
+    let targets = with_one(Items::new(alloc), first)?;
+    let targets = more_targets(cursor, alloc, depth, targets)?;
+    cursor.take(Sign::Comma);
+    Ok(AssignmentTarget::Unpack(targets))
+}
+
+/// More targets, each after a comma.
+#[cycle(targets)]
+#[tactic(auto, using(crate::proofs::Loops::target_commas))]
+fn more_targets(
+    cursor: &mut Cursor<'_>,
+    alloc: Global,
+    depth: u8,
+    first: Items<AssignmentTarget>,
+) -> Result<Items<AssignmentTarget>, Error>
+    ensures { Parses result cursor.new ((more_targets (inside depth) first).reads cursor.old) }
+{
+    let mut targets = first;
+    while take_target_comma(cursor) {
+        targets = one_target(cursor, alloc, depth, targets)?;
+    }
+    Ok(targets)
+}
+
+/// A target, at the end of others.
+#[cycle(targets)]
+fn one_target(
+    cursor: &mut Cursor<'_>,
+    alloc: Global,
+    depth: u8,
+    targets: Items<AssignmentTarget>,
+) -> Result<Items<AssignmentTarget>, Error>
+    ensures { Parses result cursor.new
+        ((one_more (single (inside depth)) targets).reads cursor.old) }
+{
+    let target = single(cursor, alloc, depth)?;
+    with_one(targets, target)
+}
+
+/// A target with no comma outside brackets.
+#[cycle(targets)]
+#[tactic(auto, unfolding(tm_expressions::specs::Grammar::single))]
+fn single(cursor: &mut Cursor<'_>, alloc: Global, depth: u8) -> Result<AssignmentTarget, Error>
+    ensures { Parses result cursor.new ((single (inside depth)).reads cursor.old) }
+{
+    if !cursor.take(Sign::OpenRound) {
+        return member(cursor, alloc, depth);
+    }
+    let target = inner_target(cursor, alloc, depth)?;
+    cursor.expect(Sign::CloseRound)?;
+    Ok(target)
+}
+
+/// A name or an attribute.
+#[tactic(auto, unfolding(tm_expressions::specs::Grammar::member))]
+fn member(cursor: &mut Cursor<'_>, alloc: Global, depth: u8) -> Result<AssignmentTarget, Error>
+    ensures { Parses result cursor.new ((member (inside depth)).reads cursor.old) }
+{
+    let value = cursor.operand(alloc, depth, POSTFIX_LEVEL)?;
+    let steps = target_steps(cursor, alloc, depth)?;
+    target_of(alloc, value, steps)
+}
+
+/// As many steps of a target as there are.
+fn target_steps(cursor: &mut Cursor<'_>, alloc: Global, depth: u8) -> Result<Items<Step>, Error>
+    ensures { Parses result cursor.new ((target_steps_from (inside depth) []).reads cursor.old) }
+{
+    let mut steps = Items::new(alloc);
+    while let Some(link) = take_target_link(cursor) {
+        cursor.one_step(alloc, depth, link, &mut steps)?;
+    }
+    Ok(steps)
+}
+
+/// Takes what goes on with a target.
+fn take_target_link(cursor: &mut Cursor<'_>) -> Option<Link>
+    ensures first { TakesFirst result cursor.old cursor.new (first_sees a_target_link cursor.old) }
+    ensures operator { IfSome result (λ link. role_of link ≡ None) }
+{
+    match cursor.rest() {
+        [Token::Sign(sign), rest @ ..] => match target_link(*sign) {
+            Some(link) => {
+                *cursor = Cursor::new(rest);
+                Some(link)
+            }
+            None => None,
+        },
+        _ => None,
+    }
+}
+
+/// Takes a comma, unless what ends a target stands after it.
+fn take_target_comma(cursor: &mut Cursor<'_>) -> bool
+    ensures { TakesSign result cursor.old cursor.new (target_comma.sees cursor.old) }
+{
+    match cursor.rest() {
+        [Token::Sign(sign), rest @ ..] if *sign == Sign::Comma && !ends_target(rest) => {
+            *cursor = Cursor::new(rest);
+            true
         }
-        self.target(alloc, depth - 1)
+        _ => false,
     }
+}
 
-    /// One target, or several between commas.
-    #[cycle(targets)]
-    #[tactic(auto, unfolding(crate::specs::Grammar::target))]
-    #[inline(never)]
-    pub fn target(&mut self, alloc: Global, depth: u8) -> Result<AssignmentTarget, Error>
-        ensures { Parses result self.new ((target (inside depth)).reads self.old) }
-    {
-        let first = self.single(alloc, depth)?;
-        if !self.is_at_comma() {
-            return Ok(first);
-        }
-        self.several(alloc, depth, first)
+/// Whether what stands after a target stands first.
+fn ends_target(rest: &[Token]) -> bool
+    ensures { result ≡ is_some (first_sees ends_target rest.now) }
+{
+    match rest {
+        [Token::Sign(sign), ..] => match sign {
+            Sign::Assign | Sign::In | Sign::CloseRound | Sign::BlockEnd | Sign::Bar => true,
+            _ => false,
+        },
+        _ => false,
     }
+}
 
-    /// Several targets after the first one, with a comma after the last one or none.
-    #[cycle(targets)]
-    #[tactic(auto, unfolding(crate::specs::Grammar::several))]
-    fn several(
-        &mut self,
-        alloc: Global,
-        depth: u8,
-        first: AssignmentTarget,
-    ) -> Result<AssignmentTarget, Error>
-        ensures { Parses result self.new ((several (inside depth) first).reads self.old) }
-    {
-        let targets = with_one(Items::new(alloc), first)?;
-        let targets = self.more_targets(alloc, depth, targets)?;
-        self.take(Sign::Comma);
-        Ok(AssignmentTarget::Unpack(targets))
-    }
-
-    /// More targets, each after a comma.
-    #[cycle(targets)]
-    #[tactic(auto, using(crate::proofs::Loops::target_commas))]
-    fn more_targets(
-        &mut self,
-        alloc: Global,
-        depth: u8,
-        first: Items<AssignmentTarget>,
-    ) -> Result<Items<AssignmentTarget>, Error>
-        ensures { Parses result self.new ((more_targets (inside depth) first).reads self.old) }
-    {
-        let mut targets = first;
-        while self.take_target_comma() {
-            targets = self.one_target(alloc, depth, targets)?;
-        }
-        Ok(targets)
-    }
-
-    /// A target, at the end of others.
-    #[cycle(targets)]
-    fn one_target(
-        &mut self,
-        alloc: Global,
-        depth: u8,
-        targets: Items<AssignmentTarget>,
-    ) -> Result<Items<AssignmentTarget>, Error>
-        ensures { Parses result self.new
-            ((one_more (single (inside depth)) targets).reads self.old) }
-    {
-        let target = self.single(alloc, depth)?;
-        with_one(targets, target)
-    }
-
-    /// A target with no comma outside brackets.
-    #[cycle(targets)]
-    #[tactic(auto, unfolding(crate::specs::Grammar::single))]
-    fn single(&mut self, alloc: Global, depth: u8) -> Result<AssignmentTarget, Error>
-        ensures { Parses result self.new ((single (inside depth)).reads self.old) }
-    {
-        if !self.take(Sign::OpenRound) {
-            return self.member(alloc, depth);
-        }
-        let target = self.inner_target(alloc, depth)?;
-        self.expect(Sign::CloseRound)?;
-        Ok(target)
-    }
-
-    /// A name or an attribute.
-    #[tactic(auto, unfolding(crate::specs::Grammar::member))]
-    fn member(&mut self, alloc: Global, depth: u8) -> Result<AssignmentTarget, Error>
-        ensures { Parses result self.new ((member (inside depth)).reads self.old) }
-    {
-        let value = self.operand(alloc, depth, POSTFIX_LEVEL)?;
-        let steps = self.target_steps(alloc, depth)?;
-        target_of(alloc, value, steps)
-    }
-
-    /// As many steps of a target as there are.
-    fn target_steps(&mut self, alloc: Global, depth: u8) -> Result<Items<Step>, Error>
-        ensures { Parses result self.new ((target_steps_from (inside depth) []).reads self.old) }
-    {
-        let mut steps = Items::new(alloc);
-        while let Some(link) = self.take_target_link() {
-            self.one_step(alloc, depth, link, &mut steps)?;
-        }
-        Ok(steps)
-    }
-
-    /// What a loop goes over, the condition of an item, whether it can be called, and the end of
-    /// its tag, inside one nesting more.
-    #[tactic(auto, using(crate::proofs::Nesting::loops))]
-    #[inline(never)]
-    pub fn inner_loop_head(&mut self, alloc: Global, depth: u8) -> Result<LoopHead, Error>
-        ensures { Parses result self.new ((inner depth).loop_head.reads self.old) }
-    {
-        if depth == 0 {
-            return Err(refusal());
-        }
-        self.loop_head(alloc, depth - 1)
-    }
-
-    /// What a loop goes over, the condition of an item, whether it can be called, and the end of
-    /// its tag.
-    #[tactic(auto, unfolding(crate::specs::Statements::loop_head))]
-    fn loop_head(&mut self, alloc: Global, depth: u8) -> Result<LoopHead, Error>
-        ensures { Parses result self.new ((loop_head (inside depth)).reads self.old) }
-    {
-        let iterable = self.iterated(alloc, depth)?;
-        let condition = self.loop_condition(alloc, depth)?;
-        let recursive = self.take_word("recursive");
-        self.expect(Sign::BlockEnd)?;
-        Ok(LoopHead {
-            iterable,
-            condition,
-            recursive,
-        })
-    }
-
-    /// The condition of a loop's item, if it stands there.
-    #[tactic(auto, unfolding(crate::specs::Statements::loop_condition))]
-    fn loop_condition(&mut self, alloc: Global, depth: u8) -> Result<Option<Boxed<Expr>>, Error>
-        ensures { Parses result self.new ((loop_condition (inside depth)).reads self.old) }
-    {
-        if self.take(Sign::If) {
-            return Ok(Some(self.whole(alloc, depth)?));
-        }
-        Ok(None)
-    }
-
-    /// A value or a tuple without brackets, after which an `if` is the loop's.
-    #[tactic(auto, unfolding(crate::specs::Statements::iterated))]
-    fn iterated(&mut self, alloc: Global, depth: u8) -> Result<Boxed<Expr>, Error>
-        ensures { Parses result self.new ((iterated (inside depth)).reads self.old) }
-    {
-        let first = self.whole(alloc, depth)?;
-        if !self.is_at_comma() {
-            return Ok(first);
-        }
-        self.iterated_tuple(alloc, depth, first)
-    }
-
-    /// A tuple without brackets after its first item, with a comma after the last one or none.
-    #[tactic(auto, unfolding(crate::specs::Statements::iterated_tuple))]
-    fn iterated_tuple(
-        &mut self,
-        alloc: Global,
-        depth: u8,
-        first: Boxed<Expr>,
-    ) -> Result<Boxed<Expr>, Error>
-        ensures { Parses result self.new ((iterated_tuple (inside depth) first).reads self.old) }
-    {
-        let items = with_one(Items::new(alloc), first.into_inner())?;
-        let items = self.more_iterated(alloc, depth, items)?;
-        self.take(Sign::Comma);
-        boxed(alloc, Expr::Tuple(items))
-    }
-
-    /// More values, each after a comma.
-    #[tactic(auto, using(crate::proofs::Loops::iterations))]
-    fn more_iterated(
-        &mut self,
-        alloc: Global,
-        depth: u8,
-        first: Items<Expr>,
-    ) -> Result<Items<Expr>, Error>
-        ensures { Parses result self.new ((more_iterated (inside depth) first).reads self.old) }
-    {
-        let mut items = first;
-        while self.take_iterated_comma() {
-            items = self.one_iterated(alloc, depth, items)?;
-        }
-        Ok(items)
-    }
-
-    /// A value, at the end of others.
-    fn one_iterated(
-        &mut self,
-        alloc: Global,
-        depth: u8,
-        items: Items<Expr>,
-    ) -> Result<Items<Expr>, Error>
-        ensures { Parses result self.new
-            ((one_more (whole (inside depth)) items).reads self.old) }
-    {
-        let value = self.whole(alloc, depth)?;
-        with_one(items, value.into_inner())
-    }
-
-    /// An expression or a tuple without brackets, and the end of the tag.
-    #[tactic(auto, unfolding(crate::specs::Statements::bare))]
-    pub fn bare(&mut self, alloc: Global, depth: u8) -> Result<Boxed<Expr>, Error>
-        ensures { Parses result self.new ((bare (inside depth)).reads self.old) }
-    {
-        let first = self.expr(alloc, depth)?;
-        if self.take(Sign::BlockEnd) {
-            return Ok(first);
-        }
-        self.bare_tuple(alloc, depth, first)
-    }
-
-    /// A tuple without brackets after its first item, and the end of the tag.
-    #[tactic(auto, unfolding(crate::specs::Statements::bare_tuple))]
-    fn bare_tuple(
-        &mut self,
-        alloc: Global,
-        depth: u8,
-        first: Boxed<Expr>,
-    ) -> Result<Boxed<Expr>, Error>
-        ensures { Parses result self.new ((bare_tuple (inside depth) first).reads self.old) }
-    {
-        self.expect(Sign::Comma)?;
-        let items = with_one(Items::new(alloc), first.into_inner())?;
-        let items = self.bare_items(alloc, depth, items)?;
-        boxed(alloc, Expr::Tuple(items))
-    }
-
-    /// More expressions after others, and the end of the tag.
-    #[tactic(auto, unfolding(crate::specs::Grammar::items))]
-    fn bare_items(
-        &mut self,
-        alloc: Global,
-        depth: u8,
-        first: Items<Expr>,
-    ) -> Result<Items<Expr>, Error>
-        ensures { Parses result self.new
-            ((items sign.BlockEnd (expr (inside depth)) first).reads self.old) }
-    {
-        if self.take(Sign::BlockEnd) {
-            return Ok(first);
-        }
-        let items = self.one_bare_item(alloc, depth, first)?;
-        let items = self.more_bare_items(alloc, depth, items)?;
-        self.take(Sign::Comma);
-        self.expect(Sign::BlockEnd)?;
-        Ok(items)
-    }
-
-    /// More expressions, each after a comma.
-    #[tactic(auto, using(crate::proofs::Loops::commas))]
-    fn more_bare_items(
-        &mut self,
-        alloc: Global,
-        depth: u8,
-        first: Items<Expr>,
-    ) -> Result<Items<Expr>, Error>
-        ensures { Parses result self.new
-            ((more_items sign.BlockEnd (expr (inside depth)) first).reads self.old) }
-    {
-        let mut items = first;
-        while self.take_comma(Sign::BlockEnd) {
-            items = self.one_bare_item(alloc, depth, items)?;
-        }
-        Ok(items)
-    }
-
-    /// An expression, at the end of others.
-    fn one_bare_item(
-        &mut self,
-        alloc: Global,
-        depth: u8,
-        items: Items<Expr>,
-    ) -> Result<Items<Expr>, Error>
-        ensures { Parses result self.new
-            ((one_more (expr (inside depth)) items).reads self.old) }
-    {
-        let value = self.expr(alloc, depth)?;
-        with_one(items, value.into_inner())
-    }
-
-    /// Assignments, and the end of the tag.
-    #[tactic(auto, unfolding(crate::specs::Grammar::items))]
-    #[inline(never)]
-    pub fn assignments(&mut self, alloc: Global, depth: u8) -> Result<Items<Assignment>, Error>
-        ensures { Parses result self.new
-            ((items sign.BlockEnd (assignment (inside depth)) []).reads self.old) }
-    {
-        let assignments = Items::new(alloc);
-        if self.take(Sign::BlockEnd) {
-            return Ok(assignments);
-        }
-        let assignments = self.one_assignment(alloc, depth, assignments)?;
-        let assignments = self.more_assignments(alloc, depth, assignments)?;
-        self.take(Sign::Comma);
-        self.expect(Sign::BlockEnd)?;
-        Ok(assignments)
-    }
-
-    /// More assignments, each after a comma.
-    #[tactic(auto, using(crate::proofs::Loops::commas))]
-    fn more_assignments(
-        &mut self,
-        alloc: Global,
-        depth: u8,
-        first: Items<Assignment>,
-    ) -> Result<Items<Assignment>, Error>
-        ensures { Parses result self.new
-            ((more_items sign.BlockEnd (assignment (inside depth)) first).reads self.old) }
-    {
-        let mut assignments = first;
-        while self.take_comma(Sign::BlockEnd) {
-            assignments = self.one_assignment(alloc, depth, assignments)?;
-        }
-        Ok(assignments)
-    }
-
-    /// An assignment, at the end of others.
-    fn one_assignment(
-        &mut self,
-        alloc: Global,
-        depth: u8,
-        assignments: Items<Assignment>,
-    ) -> Result<Items<Assignment>, Error>
-        ensures { Parses result self.new
-            ((one_more (assignment (inside depth)) assignments).reads self.old) }
-    {
-        let assignment = self.assignment(alloc, depth)?;
-        with_one(assignments, assignment)
-    }
-
-    /// A target, and what is given to it.
-    #[tactic(auto, unfolding(crate::specs::Statements::assignment))]
-    fn assignment(&mut self, alloc: Global, depth: u8) -> Result<Assignment, Error>
-        ensures { Parses result self.new ((assignment (inside depth)).reads self.old) }
-    {
-        let target = self.inner_target(alloc, depth)?;
-        self.expect(Sign::Assign)?;
-        let value = self.inner_expr(alloc, depth)?;
-        Ok(Assignment { target, value })
+/// How a sign goes on with a target, which a bar ends.
+fn target_link(sign: Sign) -> Option<Link>
+    ensures at { result ≡ tokens.target_link sign }
+    ensures operator { IfSome result (λ link. role_of link ≡ None) }
+{
+    match sign {
+        Sign::Dot => Some(Link::Member),
+        Sign::OpenSquare => Some(Link::Item),
+        Sign::OpenRound => Some(Link::Call),
+        Sign::Is => Some(Link::Test),
+        _ => None,
     }
 }
 

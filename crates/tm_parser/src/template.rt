@@ -6,8 +6,9 @@ ghost use Rattle.tm_syntax.specs.declared.token.Token.{Token};
 ghost use Rattle.tm_trees.specs.Trees.{Tree};
 
 use crate::blocks::has_distinct_blocks;
-use crate::cursor::{Cursor, refusal};
+use crate::statements::body;
 use std::alloc::Global;
+use tm_expressions::{Cursor, refusal};
 use tm_syntax::{Token, Tree};
 use tm_values::Error;
 
@@ -21,7 +22,7 @@ pub fn parse_tokens(alloc: Global, tokens: &[Token]) -> Result<Tree, Error>
     ensures refused { IfErr result (λ e. Refused e (SpellsNoTemplate tokens.now)) }
 {
     let mut cursor = Cursor::new(tokens);
-    let statements = cursor.body(alloc, NESTINGS, false)?;
+    let statements = body(&mut cursor, alloc, NESTINGS, false)?;
     if !cursor.is_done() {
         return Err(refusal());
     }

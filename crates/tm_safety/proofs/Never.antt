@@ -7,7 +7,7 @@ use Rattle.tm_values.specs.Answer.{Answer, invalid}
 use Rattle.tm_values.specs.Val.{Val, number, boolean, text_in}
 use Rattle.tm_values.specs.Truth.{is_undefined}
 use Rattle.tm_values.specs.declared.error.ErrorKind.{ErrorKind}
-use Rattle.tm_values.specs.declared.error.ErrorKind.TheVariants.{InvalidOperation, TemplateNotFound, OutOfFuel}
+use Rattle.tm_values.specs.declared.error.ErrorKind.TheVariants.{InvalidOperation, TemplateNotFound}
 use Rattle.tm_primitives.specs.Whole.{in_range}
 use Rattle.tm_definitions.specs.Arithmetic.{number_answer}
 use Rattle.tm_syntax.specs.Names.{is_among}
@@ -17,10 +17,10 @@ use Rattle.tm_trees.specs.Trees.unaries
 use Rattle.tm_trees.specs.Trees.binaries
 use Rattle.tm_trees.specs.Instructions.{Instruction}
 use Rattle.tm_trees.specs.Instructions.instructions as i
-use Rattle.tm_meaning.specs.World.{choose, World, HostValue, Res, Good, Bad, bind, bad, need, check, answered, emitted, looked_up, find_name, view_of, items_over, module_of}
+use Rattle.tm_meaning.specs.World.{choose, World, Res, Good, bind, need, check, answered, find_name, view_of, module_of}
 use Rattle.tm_definitions.specs.Emitted.{text_answer}
-use Rattle.tm_meaning.specs.World.{escape_for, enclose, has_enclosed, put_enclosed, closing_over, own_closure, owning, make_macro, set_member, with_fuel, charged}
-use Rattle.tm_meaning.specs.World.{name_of, find, records_of, captured_text, top_loop, store, Scope, read_closure, put_in}
+use Rattle.tm_meaning.specs.World.{escape_for, has_enclosed, put_enclosed, closing_over, own_closure, make_macro, with_fuel, charged}
+use Rattle.tm_meaning.specs.World.{name_of, find, records_of, store}
 use Rattle.tm_definitions.specs.Iteration.{items_or}
 use Rattle.tm_definitions.specs.Members.{or_undefined}
 use Rattle.tm_meaning.specs.Operators.{result_of, result_of_unary, keyword_map, map_of_pairs, operated, list_of_values}
@@ -32,9 +32,9 @@ use Rattle.tm_meaning.specs.declared.stream.StreamId.{StreamId}
 use Rattle.tm_meaning.specs.declared.stream.TemplateId.{TemplateId}
 use Rattle.tm_meaning.specs.Machine.{Activation, Capture, Config, Program, End, Finished, Failed, Stuck, Next, with_world}
 use Rattle.tm_meaning.specs.Machine.{after, on_top, on_taken, taken, on, goes, jumps, writes, audible, new_capture, first_run, running, base_of, asked, asked_in_place}
-use Rattle.tm_meaning.specs.Instructions.{apply_of, take_counted, on_truth, iterate_with, closure_in, names_in, on_parts, closure_value, group_on, on_used, used}
-use Rattle.tm_meaning.specs.Instructions.{with_filters, with_tests, is_heard, awaiting, on_loop as on_top_loop, replacing}
-use Rattle.tm_meaning.specs.Steps.{effect, pay, act, step, closed, finish, parent_next, Final, final, Leads, over, more, restart, nest, begun as run_begun, begins}
+use Rattle.tm_meaning.specs.Instructions.{apply_of, take_counted, on_truth, closure_in, names_in, on_parts, closure_value, group_on, on_used}
+use Rattle.tm_meaning.specs.Instructions.{with_filters, with_tests, is_heard, awaiting, replacing}
+use Rattle.tm_meaning.specs.Steps.{effect, act, step, Final, final, Leads, over, more, restart, nest, begun as run_begun, begins}
 use Rattle.tm_shapes.specs.declared.kind.Kind.{Kind}
 use Rattle.tm_shapes.specs.declared.kind.Kind.TheVariants.{Value as value, Zero as nothing, Group as group, Closure as closure, Names as names}
 use Rattle.tm_shapes.specs.declared.kind.Kind.TheVariants.{Opened as opened, One as one}
@@ -50,8 +50,8 @@ use Rattle.tm_shapes.specs.Shaped.{ReadsTo, Meets, IsShaped, HasCache, UsesCache
 use Rattle.tm_safety.specs.Fits.{Match, ids_of, Ground, AllEnter, Stand}
 use Rattle.tm_safety.proofs.Comes.{Calm, calm_same, callee_stream, Comes, named_comes, callee_comes, applied_comes, innermost_comes, block_comes, super_comes}
 use Rattle.tm_safety.proofs.Comes.{include_comes, owning_marks}
-use Rattle.tm_safety.proofs.Fine.{Grounded, Enter, At, EndsWell, EndFine, Nests, Fine, back_fine, after_fine, choose_fine, pop_fine, pops_fine, counted_fine, settles}
-use Rattle.tm_safety.proofs.Fine.{calm_enter, moves, at_next, goes_fine, writes_fine, ground_of, First, first_is}
+use Rattle.tm_safety.proofs.Fine.{Grounded, Enter, At, EndFine, Fine, back_fine, after_fine, choose_fine, pop_fine, pops_fine, counted_fine}
+use Rattle.tm_safety.proofs.Fine.{moves, goes_fine, writes_fine, ground_of, First, first_is}
 use Rattle.tm_safety.proofs.Effects.{store_calm, use_cache, asked_fine, placed_fine, loop_fine, iterate_fine, push_loop_fine, push_with_fine, pop_frame_fine}
 use Rattle.tm_safety.proofs.Effects.{pop_loop_frame_fine, begin_fine, end_fine, push_escape_fine, pop_escape_fine, closed_by, parent_fine, return_fine}
 use Rattle.tm_safety.proofs.Effects.{unpack_fine, group_match}
@@ -412,25 +412,11 @@ module _ (p : Program) (shapes : StreamId → Shapes) (shaped : (s : StreamId) �
         pops_fine p shapes shaped g sh us c.world n s.part.operands vs0 [] _ _ h st.holds.operands (λ xs ks rest h m.
         answers (Rattle.tm_definitions.specs.Spread.items_of_all p.host.undefined (records_of c.world) xs) (λ us w. goes (group_on us rest) w c)
         (λ ys. ok (group None ∷ ks) (group_on ys rest) c.world same h (group_match p shapes shaped g c s st at here ys ks rest us m)))
-    effect_fine i.Eq code none h = two_fine (result_of binaries.Equal p.host.undefined (records_of c.world)) h
-    effect_fine i.Ne code none h = two_fine (result_of binaries.NotEqual p.host.undefined (records_of c.world)) h
-    effect_fine i.Lt code none h = two_fine (result_of binaries.Less p.host.undefined (records_of c.world)) h
-    effect_fine i.Lte code none h = two_fine (result_of binaries.LessOrEqual p.host.undefined (records_of c.world)) h
-    effect_fine i.Gt code none h = two_fine (result_of binaries.Greater p.host.undefined (records_of c.world)) h
-    effect_fine i.Gte code none h = two_fine (result_of binaries.GreaterOrEqual p.host.undefined (records_of c.world)) h
-    effect_fine i.In code none h = two_fine (result_of binaries.In p.host.undefined (records_of c.world)) h
     effect_fine (i.CompareAndPreserve op) code none h =
         pops_one s.part.operands vs0 _ _ h st.holds.operands (λ y ks vs h m. pops_one ks vs _ _ h m (λ x ks rest h m.
         answers (result_of op p.host.undefined (records_of c.world) x y) (λ z w. goes (z ∷ y ∷ rest) w c)
         (λ z. ok (value ∷ value ∷ ks) (z ∷ y ∷ rest) c.world same h (z, y ∷ rest, refl, (y, rest, refl, m)))))
     effect_fine i.Add code none h = add_fine s.part.operands vs0 h st.holds.operands
-    effect_fine i.Sub code none h = two_fine (result_of binaries.Subtract p.host.undefined (records_of c.world)) h
-    effect_fine i.StringConcat code none h = two_fine (result_of binaries.Concatenate p.host.undefined (records_of c.world)) h
-    effect_fine i.Mul code none h = two_fine (result_of binaries.Multiply p.host.undefined (records_of c.world)) h
-    effect_fine i.Div code none h = two_fine (result_of binaries.Divide p.host.undefined (records_of c.world)) h
-    effect_fine i.IntDiv code none h = two_fine (result_of binaries.FloorDivide p.host.undefined (records_of c.world)) h
-    effect_fine i.Rem code none h = two_fine (result_of binaries.Remainder p.host.undefined (records_of c.world)) h
-    effect_fine i.Pow code none h = two_fine (result_of binaries.Power p.host.undefined (records_of c.world)) h
     effect_fine i.Neg code none h = one_fine (result_of_unary unaries.Negate p.host.undefined) h
     effect_fine i.Not code none h = one_fine (result_of_unary unaries.Not p.host.undefined) h
     effect_fine i.IsUndefined code none h =
@@ -510,6 +496,7 @@ module _ (p : Program) (shapes : StreamId → Shapes) (shaped : (s : StreamId) �
         answers (escape_for f.first v) (λ e w. goes vs (Rattle.tm_meaning.specs.World.with_escape e w) (replacing (w.escape ∷ c.run.escapes) c))
         (λ e. push_escape_fine p shapes shaped g c s st at here e ks vs m h))
     effect_fine i.PopAutoEscape code none h = pop_escape_fine p shapes shaped g c s st at here s.part.escapes st.holds.escapes h
+    effect_fine _ code none h = two_fine _ h
 
     -- a filter or a test of a name
     pub apply_fine : (k : Application) (x : List ℕ) (n : Option ℕ) → Meets sh (replaces_counted at n s) → Good_next (apply_of p k x n c)

@@ -1,3 +1,4 @@
+pub mod Words
 pub mod Newlines
 pub mod Parts
 pub mod Pools

@@ -1,7 +1,6 @@
 -- Names, and the words that are no names.
 use Rattle.std.specs.Prelude.{ℕ, List, [], ◌∷◌, Bool, true, not, nat_eq, codes, Option, Some, None, option_map, if◌then◌else◌, ◌==◌, ◌||◌}
 use Rattle.std.specs.Prelude.{encode_utf8_all}
-use Rattle.std.specs.Option.{option_or}
 use Rattle.std.specs.Cmp.Lexicographic.{pointwise}
 use Rattle.std.specs.Str.{chars}
 use Rattle.unicode_ident.specs.Ident.{is_xid_start, is_xid_continue}
@@ -44,22 +43,16 @@ reserved_words =
 abbrev pub reserved : List ℕ → Option Sign
 reserved name = look_up reserved_words name
 
--- the words of tags that begin a statement
-abbrev pub start_words : List (List ℕ × Tag)
-start_words =
+-- the words of tags: those that begin a statement, and those that continue or end one
+abbrev pub tag_words : List (List ℕ × Tag)
+tag_words =
     (codes "if", tag.If) ∷ (codes "for", tag.For) ∷ (codes "break", tag.Break) ∷ (codes "continue", tag.Continue)
-    ∷ (codes "block", tag.Block) ∷ (codes "extends", tag.Extends) ∷ (codes "set", tag.Set) ∷ (codes "with", tag.With)
-    ∷ (codes "do", tag.Do) ∷ (codes "filter", tag.Filter) ∷ (codes "autoescape", tag.Autoescape)
-    ∷ (codes "macro", tag.Macro) ∷ (codes "call", tag.Call) ∷ (codes "include", tag.Include) ∷ (codes "import", tag.Import)
-    ∷ (codes "from", tag.From) ∷ []
-
--- the words of tags that go on with a statement or end it
-abbrev pub later_words : List (List ℕ × Tag)
-later_words =
-    (codes "elif", tag.Elif) ∷ (codes "else", tag.Else) ∷ (codes "endif", tag.Endif) ∷ (codes "endfor", tag.Endfor)
-    ∷ (codes "endblock", tag.Endblock) ∷ (codes "endset", tag.Endset) ∷ (codes "endwith", tag.Endwith)
-    ∷ (codes "endfilter", tag.Endfilter) ∷ (codes "endautoescape", tag.Endautoescape) ∷ (codes "endmacro", tag.Endmacro)
-    ∷ (codes "endcall", tag.Endcall) ∷ []
+    ∷ (codes "block", tag.Block) ∷ (codes "extends", tag.Extends) ∷ (codes "set", tag.Set) ∷ (codes "with", tag.With) ∷ (codes "do", tag.Do)
+    ∷ (codes "filter", tag.Filter) ∷ (codes "autoescape", tag.Autoescape) ∷ (codes "macro", tag.Macro) ∷ (codes "call", tag.Call)
+    ∷ (codes "include", tag.Include) ∷ (codes "import", tag.Import) ∷ (codes "from", tag.From) ∷ (codes "elif", tag.Elif)
+    ∷ (codes "else", tag.Else) ∷ (codes "endif", tag.Endif) ∷ (codes "endfor", tag.Endfor) ∷ (codes "endblock", tag.Endblock)
+    ∷ (codes "endset", tag.Endset) ∷ (codes "endwith", tag.Endwith) ∷ (codes "endfilter", tag.Endfilter)
+    ∷ (codes "endautoescape", tag.Endautoescape) ∷ (codes "endmacro", tag.Endmacro) ∷ (codes "endcall", tag.Endcall) ∷ []
 
 abbrev pub tag_of : List ℕ → Option Tag
-tag_of name = option_or (look_up start_words name) (look_up later_words name)
+tag_of name = look_up tag_words name

@@ -1,5 +1,5 @@
 //! Names, and the words that are no names.
-ghost use Rattle.std.specs.Prelude.{◌≡◌, ◌<◌, true, false, length, nat_eq, IfSome, encode_utf8_all};
+ghost use Rattle.std.specs.Prelude.{◌≡◌, ◌<◌, true, false, drop, length, nat_eq, take, IfSome, encode_utf8_all};
 ghost use Rattle.std.specs.Cmp.Lexicographic.{pointwise};
 ghost use Rattle.std.specs.Str.{chars};
 ghost use Rattle.unicode_ident.specs.Ident.{is_xid_start, is_xid_continue};
@@ -121,7 +121,7 @@ pub(crate) fn reserved(name: &str) -> Option<Sign>
     }
 }
 
-/// Which block tag the name begins.
+/// Which block tag the name begins. The table is read in two parts, since a proof takes more than in proportion to the words of one.
 pub(crate) fn tag_of(name: &str) -> Option<Tag>
     ensures { result ≡ spec.tag_of name.now }
 {
@@ -131,9 +131,9 @@ pub(crate) fn tag_of(name: &str) -> Option<Tag>
     }
 }
 
-/// Which tag that begins a statement the name begins.
+/// Which of the tags that begin a statement the name begins.
 fn start_tag(name: &str) -> Option<Tag>
-    ensures { result ≡ spec.look_up spec.start_words name.now }
+    ensures { result ≡ spec.look_up (take 16 spec.tag_words) name.now }
 {
     if is(name, "if") {
         Some(Tag::If)
@@ -172,9 +172,9 @@ fn start_tag(name: &str) -> Option<Tag>
     }
 }
 
-/// Which tag that goes on with a statement or ends it the name begins.
+/// Which of the tags that continue or end a statement the name begins.
 fn later_tag(name: &str) -> Option<Tag>
-    ensures { result ≡ spec.look_up spec.later_words name.now }
+    ensures { result ≡ spec.look_up (drop 16 spec.tag_words) name.now }
 {
     if is(name, "elif") {
         Some(Tag::Elif)

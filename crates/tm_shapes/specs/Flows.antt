@@ -244,6 +244,7 @@ returns at s = choose (is_closed s && are at.returned s.part.operands) (λ _. en
 abbrev pub unpack_lists : Site → ℕ → Shape → Flow
 unpack_lists at n s = pops n s.part.operands (λ ks. next at (group None ∷ ks) s)
 
+-- Every other instruction is an operator of two operands.
 abbrev pub flow_of : Site → Instruction → Shape → Flow
 flow_of at (i.EmitRaw t) s = replaces at 0 0 s
 flow_of at i.Emit s = replaces at 1 0 s
@@ -258,22 +259,8 @@ flow_of at (i.BuildMap n) s = replaces at (n + n) 1 s
 flow_of at (i.BuildKwargs n) s = replaces at (n + n) 1 s
 flow_of at (i.MergeKwargs n) s = replaces at n 1 s
 flow_of at (i.UnpackLists n) s = unpack_lists at n s
-flow_of at i.Eq s = replaces at 2 1 s
-flow_of at i.Ne s = replaces at 2 1 s
-flow_of at i.Lt s = replaces at 2 1 s
-flow_of at i.Lte s = replaces at 2 1 s
-flow_of at i.Gt s = replaces at 2 1 s
-flow_of at i.Gte s = replaces at 2 1 s
-flow_of at i.In s = replaces at 2 1 s
 flow_of at (i.CompareAndPreserve op) s = replaces at 2 2 s
 flow_of at i.Add s = add at s s.part.operands
-flow_of at i.Sub s = replaces at 2 1 s
-flow_of at i.StringConcat s = replaces at 2 1 s
-flow_of at i.Mul s = replaces at 2 1 s
-flow_of at i.Div s = replaces at 2 1 s
-flow_of at i.IntDiv s = replaces at 2 1 s
-flow_of at i.Rem s = replaces at 2 1 s
-flow_of at i.Pow s = replaces at 2 1 s
 flow_of at i.Neg s = replaces at 1 1 s
 flow_of at i.Not s = replaces at 1 1 s
 flow_of at i.IsUndefined s = replaces at 1 1 s
@@ -313,3 +300,4 @@ flow_of at (i.BeginCapture mode) s = on at (with_captures (mode ∷ s.part.captu
 flow_of at i.EndCapture s = end_capture at s s.part.captures
 flow_of at i.PushAutoEscape s = push_escape at s
 flow_of at i.PopAutoEscape s = pop_escape at s s.part.escapes
+flow_of at _ s = replaces at 2 1 s

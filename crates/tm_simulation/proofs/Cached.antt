@@ -1,11 +1,11 @@
 -- Code with its cache numbers does what the code before it does: runs are the same but for the caches.
 use Rattle.std.proofs.Common.{◌≡◌, ℕ, zero, suc, ◌⊎◌, inl, inr, List, [], ◌∷◌, length, Option, Some, None, Bool, true, false}
-use Rattle.std.proofs.Common.{refl, sym, ap, ◌∙◌, subst, arith, ◌+◌}
+use Rattle.std.proofs.Common.{refl, sym, ap, ◌∙◌, subst, arith}
 use Rattle.std.proofs.lemmas.Bool.Decides.{nat_tests}
 use Rattle.std.proofs.lemmas.Slice.Eq.{bytes_eq-Decides}
 use Rattle.std.specs.Prelude.{slice_get, nat_lt, nat_eq, ltb, option_and_then, ◌&&◌}
 use Rattle.std.specs.List.{prefix_len}
-use Rattle.tm_values.specs.Val.{Val, undefined}
+use Rattle.tm_values.specs.Val.{Val}
 use Rattle.tm_values.specs.declared.escape.AutoEscape.{AutoEscape}
 use Rattle.tm_syntax.specs.CacheNumbers.{no_cache}
 use Rattle.tm_syntax.specs.Loops.{loop_places, loops_before}
@@ -14,16 +14,14 @@ use Rattle.tm_trees.specs.Instructions.{Instruction, LoopPlace}
 use Rattle.tm_trees.specs.Instructions.instructions as i
 use Rattle.tm_trees.specs.Trees.{Application}
 use Rattle.tm_trees.specs.Trees.applications
-use Rattle.tm_trees.specs.Trees.binaries
-use Rattle.tm_trees.specs.Trees.unaries
-use Rattle.tm_meaning.specs.World.{choose, World, Loop, HostValue, Res, Good, Bad, answered, emitted, looked_up, escape_for}
-use Rattle.tm_meaning.specs.World.{enclose, make_macro, module_with, items_over, unpacked_items, set_member, open_loop, top_mark}
-use Rattle.tm_meaning.specs.World.{top_loop, push, plain_scope}
+use Rattle.tm_meaning.specs.World.{choose, World, Loop, HostValue, Res, Good, Bad}
+use Rattle.tm_meaning.specs.World.{make_macro, items_over, open_loop, top_mark}
+use Rattle.tm_meaning.specs.World.{top_loop}
 use Rattle.tm_meaning.specs.declared.run_text.RunText.{RunText}
 use Rattle.tm_meaning.specs.Calls.{Callee, whole, macro_of, Asked, has, refused, runs, recurs, call_named, call_callee, applied}
 use Rattle.tm_meaning.specs.Calls.{call_innermost, enter_block, enter_super, enter_include, undone}
 use Rattle.tm_meaning.specs.Meaning.{none_waits}
-use Rattle.tm_meaning.specs.Operators.{truth, applied_unary, operated, attribute, item_at, slice_of, merged_values, items_of_lists}
+use Rattle.tm_meaning.specs.Operators.{truth}
 use Rattle.tm_meaning.specs.Instructions.{apply_of, replaces_one, replaces_two, take_counted, on_count, count_in, on_truth, iterate_with}
 use Rattle.tm_meaning.specs.Instructions.{end_capture_with, pop_auto_escape_with, is_no_loop, on_loop, pop_loop_with, returned, returns}
 use Rattle.tm_meaning.specs.Instructions.{with_text, may_hold, holding, used, on_used, looping, on_parts, closure_in, names_in}
@@ -33,7 +31,6 @@ use Rattle.tm_meaning.specs.Machine.{place_of_loop, asked, asked_in_place, neste
 use Rattle.tm_meaning.specs.Machine.{back_with, back_to, goes}
 use Rattle.tm_meaning.specs.Steps.{pay, effect, finish, parent_next, closed, act, step, begun, begins, Final, Leads, Reaches, over, more}
 use Rattle.tm_meaning.specs.Steps.{restart, nest}
-use Rattle.tm_meaning.specs.Inheritance.{load}
 use Rattle.tm_meaning.specs.declared.stream.TemplateId.{TemplateId}
 use Rattle.tm_meaning.proofs.Ends.{one_end}
 use Rattle.tm_meaning.specs.declared.base.Base.{Base}
@@ -248,47 +245,6 @@ module _ (s : StreamId) (fs ts : Caches) where
       pub effect_same : (f : Base) (x : Instruction) → NoCache x → Same (effect p f x c) (effect q f x d)
       effect_same f (i.ApplyFilter x n cache) none = absurd none
       effect_same f (i.PerformTest x n cache) none = absurd none
-      effect_same f (i.EmitRaw t) none = writes_same f t c.run.operands c.world
-      effect_same f i.Emit none = on_top_same c.run.operands c.world _ _ (λ v vs. after_same (emitted host v c.world) _ _
-          (λ t w. writes_same f t vs w))
-      effect_same f (i.Lookup x) none = after_same (looked_up host x c.world) _ _ (λ v w. (here, refl))
-      effect_same f (i.LoadConst v) none = (here, refl)
-      effect_same f (i.GetAttr x) none = one_same (λ v w. attribute host v x w)
-      effect_same f i.GetItem none = two_same (item_at host)
-      effect_same f i.Slice none =
-          on_top_same c.run.operands c.world _ _ (λ by vs. on_top_same vs c.world _ _ (λ stop us. on_top_same us c.world _ _ (λ start ts.
-          on_top_same ts c.world _ _ (λ v rest. after_same (slice_of host v start stop by c.world) _ _ (λ x w. (here, refl))))))
-      effect_same f (i.BuildList n) none = counted_same n c.run.operands c.world _ _ (λ vs rest. (here, refl))
-      effect_same f (i.BuildTuple n) none = counted_same (Some n) c.run.operands c.world _ _ (λ vs rest. (here, refl))
-      effect_same f (i.BuildMap n) none = on_taken_same (taken (n + n) [] c.run.operands) c.world _ _ (λ vs rest. (here, refl))
-      effect_same f (i.BuildKwargs n) none = on_taken_same (taken (n + n) [] c.run.operands) c.world _ _ (λ vs rest. (here, refl))
-      effect_same f (i.MergeKwargs n) none = on_taken_same (taken n [] c.run.operands) c.world _ _
-          (λ vs rest. after_same (merged_values host vs c.world) _ _ (λ v w. (here, refl)))
-      effect_same f (i.UnpackLists n) none = on_taken_same (taken n [] c.run.operands) c.world _ _
-          (λ vs rest. after_same (items_of_lists host vs c.world) _ _ (λ us w. (here, refl)))
-      effect_same f i.Eq none = two_same (operated host binaries.Equal)
-      effect_same f i.Ne none = two_same (operated host binaries.NotEqual)
-      effect_same f i.Lt none = two_same (operated host binaries.Less)
-      effect_same f i.Lte none = two_same (operated host binaries.LessOrEqual)
-      effect_same f i.Gt none = two_same (operated host binaries.Greater)
-      effect_same f i.Gte none = two_same (operated host binaries.GreaterOrEqual)
-      effect_same f i.In none = two_same (operated host binaries.In)
-      effect_same f (i.CompareAndPreserve op) none =
-          on_top_same c.run.operands c.world _ _ (λ b vs. on_top_same vs c.world _ _ (λ a rest.
-          after_same (operated host op a b c.world) _ _ (λ x w. (here, refl))))
-      effect_same f i.Add none = two_same (operated host binaries.Add)
-      effect_same f i.Sub none = two_same (operated host binaries.Subtract)
-      effect_same f i.StringConcat none = two_same (operated host binaries.Concatenate)
-      effect_same f i.Mul none = two_same (operated host binaries.Multiply)
-      effect_same f i.Div none = two_same (operated host binaries.Divide)
-      effect_same f i.IntDiv none = two_same (operated host binaries.FloorDivide)
-      effect_same f i.Rem none = two_same (operated host binaries.Remainder)
-      effect_same f i.Pow none = two_same (operated host binaries.Power)
-      effect_same f i.Neg none = one_same (applied_unary host unaries.Negate)
-      effect_same f i.Not none = one_same (applied_unary host unaries.Not)
-      effect_same f i.IsUndefined none = on_top_same c.run.operands c.world _ _ (λ v vs. (here, refl))
-      effect_same f (i.Enclose x) none = after_same (enclose host x c.world) _ _ (λ _ w. (here, refl))
-      effect_same f i.GetClosure none = (here, refl)
       effect_same f (i.BuildMacro x place caller) none =
           subst (λ n. Same (effect p f (i.BuildMacro x place caller) c)
           (on_top c.run.operands c.world (λ names vs. on_top vs c.world (λ closure rest.
@@ -298,10 +254,6 @@ module _ (s : StreamId) (fs ts : Caches) where
           (on_top_same c.run.operands c.world _ _ (λ names vs. on_top_same vs c.world _ _ (λ closure rest.
           on_parts_same (closure_in closure) (names_in names) c.world _ _ (λ own arguments. (here, refl)))))
       effect_same f i.Return none = choose_same (closed f c) _ _ _ _ refl refl
-      effect_same f i.Swap none = on_top_same c.run.operands c.world _ _ (λ b vs. on_top_same vs c.world _ _ (λ a rest. (here, refl)))
-      effect_same f i.DupTop none = on_top_same c.run.operands c.world _ _ (λ v vs. (here, refl))
-      effect_same f i.DiscardTop none = on_top_same c.run.operands c.world _ _ (λ v vs. (here, refl))
-      effect_same f (i.Jump n) none = (here, refl)
       effect_same f (i.JumpIfFalse n) none = jumps_same host _ _ _ _ (λ v vs w. (here, refl)) (λ v vs w. (here, refl))
       effect_same f (i.JumpIfFalseOrPop n) none = jumps_same host _ _ _ _ (λ v vs w. (here, refl)) (λ v vs w. (here, refl))
       effect_same f (i.JumpIfTrueOrPop n) none = jumps_same host _ _ _ _ (λ v vs w. (here, refl)) (λ v vs w. (here, refl))
@@ -319,17 +271,6 @@ module _ (s : StreamId) (fs ts : Caches) where
           (λ v vs. placed_same f vs (enter_include host true v missing c.world))
       effect_same f i.IncludeModule none = on_top_same c.run.operands c.world _ _
           (λ v vs. placed_same f vs (enter_include host false v false c.world))
-      effect_same f i.ExportLocals none = on_top_same c.run.operands c.world _ _
-          (λ v vs. after_same (module_with v c.world) _ _ (λ m w. (here, refl)))
-      effect_same f i.LoadBlocks none = on_top_same c.run.operands c.world _ _ (λ v vs.
-          after_same (load host v c.run.parent (nat_lt f.captures (length c.captures)) c.world) _ _ (λ t w. (here, refl)))
-      effect_same f (i.StoreLocal x) none = on_top_same c.run.operands c.world _ _ (λ v vs. (here, refl))
-      effect_same f (i.UnpackList n) none = on_top_same c.run.operands c.world _ _
-          (λ v vs. after_same (unpacked_items n v c.world) _ _ (λ xs w. (here, refl)))
-      effect_same f (i.SetAttr x) none =
-          on_top_same c.run.operands c.world _ _ (λ o vs. on_top_same vs c.world _ _ (λ v rest.
-          after_same (set_member x v o c.world) _ _ (λ _ w. (here, refl))))
-      effect_same f i.PushWith none = after_same (push host (plain_scope (undefined false)) c.world) _ _ (λ _ w. (here, refl))
       effect_same f i.PopFrame none =
           choose_same (nat_lt f.scopes (length c.world.scopes.frames) && is_no_loop (top_mark c.world.scopes.frames)) _ _ _ _ (here, refl)
           refl
@@ -345,11 +286,9 @@ module _ (s : StreamId) (fs ts : Caches) where
       effect_same f i.PopLoopFrame none =
           choose_same (nat_lt f.scopes (length c.world.scopes.frames)) _ _ _ _
           (on_loop_same c.run.loops (top_loop c.world) c.world _ _ (λ l. pop_loop_same c.run.loops)) refl
-      effect_same f (i.BeginCapture mode) none = (here, refl)
       effect_same f i.EndCapture none = choose_same (nat_lt c.run.floor (length c.captures)) _ _ _ _ (end_capture_same c.captures) refl
-      effect_same f i.PushAutoEscape none = on_top_same c.run.operands c.world _ _
-          (λ v vs. after_same (answered (escape_for f.first v) c.world) _ _ (λ e w. (here, refl)))
       effect_same f i.PopAutoEscape none = pop_escape_same c.run.escapes
+      effect_same f _ none = search (on_top_same, after_same, on_taken_same, counted_same, writes_same, here) depth 9
 
   -- ---------------------------------------------------------------- ends of runs
   back_with_same : (value : Bool) (t : RunText) (r : Activation) (ks : List Capture) (w : World) → r.stream ≡ s →

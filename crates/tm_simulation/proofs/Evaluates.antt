@@ -13,14 +13,14 @@ use Rattle.tm_trees.specs.Trees.{Assignment}
 use Rattle.tm_trees.specs.Trees.unaries
 use Rattle.tm_trees.specs.Trees.binaries
 use Rattle.tm_trees.specs.Trees.applications
-use Rattle.tm_syntax.specs.Code.{pass_flags, count_targets, has_spread, has_spread_keyword}
+use Rattle.tm_syntax.specs.Code.{pass_flags, has_spread, has_spread_keyword}
 use Rattle.tm_syntax.specs.Forms.{unary, chained, conditional, with_condition, with_comparison, with_pair, plain, spread, keyword}
 use Rattle.tm_syntax.specs.Forms.{spread_keywords, item, slice, binary, compare, and_then, or_else}
 use Rattle.tm_definitions.specs.Spread.{merged}
 use Rattle.tm_definitions.specs.Members.{settable}
 use Rattle.tm_meaning.specs.World.{World, HostValue, loop_scope, next_turn, cleared, items_over, Res, bind, answered, tick, depth}
 use Rattle.tm_meaning.specs.World.{looked_up}
-use Rattle.tm_meaning.specs.World.{lookup, records_of, with_member, set_member, unpacked_items}
+use Rattle.tm_meaning.specs.World.{lookup, records_of, with_member, set_member}
 use Rattle.tm_meaning.specs.Calls.{Callee, NestedCall, undone, wrapped, Asked, has, refused, runs, recurs, applied}
 use Rattle.tm_meaning.specs.Meaning.{RowValues, text_after, Run, Outcome, Ending, done, leave, next, fault, Under, audible, value_of, value_after}
 use Rattle.tm_meaning.specs.Meaning.{in_place_of, after, block_tag, eval, eval_all, eval_pairs}
@@ -207,6 +207,33 @@ turned_gives i host applications.Filter v w = kept_same w
 turned_gives i host applications.Test v w = kept_same w
 turned_gives i host applications.NegatedTest v w = ticked_gives _ host w _ (λ world1. unary_gives _ host unaries.Not v world1)
 
+-- What every expression gives by: its parts, each of which keeps what it has to.
+ruleset gives = (
+  gives_bind,
+  ticked_gives,
+  choose_gives,
+  kept_same,
+  operation_gives,
+  truth_gives,
+  unary_gives,
+  operated_gives,
+  binary_gives,
+  looked_up_gives,
+  member_gives,
+  listed_gives,
+  mapped_gives,
+  turned_gives,
+  attribute_raises,
+  item_raises,
+  sliced_raises,
+  named_asks,
+  callee_asks,
+  applied_asks,
+  unpacked_gives,
+  items_give,
+  store_kept,
+)
+
 -- ---------------------------------------------------------------- trees
 -- where the test, what is guarded and what stands for it do
 pub condition_gives : (i : Differs) (host : HostValue) (test guarded other : World → Res Val) → ((w : World) → GivesBut i host w (test w)) →
@@ -249,17 +276,11 @@ module _ {i : Differs} (u : Under)
 
   mutual
     pub eval_gives : (run : Run) (e : Expr) (w : World) → GivesBut i u.host w (eval u run e w)
-    eval_gives run (Var x) w = ticked_gives _ u.host w _ (λ world1. looked_up_gives _ u.host x world1)
-    eval_gives run (Const v) w = ticked_gives _ u.host w _ (λ world1. kept_same world1)
-    eval_gives run (List' _ es) w =
-        gives_bind _ u.host w (eval_all u run es w) _ (all_give run es w)
-        (λ vs world1. ticked_gives _ u.host world1 _ (λ world2. kept_same world2))
-    eval_gives run (Tuple' _ es) w =
-        gives_bind _ u.host w (eval_all u run es w) _ (all_give run es w)
-        (λ vs world1. ticked_gives _ u.host world1 _ (λ world2. kept_same world2))
-    eval_gives run (Map' _ ps) w =
-        gives_bind _ u.host w (eval_pairs u run ps w) _ (pairs_give run ps w)
-        (λ xs world1. ticked_gives _ u.host world1 _ (λ world2. kept_same world2))
+    eval_gives run (Var x) w = search gives
+    eval_gives run (Const v) w = search gives
+    eval_gives run (List' _ es) w = let items = all_give run es in search (gives, items)
+    eval_gives run (Tuple' _ es) w = let items = all_give run es in search (gives, items)
+    eval_gives run (Map' _ ps) w = let pairs = pairs_give run ps in search (gives, pairs)
     eval_gives run (Call' f _ given _ named) w =
         let by_name = named_by u.host named (λ world1. eval_keywords u run mapped [] named world1) in
         let names = named_by_gives _ u.host named _ (λ world1. keywords_give run mapped (mapped_gives _ u.host) [] named world1) in
@@ -274,11 +295,8 @@ module _ {i : Differs} (u : Under)
         gives_bind _ u.host world1 (text_after o.ending o) _
         (text_by u.host world1 world1 o.ending o (kept_same world1) (ends_as u.host world1 o (tag_ends (capturing true run) b [] world1)))
         (λ v world2. ticked_gives _ u.host world2 _ (λ world3. kept_same world3)))
-    eval_gives run (unary op a) w =
-        gives_bind _ u.host w (eval u run a w) _ (eval_gives run a w)
-        (λ v world1. ticked_gives _ u.host world1 _ (λ world2. unary_gives _ u.host op v world2))
-    eval_gives run (chained a _ ss) w =
-        gives_bind _ u.host w (eval u run a w) _ (eval_gives run a w) (λ v world1. steps_give run ss v world1)
+    eval_gives run (unary op a) w = let value = eval_gives run a in search (gives, value)
+    eval_gives run (chained a _ ss) w = let value = eval_gives run a in let rest = steps_give run ss in search (gives, value, rest)
     eval_gives run (conditional a _ cs) w = conditions_give run cs (λ world1. eval u run a world1) (λ world1. eval_gives run a world1) w
 
     pub conditions_give : {n : _} → (run : Run) (cs : Row_of-Condition n) (guarded : World → Res Val) →
@@ -291,16 +309,12 @@ module _ {i : Differs} (u : Under)
 
     pub all_give : {n : _} → (run : Run) (es : Row_of-Expr n) (w : World) → GivesBut i u.host w (eval_all u run es w)
     all_give run no_expr w = kept_same w
-    all_give run (expr e more) w =
-        gives_bind _ u.host w (eval u run e w) _ (eval_gives run e w)
-        (λ v world1. gives_bind _ u.host world1 (eval_all u run more world1) _ (all_give run more world1) (λ vs world2. kept_same world2))
+    all_give run (expr e more) w = let value = eval_gives run e in let rest = all_give run more in search (gives, value, rest)
 
     pub pairs_give : {n : _} → (run : Run) (ps : Row_of-Pair n) (w : World) → GivesBut i u.host w (eval_pairs u run ps w)
     pairs_give run no_pair w = kept_same w
     pairs_give run (with_pair k v more) w =
-        gives_bind _ u.host w (eval u run k w) _ (eval_gives run k w) (λ x world1.
-        gives_bind _ u.host world1 (eval u run v world1) _ (eval_gives run v world1) (λ y world2.
-        gives_bind _ u.host world2 (eval_pairs u run more world2) _ (pairs_give run more world2) (λ xs world3. kept_same world3)))
+        let key = eval_gives run k in let value = eval_gives run v in let rest = pairs_give run more in search (gives, key, value, rest)
 
     pub argument_gives : (run : Run) (a : Argument) (w : World) → GivesBut i u.host w (eval_argument u run a w)
     argument_gives run (plain a) w = eval_gives run a w
@@ -309,20 +323,15 @@ module _ {i : Differs} (u : Under)
     pub arguments_give : {n : _} → (run : Run) (given : Row_of-Argument n) (w : World) → GivesBut i u.host w (eval_arguments u run given w)
     arguments_give run no_argument w = kept_same w
     arguments_give run (argument a more) w =
-        gives_bind _ u.host w (eval_argument u run a w) _ (argument_gives run a w) (λ v world1.
-        gives_bind _ u.host world1 (eval_arguments u run more world1) _ (arguments_give run more world1) (λ vs world2. kept_same world2))
+        let value = argument_gives run a in let rest = arguments_give run more in search (gives, value, rest)
 
     pub lists_give : {n : _} → (run : Run) (row : List Val) (given : Row_of-Argument n) (by_name : World → Res (List Val)) →
         GivenBut i u.host by_name → (w : World) → GivesBut i u.host w (eval_lists u run row given by_name w)
-    lists_give run row no_argument by_name h w =
-        gives_bind _ u.host w (by_name w) _ (h w) (λ ks world1. listed_gives _ u.host (row ++ ks) world1)
+    lists_give run row no_argument by_name h w = search (gives, h)
     lists_give run row (argument (plain a) more) by_name h w =
         gives_bind _ u.host w (eval u run a w) _ (eval_gives run a w) (λ v world1. lists_give run (row ++ v ∷ []) more by_name h world1)
     lists_give run row (argument (spread a) more) by_name h w =
-        gives_bind _ u.host w (listed row w) _ (listed_gives _ u.host row w) (λ ls world1.
-        gives_bind _ u.host world1 (eval u run a world1) _ (eval_gives run a world1) (λ v world2.
-        gives_bind _ u.host world2 (eval_lists u run [] more by_name world2) _ (lists_give run [] more by_name h world2)
-        (λ vs world3. kept_same world3)))
+        let value = eval_gives run a in let rest = lists_give run [] more by_name h in search (gives, value, rest)
 
     pub keywords_give : {n : _} → (run : Run) (end : RowValues) → ((row : List (Val × Val)) (w : World) → GivesBut i u.host w (end row w)) →
         (row : List (Val × Val)) (ks : Row_of-Keyword n) (w : World) → GivesBut i u.host w (eval_keywords u run end row ks w)
@@ -331,14 +340,10 @@ module _ {i : Differs} (u : Under)
         ticked_gives _ u.host w _ (λ world1. gives_bind _ u.host world1 (eval u run a world1) _ (eval_gives run a world1)
         (λ v world2. keywords_give run end last (row ++ (text x false, v) ∷ []) more world2))
     keywords_give run end last row (keyword_and (spread_keywords a) more) w =
-        gives_bind _ u.host w (mapped row w) _ (mapped_gives _ u.host row w) (λ ms world1.
-        gives_bind _ u.host world1 (eval u run a world1) _ (eval_gives run a world1) (λ v world2.
-        gives_bind _ u.host world2 (eval_keywords u run end [] more world2) _ (keywords_give run end last [] more world2)
-        (λ ns world3. kept_same world3)))
+        let value = eval_gives run a in let rest = keywords_give run end last [] more in search (gives, value, rest)
 
     pub step_gives : (run : Run) (s : Step) (v : Val) (w : World) → GivesBut i u.host w (eval_step u run s v w)
-    step_gives run (Attribute x) v w = ticked_gives _ u.host w _
-        (λ world1. operation_gives _ u.host _ world1 (attribute_raises u.host.undefined (records_of world1) v x))
+    step_gives run (Attribute x) v w = search gives
     step_gives run (Apply' k x _ given _ named) v w =
         let by_name = named_by u.host named (λ world1. eval_keywords u run mapped [] named world1) in
         let names = named_by_gives _ u.host named _ (λ world1. keywords_give run mapped (mapped_gives _ u.host) [] named world1) in
@@ -358,63 +363,36 @@ module _ {i : Differs} (u : Under)
         (passed_by_gives _ (has_spread given) u.host (v ∷ []) _ by_name _ (λ world1. arguments_give run given world1) names
         (λ world1. lists_give run (v ∷ []) given by_name names world1) w) (λ vs world1.
         ticked_gives _ u.host world1 _ (λ world2. value_gives world2 run _ (callee_asks _ u.host vs world2)))
-    step_gives run (item a) v w =
-        gives_bind _ u.host w (eval u run a w) _ (eval_gives run a w) (λ k world1. ticked_gives _ u.host world1 _ (λ world2.
-        operation_gives _ u.host _ world2 (item_raises u.host.undefined (records_of world2) v k)))
+    step_gives run (item a) v w = let value = eval_gives run a in search (gives, value)
     step_gives run (slice a b c) v w =
-        gives_bind _ u.host w (eval u run a w) _ (eval_gives run a w) (λ x world1.
-        gives_bind _ u.host world1 (eval u run b world1) _ (eval_gives run b world1) (λ y world2.
-        gives_bind _ u.host world2 (eval u run c world2) _ (eval_gives run c world2) (λ z world3. ticked_gives _ u.host world3 _ (λ world4.
-        operation_gives _ u.host _ world4 (sliced_raises u.host.undefined v x y z)))))
-    step_gives run (binary op a) v w =
-        gives_bind _ u.host w (eval u run a w) _ (eval_gives run a w)
-        (λ y world1. ticked_gives _ u.host world1 _ (λ world2. binary_gives _ u.host op v y world2))
-    step_gives run (compare op a _ cs) v w = gives_bind _ u.host w (eval u run a w) _ (eval_gives run a w)
-        (λ y world1. links_give run op cs v y world1)
-    step_gives run (and_then a) v w =
-        ticked_gives _ u.host w _ (λ world1. gives_bind _ u.host world1 (truth u.host v world1) _ (truth_gives _ u.host v world1)
-        (λ b world2. choose_gives _ u.host world2 b _ _ (eval_gives run a world2) (kept_same world2)))
-    step_gives run (or_else a) v w =
-        ticked_gives _ u.host w _ (λ world1. gives_bind _ u.host world1 (truth u.host v world1) _ (truth_gives _ u.host v world1)
-        (λ b world2. choose_gives _ u.host world2 b _ _ (kept_same world2) (eval_gives run a world2)))
+        let start = eval_gives run a in let stop = eval_gives run b in let by = eval_gives run c in search (gives, start, stop, by) depth 9
+    step_gives run (binary op a) v w = let value = eval_gives run a in search (gives, value)
+    step_gives run (compare op a _ cs) v w = let value = eval_gives run a in let rest = links_give run op cs in search (gives, value, rest)
+    step_gives run (and_then a) v w = let value = eval_gives run a in search (gives, value)
+    step_gives run (or_else a) v w = let value = eval_gives run a in search (gives, value)
 
     pub links_give : {n : _} → (run : Run) (op : BinaryOperator) (cs : Row_of-Comparison n) (x y : Val) (w : World) →
         GivesBut i u.host w (eval_links u run op cs x y w)
-    links_give run op no_comparison x y w =
-        ticked_gives _ u.host w _ (λ world1.
-        gives_bind _ u.host world1 (applied_binary u.host op x y world1) _ (binary_gives _ u.host op x y world1)
-        (λ v world2. ticked_gives _ u.host world2 _ (λ world3. kept_same world3)))
+    links_give run op no_comparison x y w = search gives
     links_give run op (with_comparison op1 a more) x y w =
-        ticked_gives _ u.host w _ (λ world1.
-        gives_bind _ u.host world1 (operated u.host op x y world1) _ (operated_gives _ u.host op x y world1) (λ v world2.
-        ticked_gives _ u.host world2 _ (λ world3.
-        gives_bind _ u.host world3 (truth u.host v world3) _ (truth_gives _ u.host v world3) (λ b world4.
-        choose_gives _ u.host world4 b _ _
-        (gives_bind _ u.host world4 (eval u run a world4) _ (eval_gives run a world4) (λ z world5. links_give run op1 more y z world5))
-        (ticked_gives _ u.host world4 _ (λ world5. kept_same world5))))))
+        let value = eval_gives run a in let rest = links_give run op1 more in search (gives, value, rest) depth 14
 
     pub steps_give : {n : _} → (run : Run) (ss : Row_of-Step n) (v : Val) (w : World) → GivesBut i u.host w (eval_steps u run ss v w)
     steps_give run no_step v w = kept_same w
-    steps_give run (step s ss) v w = gives_bind _ u.host w (eval_step u run s v w) _ (step_gives run s v w)
-        (λ x world1. steps_give run ss x world1)
+    steps_give run (step s ss) v w = let value = step_gives run s in let rest = steps_give run ss in search (gives, value, rest)
 
   mutual
     pub assign_gives : (run : Run) (t : AssignmentTarget) (v : Val) (w : World) → GivesBut i u.host w (assign u run t v w)
-    assign_gives run (To x) v w = ticked_gives _ u.host w _ (λ world1. store_kept x v world1)
-    assign_gives run (Items _ ts) v w =
-        ticked_gives _ u.host w _ (λ world1. gives_bind _ u.host world1 (unpacked_items (count_targets ts) v world1) _
-        (unpacked_gives _ u.host (count_targets ts) v world1)
-        (λ vs world2. assign_all_gives run ts vs world2))
-    assign_gives run (Member e x) v w =
-        gives_bind _ u.host w (eval u run e w) _ (eval_gives run e w)
-        (λ o world1. ticked_gives _ u.host world1 _ (λ world2. member_gives _ u.host x v o world2))
+    assign_gives run (To x) v w = search gives
+    assign_gives run (Items _ ts) v w = let each = assign_all_gives run ts in search (gives, each)
+    assign_gives run (Member e x) v w = let value = eval_gives run e in search (gives, value)
 
     pub assign_all_gives : {n : _} → (run : Run) (ts : Row_of-AssignmentTarget n) (vs : List Val) (w : World) →
         GivesBut i u.host w (assign_all u run ts vs w)
     assign_all_gives run no_target vs w = kept_same w
     assign_all_gives run (target t ts) [] w = kept_same w
-    assign_all_gives run (target t ts) (v ∷ vs) w = gives_bind _ u.host w (assign u run t v w) _ (assign_gives run t v w)
-        (λ _ world1. assign_all_gives run ts vs world1)
+    assign_all_gives run (target t ts) (v ∷ vs) w =
+        let one = assign_gives run t in let rest = assign_all_gives run ts in search (gives, one, rest)
 
   pub set_gives : (run : Run) (t : AssignmentTarget) (e : Expr) (w : World) → GivesBut i u.host w (set_to u run t e w)
   set_gives run t e w = gives_bind _ u.host w (eval u run e w) _ (eval_gives run e w) (λ v world1. assign_gives run t v world1)

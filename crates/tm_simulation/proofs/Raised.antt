@@ -282,13 +282,9 @@ binary_raises binaries.GreaterOrEqual b r x y = as_value_raises _ (compared_rais
 binary_raises binaries.In b r x y = as_value_raises _ (contained_raises b r y x)
 binary_raises binaries.NotIn b r x y = negated_raises _ (contained_raises b r y x)
 binary_raises binaries.Add b r x y = added_raises x y
-binary_raises binaries.Subtract b r x y = wholes_raises _ x y
 binary_raises binaries.Concatenate b r x y = concatenated_raises b r x y
-binary_raises binaries.Multiply b r x y = wholes_raises _ x y
 binary_raises binaries.Divide b r x y = refl
-binary_raises binaries.FloorDivide b r x y = wholes_raises _ x y
-binary_raises binaries.Remainder b r x y = wholes_raises _ x y
-binary_raises binaries.Power b r x y = wholes_raises _ x y
+binary_raises _ b r x y = wholes_raises _ x y
 
 -- ---------------------------------------------------------------- members
 loop_member_raises : (found : _) (n : List ℕ) → Raises (loop_member found n)

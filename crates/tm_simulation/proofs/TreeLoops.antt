@@ -1,7 +1,7 @@
 -- The loops and macros of a tree stand in its code, each at its number.
 use Rattle.std.proofs.Common.{◌≡◌, ℕ, zero, suc, ◌+◌, ◌⊎◌, inl, inr, List, [], ◌∷◌, Option, Some, None, Bool, true, false, ◌++◌}
 use Rattle.std.proofs.Common.{refl, sym, ap, subst, length}
-use Rattle.std.proofs.Common.{arith}
+use Rattle.std.proofs.Common.{arith, rules}
 use Rattle.std.proofs.lemmas.List.{append-nil}
 use Rattle.tm_trees.specs.Instructions.{Instruction}
 use Rattle.tm_trees.specs.Instructions.instructions as i
@@ -9,9 +9,9 @@ use Rattle.tm_trees.specs.Trees.{UnaryOperator, BinaryOperator, Expr, Var, Const
 use Rattle.tm_trees.specs.Trees.{Row_of-Pair, no_pair, Row_of-Argument, no_argument, argument, Row_of-Keyword, no_keyword, keyword_and, Row_of-Step}
 use Rattle.tm_trees.specs.Trees.{no_step, step, Row_of-Condition, no_condition, Argument, Keyword, Application, Step, Attribute, Apply', Called}
 use Rattle.tm_trees.specs.Trees.{Row_of-Comparison, no_comparison, AssignmentTarget, To, Items, Member, Row_of-AssignmentTarget, no_target, target}
-use Rattle.tm_trees.specs.Trees.{Assignment, Parameter, Imported, CaptureUse, Stmt, EmitRaw, EmitExpr, EmitLoop, EmitBlock, EmitSuper, If', For'}
-use Rattle.tm_trees.specs.Trees.{Break, Continue, Block', Extends, Set, CaptureBlock', With', Do, AutoEscape', Macro', CallBlock', Row_of-Stmt}
-use Rattle.tm_trees.specs.Trees.{Include, Import, FromImport, no_statement, statement, Otherwise, no_else, otherwise}
+use Rattle.tm_trees.specs.Trees.{Assignment, Parameter, Imported, CaptureUse, Stmt, If', For'}
+use Rattle.tm_trees.specs.Trees.{Set, CaptureBlock', With', AutoEscape', Macro', CallBlock', Row_of-Stmt}
+use Rattle.tm_trees.specs.Trees.{Import, FromImport, no_statement, statement, Otherwise, no_else, otherwise}
 use Rattle.tm_trees.specs.Trees.unaries
 use Rattle.tm_trees.specs.Trees.binaries
 use Rattle.tm_trees.specs.Trees.applications
@@ -338,18 +338,9 @@ with_pass_is (Some c) l ls = refl
 mutual
   pub statement_begins : (os : List Opened) (at : Numbers) (s : Stmt) →
       Begins at (statement_code os s) (loops_of at s) (macros_of at s) (past at s)
-  statement_begins os at (EmitRaw t) = none_begin at (statement_code os (EmitRaw t)) (refl, tt)
-  statement_begins os at (EmitExpr e) = none_begin at (statement_code os (EmitExpr e)) (expr_loopless e, (refl, tt))
-  statement_begins os at (EmitLoop e) = none_begin at (statement_code os (EmitLoop e)) (expr_loopless e, (refl, tt))
   statement_begins os at (If' c _ body other) = after_none (expr_code c) (expr_loopless c)
       (branches_begin os at (statements_code os body) (loops_in at body) (macros_in at body) (pasts at body) (statements_begin os at body)
       other)
-  statement_begins os at Break = none_begin at (statement_code os Break) (closed_loopless os, tt)
-  statement_begins os at Continue = none_begin at (statement_code os Continue) (closed_loopless os, tt)
-  statement_begins os at (Block' x required _ body) = none_begin at (straight (i.CallBlock x ∷ [])) (refl, tt)
-  statement_begins os at (EmitBlock x) = none_begin at (statement_code os (EmitBlock x)) (refl, tt)
-  statement_begins os at EmitSuper = none_begin at (statement_code os EmitSuper) (refl, tt)
-  statement_begins os at (Extends e) = none_begin at (statement_code os (Extends e)) (expr_loopless e, (refl, tt))
   statement_begins os at (Set t e) = none_begin at (set_code t e) (expr_loopless e, target_loopless t)
   statement_begins os at (CaptureBlock' u filters _ body) =
       after_none (straight _) (refl, tt) (before_none (straight (i.EndCapture ∷ []) ⨾ filters_code filters ⨾ use_code u)
@@ -357,7 +348,6 @@ mutual
   statement_begins os at (With' given _ body) =
       after_none (straight _) (refl, tt) (after_none (assignments_code given) (assignments_loopless given)
       (before_none (straight (i.PopFrame ∷ [])) (refl, tt) (statements_begin (a_scope ∷ os) at body)))
-  statement_begins os at (Do e) = none_begin at (statement_code os (Do e)) (expr_loopless e, (refl, tt))
   statement_begins os at (AutoEscape' e _ body) =
       after_none (expr_code e) (expr_loopless e) (after_none (straight _) (refl, tt)
       (before_none (straight (i.PopAutoEscape ∷ [])) (refl, tt) (statements_begin (an_escape ∷ os) at body)))
@@ -377,12 +367,12 @@ mutual
       let inner = after_none (parameters_code ps) (parameters_loopless ps) (statements_begin [] (within_macro at) body) in
       before_none (straight (i.Emit ∷ [])) (refl, tt)
       (one_part_begins (call_has _ e) (macro_begins (is_macro at (codes "caller") ps body) inner))
-  statement_begins os at (Include e missing) = none_begin at (statement_code os (Include e missing)) (expr_loopless e, (refl, tt))
   statement_begins os at (Import e t) =
       none_begin at (statement_code os (Import e t)) ((refl, tt), (included_loopless e, ((refl, (refl, (refl, tt))), target_loopless t)))
   statement_begins os at (FromImport e xs) =
       none_begin at (statement_code os (FromImport e xs))
       ((refl, tt), (included_loopless e, (lookups_loopless xs, ((refl, tt), (stores_loopless xs, (refl, (refl, tt)))))))
+  statement_begins os at _ = none_begin at _ (search (rules, expr_loopless, closed_loopless))
 
   pub statements_begin : {n : _} → (os : List Opened) (at : Numbers) (ss : Row_of-Stmt n) →
       Begins at (statements_code os ss) (loops_in at ss) (macros_in at ss) (pasts at ss)

@@ -17,12 +17,12 @@ use Rattle.tm_meaning.specs.Calls.{Asked, has, refused, runs, recurs, ask, Neste
 use Rattle.tm_meaning.specs.Calls.{further_call, further_calls}
 use Rattle.tm_meaning.specs.declared.reply.Call.{Call}
 use Rattle.tm_objects.specs.Stated.{is_for_memory, IsNamedAnswer}
-use Rattle.tm_state.specs.declared.calls.CallResult.{CallResult}
-use Rattle.tm_state.specs.declared.calls.CallResult.TheVariants as outcome
-use Rattle.tm_state.specs.declared.further.Further.TheVariants as further
-use Rattle.tm_state.specs.declared.nested.NestedRun.{NestedRun}
-use Rattle.tm_state.specs.Answers.{Becomes, FoundAnswers, FurtherComes, NeedsMacro, NeedsPlain, NeedsRun, call_of, is_macro, shown}
-use Rattle.tm_state.specs.Answers.{tested, text_for}
+use Rattle.tm_records.specs.declared.results.CallResult.{CallResult}
+use Rattle.tm_records.specs.declared.results.CallResult.TheVariants as outcome
+use Rattle.tm_records.specs.declared.results.Further.TheVariants as further
+use Rattle.tm_records.specs.declared.nested.NestedRun.{NestedRun}
+use Rattle.tm_state.specs.Answers.{Becomes, FoundAnswers, FurtherComes, NeedsMacro, NeedsPlain, NeedsRun, call_of, shown, tested}
+use Rattle.tm_records.specs.Results.{is_macro, text_for}
 
 -- ---------------------------------------------------------------- an answer that is followed
 -- What was refused is nothing else.

@@ -17,8 +17,8 @@ use Rattle.tm_meaning.specs.declared.stream.TemplateId.{TemplateId}
 use Rattle.tm_meaning.specs.declared.stream.TemplateId.TheVariants.{Entry}
 use Rattle.tm_blocks.specs.Lists.{AreBlocksOf, with_each}
 use Rattle.tm_state.specs.State.{IsNextOf, put_back, saved_super, scoped}
-use Rattle.tm_state.specs.declared.saved.Saved.TheVariants as saved
-use Rattle.tm_state.specs.declared.saved.SavedSuper.{SavedSuper}
+use Rattle.tm_records.specs.declared.saved.Saved.TheVariants as saved
+use Rattle.tm_records.specs.declared.saved.SavedSuper.{SavedSuper}
 
 -- ---------------------------------------------------------------- a parent
 by_names : (t : TemplateId) (bs : Named Card) (ls : Named (List TemplateId)) → with_blocks t bs ls ≡ with_each t (keys_of bs) ls

@@ -29,9 +29,9 @@ use Rattle.tm_meaning.specs.Inheritance.{joined}
 use Rattle.tm_values.specs.Records.{RecordData}
 use Rattle.tm_state.specs.Answers.{IsChosen, IsFirstEntry, IsNamed, IsEntryThere, NeedsSuper, OneDeeper}
 use Rattle.tm_state.specs.State.{lists_of, put_back, saved_include, saved_of}
-use Rattle.tm_state.specs.declared.nested.RunOf.TheVariants as run_of
-use Rattle.tm_state.specs.declared.saved.Saved.TheVariants as saved
-use Rattle.tm_state.specs.declared.saved.SavedInclude.{SavedInclude}
+use Rattle.tm_records.specs.declared.nested.RunOf.TheVariants as run_of
+use Rattle.tm_records.specs.declared.saved.Saved.TheVariants as saved
+use Rattle.tm_records.specs.declared.saved.SavedInclude.{SavedInclude}
 
 -- ---------------------------------------------------------------- its blocks and scopes
 own_named : (t : TemplateId) (bs : Named Card) → own_blocks t bs ≡ alone_in t (keys_of bs)

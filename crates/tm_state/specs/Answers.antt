@@ -4,7 +4,6 @@ use Rattle.std.specs.Prelude.{true, false}
 use Rattle.std.specs.declared.alloc.Global.{Global}
 use Rattle.tm_meaning.specs.Memory.{is_want_of_memory}
 use Rattle.tm_values.specs.declared.error.ErrorKind.{ErrorKind}
-use Rattle.tm_values.specs.declared.error.ErrorKind.TheVariants.{InvalidOperation}
 use Rattle.std.specs.Borrow.{Bor}
 use Rattle.std.specs.Global.{Box}
 use Rattle.std.specs.declared.rc.Rc.{Rc}
@@ -14,23 +13,24 @@ use Rattle.tm_blocks.specs.declared.template_entry.TemplateEntry.{TemplateEntry}
 use Rattle.tm_meaning.specs.Inheritance.{joined}
 use Rattle.tm_values.specs.Val.{Val, undefined}
 use Rattle.tm_objects.specs.Stated.{is_for_memory}
-use Rattle.tm_meaning.specs.World.{World, HostValue, Object, Stated, Loop, Res, Good, Bad, depth, plain_scope, records_of}
+use Rattle.tm_meaning.specs.World.{World, HostValue, Object, Stated, Res, Good, Bad, depth, plain_scope, records_of}
 use Rattle.tm_meaning.specs.Calls.{Asked, has, refused, recurs, runs, NestedCall, MakesFurther, replied, found_call}
-use Rattle.tm_meaning.specs.Calls.{as_printed, as_truth, choices_in, first_found, include_depth, include_frames, is_changed, no_values}
+use Rattle.tm_meaning.specs.Calls.{as_printed, as_truth, choices_in, first_found, include_depth, include_frames, no_values}
 use Rattle.tm_meaning.specs.declared.reply.Call.{Call}
 use Rattle.tm_meaning.specs.declared.reply.Call.TheVariants as calls
 use Rattle.tm_meaning.specs.declared.stream.TemplateId.TheVariants.{Entry}
 use Rattle.tm_meaning.specs.declared.run_text.RunText.{RunText}
 use Rattle.tm_meaning.specs.declared.run_text.RunText.TheVariants as texts
+use Rattle.tm_records.specs.Results.{is_macro, text_for}
 use Rattle.tm_state.specs.State.{callee_of, undo_of, IsSaved}
-use Rattle.tm_state.specs.declared.saved.Saved.{Saved}
-use Rattle.tm_state.specs.declared.saved.Saved.TheVariants as saved
-use Rattle.tm_state.specs.declared.nested.NestedRun.{NestedRun}
-use Rattle.tm_state.specs.declared.further.Further.{Further}
-use Rattle.tm_state.specs.declared.further.Further.TheVariants as further
-use Rattle.tm_state.specs.declared.calls.CallResult.{CallResult}
-use Rattle.tm_state.specs.declared.calls.CallResult.TheVariants as outcome
-use Rattle.tm_state.specs.declared.calls.Recursion.{Recursion}
+use Rattle.tm_records.specs.declared.saved.Saved.{Saved}
+use Rattle.tm_records.specs.declared.saved.Saved.TheVariants as saved
+use Rattle.tm_records.specs.declared.nested.NestedRun.{NestedRun}
+use Rattle.tm_records.specs.declared.results.Further.{Further}
+use Rattle.tm_records.specs.declared.results.Further.TheVariants as further
+use Rattle.tm_records.specs.declared.results.CallResult.{CallResult}
+use Rattle.tm_records.specs.declared.results.CallResult.TheVariants as outcome
+use Rattle.tm_records.specs.declared.results.Recursion.{Recursion}
 
 -- The scopes are the very ones from before, and so are stream, block, escape and the places in lists of blocks.
 abbrev pub StaysInPlace : World → World → Type 0
@@ -178,15 +178,6 @@ abbrev pub tested : Bool → Asked → Asked
 tested false asked = asked
 tested true asked = as_truth asked
 
--- what the text of a run is, where a test was called and where none was
-abbrev pub text_for : Bool → RunText
-text_for false = texts.Plain
-text_for true = texts.Truth
-
-abbrev pub is_macro : Call → Bool
-is_macro (calls.Macro x args) = true
-is_macro _ = false
-
 -- A further call needs this run first, whose text is plain but for what was tested.
 abbrev pub NeedsPlain : Bool → NestedRun → Asked → World → Type 0
 NeedsPlain test e asked w =
@@ -209,14 +200,6 @@ abbrev pub FurtherLies : ℕ → Result Further (List ErrorKind) → World → W
 FurtherLies limit (Ok (further.Run e)) old new =
     CallDeeper limit e.value.saved old new × KeepsFixedAndNames old new × (new.blocks ≡ old.blocks)
 FurtherLies limit _ old new = new ≡ record old { namespaces = new.namespaces }
-
--- InvalidOperation for this cause, unless it is OutOfMemory
-abbrev pub IsBecause : List ErrorKind → List ErrorKind → Type 0
-IsBecause cause chain = is_want_of_memory chain ≡ false → chain ≡ InvalidOperation ∷ cause
-
--- A loop is there, and this tells whether these arguments differ from those that it keeps.
-abbrev pub IsChangedAt : Bool → List Val → Option Loop → Type 0
-IsChangedAt changed args found = (l : Loop) × (found ≡ Some l) × (changed ≡ is_changed l.kept args)
 
 -- ---------------------------------------------------------------- includes
 -- An include needs this run first, in place; or nothing happens.

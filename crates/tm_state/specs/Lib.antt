@@ -1,4 +1,2 @@
 pub mod State
 pub mod Answers
-pub mod Streams
-pub mod Macros

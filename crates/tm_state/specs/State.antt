@@ -5,7 +5,7 @@ use Rattle.tm_syntax.specs.Named.{find}
 use Rattle.tm_values.specs.Val.{MacroData, Val, undefined}
 use Rattle.tm_values.specs.declared.escape.AutoEscape.{AutoEscape}
 use Rattle.tm_values.specs.declared.escape.AutoEscape.TheVariants as auto_escape
-use Rattle.tm_meaning.specs.World.{World, Loop, loop_scope, new_loop, root_of, block_of, plain_scope, with_frames}
+use Rattle.tm_meaning.specs.World.{World, loop_scope, new_loop, root_of, block_of, plain_scope, with_frames}
 use Rattle.tm_meaning.specs.World.{depth, own_closure, owning}
 use Rattle.tm_meaning.specs.Calls.{Asked, runs, cut_to, block_call, macro_call, Undo, of_block, of_super, of_macro, of_include, Callee, whole}
 use Rattle.tm_meaning.specs.Calls.{macro_depth, macro_of, outermost, root_context}
@@ -18,14 +18,14 @@ use Rattle.tm_trees.specs.Instructions.{LoopFlags}
 use Rattle.tm_tables.specs.Fuel.{Fuel}
 use Rattle.tm_blocks.specs.Lists.{ListsValue, with_each}
 use Rattle.tm_scopes.specs.Scopes.{exported_of}
-use Rattle.tm_state.specs.declared.saved.Saved.{Saved}
-use Rattle.tm_state.specs.declared.saved.Saved.TheVariants as saved
-use Rattle.tm_state.specs.declared.saved.SavedBlock.{SavedBlock}
-use Rattle.tm_state.specs.declared.saved.SavedSuper.{SavedSuper}
-use Rattle.tm_state.specs.declared.saved.SavedMacro.{SavedMacro}
-use Rattle.tm_state.specs.declared.saved.SavedInclude.{SavedInclude}
-use Rattle.tm_state.specs.declared.nested.RunOf.{RunOf}
-use Rattle.tm_state.specs.declared.nested.RunOf.TheVariants as run_of
+use Rattle.tm_records.specs.declared.saved.Saved.{Saved}
+use Rattle.tm_records.specs.declared.saved.Saved.TheVariants as saved
+use Rattle.tm_records.specs.declared.saved.SavedBlock.{SavedBlock}
+use Rattle.tm_records.specs.declared.saved.SavedSuper.{SavedSuper}
+use Rattle.tm_records.specs.declared.saved.SavedMacro.{SavedMacro}
+use Rattle.tm_records.specs.declared.saved.SavedInclude.{SavedInclude}
+use Rattle.tm_records.specs.declared.nested.RunOf.{RunOf}
+use Rattle.tm_records.specs.declared.nested.RunOf.TheVariants as run_of
 
 -- the fuel that was set, where one was
 abbrev pub fuel_set_of : Bool → Fuel → Option ℕ
@@ -191,18 +191,6 @@ template_after w =
 -- one scope more, over no context
 abbrev pub scoped : World → World
 scoped w = with_frames (plain_scope (undefined false) ∷ w.scopes.frames) w
-
--- a loop's record, none of whose items was asked for yet
-abbrev pub loop_record : List Val → ℕ → ℕ → Bool → StreamId → Loop
-loop_record items depth number recursive stream = record {
-  items = items;
-  turns = 0;
-  depth = depth;
-  number = number;
-  recursive = recursive;
-  stream = stream;
-  kept = None;
-}
 
 -- a loop of a number more, in a scope of its own
 abbrev pub with_open_loop : List Val → LoopFlags → ℕ → World → World

@@ -5,9 +5,9 @@ ghost use Rattle.tm_state.specs.Answers.{Becomes, FoundAnswers, LeavesState};
 ghost use Rattle.tm_syntax.specs.Named.{find};
 ghost use Rattle.tm_values.specs.declared.error.ErrorKind.TheVariants.{UnknownFilter, UnknownTest};
 
-use crate::calls::CallResult;
 use crate::state::StateData;
 use std::alloc::Global;
+use tm_records::CallResult;
 use tm_syntax::Application;
 use tm_tables::{CallableAnswer, Host};
 use tm_values::{Error, ErrorKind, Value};

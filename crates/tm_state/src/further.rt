@@ -8,28 +8,17 @@ ghost use Rattle.tm_meaning.specs.Calls.{block_call, by_depths, deeper, enter_bl
 ghost use Rattle.tm_meaning.specs.Calls.{as_printed, depths_left, named_call, replied, runs, value_call};
 ghost use Rattle.tm_meaning.specs.declared.run_text.RunText.TheVariants as texts;
 ghost use Rattle.tm_state.specs.Answers.{Answers, Becomes, Comes, FurtherComes, FurtherLies, KeepsFixedAndNames, LeavesState, NeedsPlain, PrintedComes};
-ghost use Rattle.tm_state.specs.Answers.{CallDeeper, HasOneMore, is_macro, shown, tested, text_for};
+ghost use Rattle.tm_state.specs.Answers.{CallDeeper, HasOneMore, shown, tested};
 ghost use Rattle.tm_state.specs.State.{saved_of};
 
-use crate::calls::CallResult;
-use crate::nested::{NestedRun, RunOf};
-use crate::saved::{Saved, SavedBlock};
 use crate::state::StateData;
 use std::alloc::Global;
-use tm_meaning::{Call, Reply, RunText, StreamId};
+use tm_meaning::{Call, Reply, StreamId};
 use tm_printing::to_text;
+use tm_records::{CallResult, Further, NestedRun, RunOf, Saved, SavedBlock, is_macro, text_for};
 use tm_syntax::Name;
 use tm_tables::{CallableAnswer, Called, Host, NO_PLACE};
 use tm_values::{Error, ErrorKind, MacroValue, Node, Value};
-
-/// What a further call came to.
-#[derive(Drop)]
-pub(crate) enum Further {
-    /// What was answered to it.
-    Answered(CallableAnswer),
-    /// A run that it needs.
-    Run(Box<NestedRun>),
-}
 
 impl StateData {
     /// How many depths more lie within the limit.
@@ -316,22 +305,4 @@ impl StateData {
             }
         }
     }
-}
-
-/// Whether a further call is one of a macro.
-fn is_macro(call: &Call) -> bool
-    ensures { result ≡ is_macro call.now }
-{
-    match call {
-        Call::Macro(_name, _args) => true,
-        Call::Filter(_name, _args) => false,
-        Call::Block(_name) => false,
-    }
-}
-
-/// What the text of a run is, where a test was called and where none was.
-fn text_for(test: bool) -> RunText
-    ensures { result ≡ text_for test }
-{
-    if test { RunText::Truth } else { RunText::Plain }
 }

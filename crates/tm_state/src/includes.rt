@@ -1,6 +1,6 @@
 //! Templates that others include, and the modules that imports make.
 ghost use Rattle.std.specs.Prelude.{◌≡◌, ◌+◌, ◌≤◌, ◌∷◌, [], IfErr, IfOk, None, OnErr, OnOk, Some, false};
-ghost use Rattle.tm_meaning.specs.Calls.{enter_include, first_found, include_cost, include_depth, include_found, include_frames, refused};
+ghost use Rattle.tm_meaning.specs.Calls.{enter_include, first_found, include_depth, include_found, include_frames, refused};
 ghost use Rattle.tm_meaning.specs.Inheritance.{joined};
 ghost use Rattle.tm_meaning.specs.Memory.{is_want_of_memory};
 ghost use Rattle.tm_meaning.specs.World.{Bad, Good, depth, module_with, records_of};
@@ -10,31 +10,18 @@ ghost use Rattle.tm_state.specs.State.{lists_of, saved_of};
 ghost use Rattle.tm_definitions.specs.Emitted.{text_answer};
 ghost use Rattle.tm_values.specs.Answer.{IsAnswer};
 
-use crate::nested::{NestedRun, RunOf};
-use crate::saved::{Saved, SavedBlock, SavedInclude};
 use crate::state::StateData;
 use std::alloc::Global;
 use std::mem;
 use tm_meaning::{RunText, StreamId, TemplateId, Wrapping};
 use tm_operations::collection;
 use tm_printing::to_text;
+use tm_records::{
+    INCLUDE_DEPTH, NestedRun, RunOf, Saved, SavedBlock, SavedInclude, include_cost, shared_name,
+};
 use tm_syntax::Name;
 use tm_tables::{Host, Lists, TemplateEntry};
 use tm_values::{Error, ErrorKind, SharedText, Value};
-
-/// How much deeper a template runs that is included.
-const INCLUDE_DEPTH: usize = 10;
-
-/// How many levels a template takes that is included, `apart` in a scope of its own or not.
-fn include_cost(apart: bool) -> usize
-    ensures { result ≡ include_cost apart }
-{
-    if apart {
-        INCLUDE_DEPTH + 1
-    } else {
-        INCLUDE_DEPTH
-    }
-}
 
 impl StateData {
     /// The run of the first template that is there of those that a value names, `apart` in a scope of its own, or in those
@@ -175,7 +162,7 @@ impl StateData {
         let template = TemplateId::Entry(entry.name.share()?);
         let lists = self.lists.own(alloc, &template, entry.blocks)?;
         let running = StreamId::root(template.share()?);
-        let block = self.shared_block()?;
+        let block = shared_name(&self.block)?;
         let (scopes, closure) = (self.height(), self.context.own_closure());
         self.open_template(alloc, host, apart)?;
         let saved = self.run_template(host, &entry, running, block, lists, scopes, closure);

@@ -7,12 +7,10 @@ ghost use Rattle.tm_meaning.specs.World.{Bad, Good};
 ghost use Rattle.tm_state.specs.Answers.{IsCall, KeepsFixedAndNames, LeavesState, NamedBecomes, NeedsSuper, OneDeeper};
 ghost use Rattle.tm_state.specs.State.{IsNextOf, saved_of, template_after};
 
-use crate::calls::CallResult;
-use crate::nested::{NestedRun, RunOf};
-use crate::saved::{Saved, SavedBlock};
 use crate::state::StateData;
 use std::alloc::Global;
 use tm_meaning::{RunText, StreamId, TemplateId, Wrapping};
+use tm_records::{CallResult, NestedRun, RunOf, Saved, SavedBlock, shared_name};
 use tm_syntax::Name;
 use tm_tables::{Host, NO_PLACE};
 use tm_values::{Error, ErrorKind, Value};
@@ -92,17 +90,6 @@ impl StateData {
         Ok((stream, name.share()?, next))
     }
 
-    /// The block that runs, where one does. Fails by OutOfMemory alone, where the owners of its name can't be counted.
-    pub(crate) fn shared_block(&self) -> Result<Option<Name>, Error>
-        ensures ok { IfOk result (λ block. block ≡ self.now.block) }
-        ensures kind { IfErr result (λ e. e ≡ ErrorKind.OutOfMemory ∷ []) }
-    {
-        match &self.block {
-            Some(name) => Ok(Some(name.share()?)),
-            None => Ok(None),
-        }
-    }
-
     /// What is put back after a block. Fails by OutOfMemory alone, where the owners of a name can't be counted.
     pub(crate) fn saved_block(&self) -> Result<SavedBlock, Error>
         ensures ok { IfOk result (λ saved. saved ≡ saved_of self.now) }
@@ -110,7 +97,7 @@ impl StateData {
     {
         Ok(SavedBlock {
             stream: self.stream.share()?,
-            block: self.shared_block()?,
+            block: shared_name(&self.block)?,
             escape: self.escape,
             scopes: self.height(),
             outer: self.context.outer(),

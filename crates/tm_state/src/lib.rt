@@ -2,7 +2,6 @@
 #![tactic(auto)]
 
 mod applied;
-mod bound;
 mod calls;
 mod formatting;
 mod fuel;
@@ -10,16 +9,11 @@ mod further;
 mod includes;
 mod inheritance;
 mod macros;
-mod nested;
-mod pool;
-mod records;
-mod rooms;
 mod runs;
-mod saved;
 mod state;
-mod streams;
 
-pub use calls::{CallResult, Recursion};
-pub use nested::{NestedRun, RunOf};
-pub use saved::{Saved, SavedBlock, SavedInclude, SavedMacro, SavedSuper};
 pub use state::StateData;
+pub use tm_records::{
+    CallResult, NestedRun, Recursion, RunOf, Saved, SavedBlock, SavedInclude, SavedMacro,
+    SavedSuper,
+};

@@ -1,21 +1,19 @@
 //! Macros: closures, values and the arguments that calls give.
 ghost use Rattle.std.specs.Prelude.{◌≡◌, ◌+◌, ◌≤◌, ◌<◌, ◌∷◌, [], IfErr, IfOk, IfSome, None, Ok, OnErr, OnOk, Some, false, length, map as each};
 ghost use Rattle.std.specs.Rc.{rc_str_bytes};
-ghost use Rattle.tm_meaning.specs.Calls.{enter_macro, first_locals, known_stream, macro_scopes, refused};
+ghost use Rattle.tm_meaning.specs.Calls.{enter_macro, known_stream, macro_scopes, refused};
 ghost use Rattle.tm_meaning.specs.Memory.{is_want_of_memory};
 ghost use Rattle.tm_meaning.specs.World.{Bad, Good, HostValue, closing_over, depth, enclose, find_name, make_macro, own_closure, put_enclosed, view_of};
 ghost use Rattle.tm_state.specs.Answers.{CallDeeper, KeepsFixedAndNames, NeedsMacro};
-ghost use Rattle.tm_state.specs.Macros.{called_locals};
 ghost use Rattle.tm_state.specs.State.{in_macro, runs_macro, saved_scopes};
 ghost use Rattle.tm_values.specs.Val.{macro};
 ghost use Rattle.tm_values.specs.Answer.{IsLent, OkOrOutOfMemory};
 
-use crate::bound::{bind, given_caller, takes_caller};
-use crate::nested::{NestedRun, RunOf};
 use crate::state::StateData;
 use std::alloc::Global;
 use std::rc::RcStr;
 use tm_meaning::{RunText, StreamId};
+use tm_records::{NestedRun, RunOf, bind, caller_of};
 use tm_syntax::Name;
 use tm_tables::{Context, Found, Host};
 use tm_values::{Error, ErrorKind, MacroValue, Node, Value};
@@ -276,20 +274,4 @@ impl StateData {
             .contexts
             .lend(alloc, root, declared.closure(), outer, caller)
     }
-}
-
-/// The name `caller` with its value, if the macro takes it and has no argument of that name. Fails by OutOfMemory alone.
-fn caller_of(
-    alloc: Global,
-    declared: &MacroValue,
-    args: &[Value],
-) -> Result<Option<(Name, Value)>, Error>
-    ensures { OkOrOutOfMemory result
-        (λ caller. called_locals caller ≡ first_locals declared.now args.now) }
-{
-    if !takes_caller(declared) {
-        return Ok(None);
-    }
-    let name = Name::new(alloc, "caller")?;
-    Ok(Some((name, given_caller(args)?)))
 }

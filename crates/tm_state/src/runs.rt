@@ -8,14 +8,13 @@ ghost use Rattle.tm_state.specs.State.{IsBlockOf, after_block, after_include, af
 ghost use Rattle.tm_state.specs.State.{saved_of, saved_scopes, template_of_block};
 ghost use Rattle.tm_values.specs.Answer.{IsLent};
 
-use crate::calls::CallResult;
-use crate::nested::{NestedRun, RunOf};
-use crate::pool::ContextPool;
-use crate::saved::{Saved, SavedBlock, SavedInclude, SavedMacro, SavedSuper};
 use crate::state::StateData;
 use std::alloc::Global;
 use std::mem;
 use tm_meaning::{RunText, StreamId};
+use tm_records::{
+    CallResult, NestedRun, RunOf, Saved, SavedBlock, SavedInclude, SavedMacro, SavedSuper,
+};
 use tm_syntax::Name;
 use tm_tables::{Context, Host, Lists, NameTable};
 use tm_values::{Error, ErrorKind, Value};
@@ -252,7 +251,7 @@ impl StateData {
             escape,
             lists,
         } = saved;
-        swap_back(&mut self.context, context, &mut self.rooms.contexts);
+        self.rooms.contexts.swap_back(&mut self.context, context);
         mem::swap(&mut self.stream, stream);
         mem::swap(&mut self.block, block);
         self.escape = *escape;
@@ -284,14 +283,4 @@ impl StateData {
     {
         self.rooms.keep_operands(operands);
     }
-}
-
-/// Puts back the scopes that a macro's replaced, and gives the macro's own back to the pool.
-#[inline(always)]
-fn swap_back(own: &mut Context, saved: &mut Context, pool: &mut ContextPool)
-    ensures back { own.new ≡ saved.old }
-    ensures given { pool.new ≡ pool.old - 1 }
-{
-    mem::swap(own, saved);
-    pool.take_back(saved);
 }

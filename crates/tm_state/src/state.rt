@@ -15,9 +15,6 @@ ghost use Rattle.tm_scopes.specs.Scopes.{PushFails};
 ghost use Rattle.tm_state.specs.Answers.{KeepsFixedAndNames, CanBeEmitted, Comes};
 ghost use Rattle.tm_state.specs.State.{with_open_loop, exported, nothing_left, started, put_back, saved_of, runs_block, IsBlockOf, scoped};
 
-use crate::records::{add_loop, changed_at, keep_each, set_in, turn_at};
-use crate::rooms::Rooms;
-use crate::streams::Streams;
 use std::alloc::Global;
 use std::marker::Model;
 use std::mem;
@@ -25,6 +22,7 @@ use std::rc::Rc;
 use tm_meaning::{GlobalFunction, LoopMark, StreamId, TemplateId};
 use tm_operations::{check_settable, dict, namespace, range};
 use tm_printing::check_emission;
+use tm_records::{Rooms, Streams, add_loop, changed_at, keep_each, set_in, turn_at};
 use tm_syntax::{LoopFlags, Name, NameMap};
 use tm_tables::{
     BlockNames, Closures, Context, Frame, FuelTracker, Host, Lists, LoopState, NO_PLACE, View,

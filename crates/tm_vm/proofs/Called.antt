@@ -12,16 +12,16 @@ use Rattle.tm_meaning.specs.Machine.{Capture, Config, Next, Program, asked, firs
 use Rattle.tm_meaning.specs.Machine.{place_of_loop, recursion, take_n, taken, waiting}
 use Rattle.tm_parts.specs.declared.halt.Halt.{Halt}
 use Rattle.tm_parts.specs.declared.halt.Halt.TheVariants as halt
-use Rattle.tm_state.specs.declared.calls.CallResult.{CallResult}
-use Rattle.tm_state.specs.declared.calls.CallResult.TheVariants as outcome
-use Rattle.tm_state.specs.declared.calls.Recursion.{Recursion}
-use Rattle.tm_state.specs.declared.saved.Saved.{Saved}
-use Rattle.tm_state.specs.declared.saved.Saved.TheVariants as saved
-use Rattle.tm_state.specs.declared.saved.SavedBlock.{SavedBlock}
-use Rattle.tm_state.specs.declared.saved.SavedMacro.{SavedMacro}
-use Rattle.tm_state.specs.declared.saved.SavedInclude.{SavedInclude}
-use Rattle.tm_state.specs.declared.saved.SavedSuper.{SavedSuper}
-use Rattle.tm_state.specs.declared.nested.NestedRun.{NestedRun}
+use Rattle.tm_records.specs.declared.results.CallResult.{CallResult}
+use Rattle.tm_records.specs.declared.results.CallResult.TheVariants as outcome
+use Rattle.tm_records.specs.declared.results.Recursion.{Recursion}
+use Rattle.tm_records.specs.declared.saved.Saved.{Saved}
+use Rattle.tm_records.specs.declared.saved.Saved.TheVariants as saved
+use Rattle.tm_records.specs.declared.saved.SavedBlock.{SavedBlock}
+use Rattle.tm_records.specs.declared.saved.SavedMacro.{SavedMacro}
+use Rattle.tm_records.specs.declared.saved.SavedInclude.{SavedInclude}
+use Rattle.tm_records.specs.declared.saved.SavedSuper.{SavedSuper}
+use Rattle.tm_records.specs.declared.nested.NestedRun.{NestedRun}
 use Rattle.tm_state.specs.Answers.{Becomes, CallDeeper, HasOneMore, KeepsFixedAndNames, LeavesState, NamedBecomes, NeedsAny, OneDeeper, StaysInPlace, call_of}
 use Rattle.tm_state.specs.State.{IsSaved, after_block, callee_of, put_back, saved_of}
 use Rattle.tm_vm.specs.declared.flow.Flow.{Flow}

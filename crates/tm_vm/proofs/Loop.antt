@@ -24,7 +24,7 @@ use Rattle.tm_output.specs.Counts.{AppendsBeginning}
 use Rattle.tm_output.specs.Pieces.{appends_then, appends_nothing, appends_beginning, appends_then_beginning_longer, beginning_nothing}
 use Rattle.tm_parts.specs.declared.halt.Halt.{Halt}
 use Rattle.tm_parts.specs.declared.halt.Halt.TheVariants as halt
-use Rattle.tm_state.specs.declared.nested.NestedRun.{NestedRun}
+use Rattle.tm_records.specs.declared.nested.NestedRun.{NestedRun}
 use Rattle.tm_vm.specs.declared.flow.Flow.{Flow}
 use Rattle.tm_vm.specs.declared.flow.Flow.TheVariants as flow
 use Rattle.tm_vm.specs.Answers.{BeginsRun, ComesTo, Did, Enters, HaltsAs, KeepsGround, NoFewer, ReachesEnd, KeepsBaseScopes, SameStanding}
@@ -32,16 +32,16 @@ use Rattle.tm_runs.specs.Runs.{finished_at}
 use Rattle.tm_vm.specs.Answers.{output}
 use Rattle.tm_vm.proofs.Ground.{below_first, below_include, below_owning, ground_then, include_long, outermost_long, outermost_twice, owning_long, standing}
 use Rattle.tm_state.specs.Answers.{KeepsFixed, KeepsFixedAndNames, OneDeeper, call_of}
-use Rattle.tm_state.specs.declared.saved.Saved.{Saved}
-use Rattle.tm_state.specs.declared.saved.Saved.TheVariants as saved
-use Rattle.tm_state.specs.declared.saved.SavedBlock.{SavedBlock}
-use Rattle.tm_state.specs.declared.saved.SavedMacro.{SavedMacro}
-use Rattle.tm_state.specs.declared.saved.SavedInclude.{SavedInclude}
+use Rattle.tm_records.specs.declared.saved.Saved.{Saved}
+use Rattle.tm_records.specs.declared.saved.Saved.TheVariants as saved
+use Rattle.tm_records.specs.declared.saved.SavedBlock.{SavedBlock}
+use Rattle.tm_records.specs.declared.saved.SavedMacro.{SavedMacro}
+use Rattle.tm_records.specs.declared.saved.SavedInclude.{SavedInclude}
 use Rattle.tm_vm.specs.Nested.{IsCaptured, RanNested, Went, EndsNested, WroteBeginning, IsBack, IsWrapped, StandsOn, after, begins_in, base_in}
 use Rattle.tm_state.specs.State.{IsSaved, callee_of, put_back, undo_of}
 use Rattle.tm_meaning.specs.Inheritance.{names_left}
 use Rattle.tm_meaning.specs.World.{HostValue}
-use Rattle.tm_state.specs.declared.saved.SavedSuper.{SavedSuper}
+use Rattle.tm_records.specs.declared.saved.SavedSuper.{SavedSuper}
 use Rattle.tm_vm.proofs.Shift.{alone, after_text}
 
 pub kept_same : (w : World) → KeepsFixedAndNames w w

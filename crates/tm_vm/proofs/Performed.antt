@@ -25,9 +25,9 @@ use Rattle.tm_parts.specs.declared.halt.Halt.{Halt}
 use Rattle.tm_parts.specs.declared.halt.Halt.TheVariants as halt
 use Rattle.tm_meaning.specs.World.{CanPay, World, Good}
 use Rattle.tm_state.specs.State.{IsSaved, runs_block, saved_of}
-use Rattle.tm_state.specs.declared.saved.Saved.{Saved}
-use Rattle.tm_state.specs.declared.saved.Saved.TheVariants as saved
-use Rattle.tm_state.specs.declared.nested.RunOf.TheVariants as run_of
+use Rattle.tm_records.specs.declared.saved.Saved.{Saved}
+use Rattle.tm_records.specs.declared.saved.Saved.TheVariants as saved
+use Rattle.tm_records.specs.declared.nested.RunOf.TheVariants as run_of
 use Rattle.tm_vm.specs.Answers.{Depths, Did, Enters, entered, Performs, WritesNext, Silently, Opens, Shifts, Needs, Loads, Finishes}
 use Rattle.tm_vm.specs.Answers.{KeepsBaseScopes, Names, output}
 use Rattle.tm_runs.proofs.Paid.{chosen, pays_nothing, pays_one}
@@ -36,7 +36,7 @@ use Rattle.tm_vm.specs.AtOnce.{Attempted, IsAtOnce, IsCharged, IsFree, IsPaid, p
 use Rattle.tm_output.specs.declared.target.TargetFailed.{TargetFailed}
 use Rattle.tm_runs.specs.declared.attempt.Attempt.{Attempt}
 use Rattle.tm_runs.specs.declared.attempt.Attempt.TheVariants.{Done, DoneFree, Left, WriterFailed, NoMemory}
-use Rattle.tm_state.specs.declared.nested.NestedRun.{NestedRun}
+use Rattle.tm_records.specs.declared.nested.NestedRun.{NestedRun}
 use Rattle.tm_vm.specs.declared.flow.Flow.{Flow}
 use Rattle.tm_vm.specs.declared.flow.Flow.TheVariants as flow
 

@@ -8,7 +8,7 @@ use Rattle.tm_meaning.specs.World.{World, HostValue, Named, Scopes}
 use Rattle.tm_meaning.specs.Calls.{Asked, outermost}
 use Rattle.tm_meaning.specs.Machine.{Return, Activation, Capture, Config, End, Failed, Stuck, Next, More, Over, Restart, Nest, Program}
 use Rattle.tm_meaning.specs.Machine.{Back, back_to, first_run, nested, running, recursion, place_of_loop, asked, waiting, new_capture, restarted}
-use Rattle.tm_state.specs.declared.calls.Recursion.{Recursion}
+use Rattle.tm_records.specs.declared.results.Recursion.{Recursion}
 use Rattle.tm_meaning.specs.Instructions.{jump_if_true_or_pop_of, jump_if_false_or_pop_of}
 use Rattle.tm_meaning.specs.Steps.{Leads, final, step}
 use Rattle.tm_meaning.specs.declared.base.Base.{Base}
@@ -21,8 +21,8 @@ use Rattle.tm_state.specs.Answers.{KeepsFixed, KeepsFixedAndNames, OneDeeper, Na
 use Rattle.tm_state.specs.State.{IsSaved, callee_of, put_back}
 use Rattle.tm_meaning.specs.Inheritance.{names_left}
 use Rattle.tm_meaning.specs.declared.stream.TemplateId.{TemplateId}
-use Rattle.tm_state.specs.declared.calls.CallResult.{CallResult}
-use Rattle.tm_state.specs.declared.nested.NestedRun.{NestedRun}
+use Rattle.tm_records.specs.declared.results.CallResult.{CallResult}
+use Rattle.tm_records.specs.declared.nested.NestedRun.{NestedRun}
 use Rattle.tm_runs.specs.Runs.{finished_at}
 use Rattle.tm_vm.specs.declared.flow.Flow.{Flow}
 use Rattle.tm_vm.specs.declared.flow.Flow.TheVariants as flow

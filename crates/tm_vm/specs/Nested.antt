@@ -17,9 +17,9 @@ use Rattle.tm_parts.specs.declared.halt.Halt.{Halt}
 use Rattle.tm_parts.specs.declared.halt.Halt.TheVariants as halt
 use Rattle.tm_vm.specs.Answers.{ComesTo, HaltsAs}
 use Rattle.tm_state.specs.State.{callee_of, put_back}
-use Rattle.tm_state.specs.declared.saved.Saved.{Saved}
-use Rattle.tm_state.specs.declared.saved.Saved.TheVariants as saved
-use Rattle.tm_state.specs.declared.nested.NestedRun.{NestedRun}
+use Rattle.tm_records.specs.declared.saved.Saved.{Saved}
+use Rattle.tm_records.specs.declared.saved.Saved.TheVariants as saved
+use Rattle.tm_records.specs.declared.nested.NestedRun.{NestedRun}
 
 -- what the run stands on, and how it begins, where the configuration is c
 abbrev pub base_in : NestedRun → Config → Base

@@ -3,7 +3,7 @@ use Rattle.tm_syntax.specs.declared.token.Token.{Token}
 use Rattle.tm_trees.specs.Trees.{Tree}
 use Rattle.tm_trees.specs.Trees.tree_forms as trees
 use Rattle.tm_grammar.specs.Laws.{same_got}
-use Rattle.tm_parser.specs.Grammar.{expr, inside}
+use Rattle.tm_expressions.specs.Grammar.{expr, inside}
 use Rattle.tm_parser.specs.Template.{nestings, SpellsExpression}
 use Rattle.tm_parser.proofs.template.one_expr.Goals as goal
 

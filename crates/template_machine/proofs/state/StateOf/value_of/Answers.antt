@@ -1,5 +1,5 @@
 use Rattle.std.proofs.Common.{Ok, subst, sym, ◌≡◌, [], ◌∷◌, ap, refl}
-use Rattle.tm_state.specs.declared.nested.NestedRun.{NestedRun}
+use Rattle.tm_records.specs.declared.nested.NestedRun.{NestedRun}
 use Rattle.tm_state.specs.Answers.{Becomes, CallDeeper, CallLies, NeedsRun}
 use Rattle.tm_values.specs.Val.{Val}
 use Rattle.tm_values.specs.declared.error.ErrorKind.TheVariants.{InvalidOperation}

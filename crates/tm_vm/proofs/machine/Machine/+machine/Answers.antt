@@ -8,9 +8,9 @@ use Rattle.tm_vm.specs.Answers.{HaltsAs, program}
 use Rattle.tm_vm.specs.declared.flow.Flow.TheVariants as flow
 use Rattle.tm_vm.proofs.Loop.{at_base, fixed_same, fixed_then, stands_first, stands_next, stands_again, stands_after, stands_called, beginning_at, beginning_in}
 use Rattle.tm_parts.specs.declared.halt.Halt.TheVariants as halt
-use Rattle.tm_state.specs.declared.nested.NestedRun.{NestedRun}
+use Rattle.tm_records.specs.declared.nested.NestedRun.{NestedRun}
 use Rattle.tm_vm.specs.Nested.{EndsNested, IsWrapped, RanNested, Went, WroteBeginning, base_in, begins_in}
-use Rattle.tm_state.specs.declared.nested.RunOf.{RunOf}
+use Rattle.tm_records.specs.declared.nested.RunOf.{RunOf}
 use Rattle.tm_vm.proofs.Ground.{no_fewer_same, over_same}
 use Rattle.tm_vm.proofs.Loop.{as_value, began, ended_at, in_place, refused_ends, stands_deeper, was_back, wrapped_ends}
 use Rattle.tm_vm.proofs.Loop.{ended_in, done_at, whole_at, scopes_after, was_there, above_base}

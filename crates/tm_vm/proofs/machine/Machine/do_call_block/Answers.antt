@@ -3,9 +3,9 @@ use Rattle.tm_meaning.specs.Instructions.{call_block_of}
 use Rattle.tm_meaning.specs.Machine.{Config}
 use Rattle.tm_meaning.specs.declared.run_text.RunText.TheVariants as texts
 use Rattle.tm_vm.specs.Answers.{program}
-use Rattle.tm_state.specs.declared.nested.NestedRun.{NestedRun}
-use Rattle.tm_state.specs.declared.nested.RunOf.TheVariants as run_of
-use Rattle.tm_state.specs.declared.saved.Saved.TheVariants as saved
+use Rattle.tm_records.specs.declared.nested.NestedRun.{NestedRun}
+use Rattle.tm_records.specs.declared.nested.RunOf.TheVariants as run_of
+use Rattle.tm_records.specs.declared.saved.Saved.TheVariants as saved
 use Rattle.tm_vm.proofs.Performed.{boxed, block_entered}
 use Rattle.tm_vm.proofs.machine.Machine.do_call_block.Goals as goal
 

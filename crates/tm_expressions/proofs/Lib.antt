@@ -1,0 +1,4 @@
+pub mod Nesting
+pub mod Levels
+pub mod Loops
+pub mod Waiting

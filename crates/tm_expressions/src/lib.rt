@@ -1,0 +1,15 @@
+//! From tokens to the tree of an expression.
+#![tactic(auto)]
+
+mod applications;
+mod cursor;
+mod expressions;
+mod lists;
+mod operators;
+mod primaries;
+mod tables;
+
+pub use cursor::{Cursor, refusal};
+pub use expressions::chained;
+pub use lists::{add_one, boxed, with_one};
+pub use tables::{Link, POSTFIX_LEVEL};

@@ -1,0 +1,16 @@
+use Rattle.std.proofs.lemmas.Result.{err_from_is_err_and}
+use Rattle.tm_syntax.specs.declared.token.Sign.TheVariants as sign
+use Rattle.tm_expressions.specs.Grammar.{inside}
+use Rattle.tm_parser.specs.Statements.{assignment}
+use Rattle.tm_expressions.proofs.Loops.{comma_comes_nearer, comma_refuses}
+use Rattle.tm_parser.proofs.assignments.more_assignments.Goals as goal
+
+pub loop-alloc-smaller : goal.loop-alloc-smaller
+loop-alloc-smaller c = comma_comes_nearer sign.BlockEnd (assignment (inside c.args.depth)) _ _ _ _ _ c.loop-alloc-test.ensures
+    c.in_ok-assignments.ensures
+
+pub returns-in_err-assignments : goal.returns-in_err-assignments
+returns-in_err-assignments c =
+    let p = err_from_is_err_and c.from_residual.result c.from_residual.ensures.1 in
+    rw (p.1, p.2) (comma_refuses sign.BlockEnd (assignment (inside c.args.depth)) _ _ _ _ _ c.loop-alloc.invariant
+    c.loop-alloc-test.ensures c.in_err-assignments.ensures)

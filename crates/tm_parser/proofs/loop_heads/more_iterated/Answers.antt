@@ -1,0 +1,12 @@
+use Rattle.std.proofs.lemmas.Result.{err_from_is_err_and}
+use Rattle.tm_expressions.specs.Grammar.{inside}
+use Rattle.tm_parser.proofs.Loops.{iterated_comes_nearer, iterated_refuses}
+use Rattle.tm_parser.proofs.loop_heads.more_iterated.Goals as goal
+
+pub loop-alloc-smaller : goal.loop-alloc-smaller
+loop-alloc-smaller c = iterated_comes_nearer (inside c.args.depth) _ _ _ _ _ c.loop-alloc-test.ensures c.in_ok-items.ensures
+
+pub returns-in_err-items : goal.returns-in_err-items
+returns-in_err-items c =
+    let p = err_from_is_err_and c.from_residual.result c.from_residual.ensures.1 in
+    rw (p.1, p.2) (iterated_refuses (inside c.args.depth) _ _ _ _ _ c.loop-alloc.invariant c.loop-alloc-test.ensures c.in_err-items.ensures)

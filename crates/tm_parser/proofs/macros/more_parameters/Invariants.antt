@@ -1,0 +1,12 @@
+use Rattle.std.proofs.Common.{◌≡◌, length}
+use Rattle.tm_syntax.specs.declared.token.Sign.TheVariants as sign
+use Rattle.tm_expressions.specs.Grammar.{inside, more_items}
+use Rattle.tm_parser.specs.Statements.{parameter}
+use Rattle.tm_parser.proofs.macros.more_parameters.Given as goal
+
+abbrev pub invariant-loop-alloc : goal.invariant-loop-alloc
+invariant-loop-alloc l = (more_items sign.CloseRound (parameter (inside l.depth)) l.parameters).reads l.cursor ≡
+    (more_items sign.CloseRound (parameter (inside l.depth)) l.fn.first).reads l.fn.cursor
+
+abbrev pub decreases-loop-alloc : goal.decreases-loop-alloc
+decreases-loop-alloc l = length l.cursor

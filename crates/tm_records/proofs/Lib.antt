@@ -1,0 +1,5 @@
+mod Binding
+mod Declared
+mod Members
+mod NameSets
+mod Turns

@@ -1,0 +1,4 @@
+pub mod Macros
+pub mod Records
+pub mod Results
+pub mod Streams

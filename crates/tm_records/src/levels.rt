@@ -1,0 +1,17 @@
+//! How deep runs lie.
+ghost use Rattle.std.specs.Prelude.{◌≡◌};
+ghost use Rattle.tm_meaning.specs.Calls.{include_cost};
+
+/// How much deeper a template runs that is included.
+pub const INCLUDE_DEPTH: usize = 10;
+
+/// How many levels a template takes that is included: one more if it is `apart`, in a scope of its own.
+pub fn include_cost(apart: bool) -> usize
+    ensures { result ≡ include_cost apart }
+{
+    if apart {
+        INCLUDE_DEPTH + 1
+    } else {
+        INCLUDE_DEPTH
+    }
+}

@@ -1,0 +1,97 @@
+//! The records of namespaces and loops by their numbers, and values that are kept by name.
+ghost use Rattle.std.specs.Prelude.{◌≡◌, [], ◌∷◌, ◌++◌, None, false, slice_get, OnOk, OnErr, IfErr, IfOk};
+ghost use Rattle.tm_meaning.specs.Calls.{keeping_at};
+ghost use Rattle.tm_meaning.specs.Memory.{is_want_of_memory};
+ghost use Rattle.tm_meaning.specs.World.{turned_at, with_member};
+ghost use Rattle.tm_records.specs.Records.{IsChangedAt, loop_record};
+ghost use Rattle.tm_syntax.specs.Named.{put_each};
+
+use std::alloc::Global;
+use std::rc::Rc;
+use tm_meaning::StreamId;
+use tm_syntax::{Name, NameMap};
+use tm_tables::LoopState;
+use tm_values::{Error, ErrorKind, Value, ValueMap};
+
+/// Gives `value` to the attribute `name` of the namespace of the number `index`, if there is one. Fails by OutOfMemory
+/// alone, and then all stays as it was.
+#[tactic(auto, using(crate::proofs::Members::past, crate::proofs::Members::there))]
+pub fn set_in(
+    alloc: Global,
+    namespaces: &mut Vec<ValueMap>,
+    index: usize,
+    name: &Name,
+    value: Value,
+) -> Result<(), Error>
+    ensures ok { OnOk result
+        (namespaces.new.items ≡ with_member index name.now value namespaces.old.items) }
+    ensures kind { IfErr result (λ e. e ≡ ErrorKind.OutOfMemory ∷ []) }
+    ensures err { OnErr result (namespaces.new.items ≡ namespaces.old.items) }
+{
+    if index >= namespaces.len() {
+        return Ok(());
+    }
+    let key = Value::text(alloc, name.as_str())?;
+    namespaces[index].insert(key, value)
+}
+
+/// Adds the record of a loop over `items` after all others: its depth is `depth`, its number in `stream` is `number`, and
+/// `recursive` says if it can be called. Fails by OutOfMemory alone, and then they stay as they were.
+pub fn add_loop(
+    loops: &mut Vec<LoopState>,
+    stream: &StreamId,
+    items: Rc<Vec<Value>>,
+    depth: usize,
+    number: usize,
+    recursive: bool,
+) -> Result<(), Error>
+    ensures ok { OnOk result (loops.new.items ≡ loops.old.items
+        ++ loop_record items.value.items depth number recursive stream.now ∷ []) }
+    ensures kind { IfErr result (λ e. e ≡ ErrorKind.OutOfMemory ∷ []) }
+    ensures err { OnErr result (loops.new.items ≡ loops.old.items) }
+{
+    let stream = stream.share()?;
+    loops.push(LoopState::new(items, depth, number, recursive, stream))?;
+    Ok(())
+}
+
+/// Asks the loop of the number `number`, if there is one, for its next item.
+pub fn turn_at(loops: &mut Vec<LoopState>, number: usize)
+    ensures { loops.new.items ≡ turned_at number loops.old.items }
+{
+    if number < loops.len() {
+        loops[number].turn();
+    }
+}
+
+/// Whether `args` differ from the arguments that the loop of the number `number` keeps; they replace these then.
+/// InvalidOperation if there is no such loop, OutOfMemory if there is no memory, and then all stay as they were.
+pub fn changed_at(
+    loops: &mut Vec<LoopState>,
+    alloc: Global,
+    number: usize,
+    args: &[Value],
+) -> Result<bool, Error>
+    ensures ok { IfOk result (λ changed.
+        IsChangedAt changed args.now (slice_get loops.old.items number)) }
+    ensures now { OnOk result (loops.new.items ≡ keeping_at number args.now loops.old.items) }
+    ensures none { IfErr result (λ e. is_want_of_memory e ≡ false →
+        (e ≡ ErrorKind.InvalidOperation ∷ []) × (slice_get loops.old.items number ≡ None)) }
+    ensures err { OnErr result (loops.new.items ≡ loops.old.items) }
+{
+    if number >= loops.len() {
+        return Err(Error::from(ErrorKind::InvalidOperation));
+    }
+    loops[number].changed(alloc, args)
+}
+
+/// Keeps the values of `kept` by their names in `temps`, one after the other. Fails by OutOfMemory alone.
+pub fn keep_each(temps: &mut NameMap<Value>, kept: Vec<(Name, Value)>) -> Result<(), Error>
+    ensures ok { OnOk result (temps.new ≡ put_each kept.items temps.old) }
+    ensures kind { IfErr result (λ e. e ≡ ErrorKind.OutOfMemory ∷ []) }
+{
+    for (name, value) in kept {
+        temps.insert(name, value)?;
+    }
+    Ok(())
+}
