@@ -2,8 +2,9 @@
 ghost use Rattle.std.specs.Prelude.{◌≡◌};
 ghost use Rattle.tm_meaning.specs.Instructions.{build_macro_of, enclose_of, get_closure_of};
 ghost use Rattle.tm_meaning.specs.Instructions.{is_undefined_of};
+ghost use Rattle.tm_meaning.specs.Machine.{Program};
 ghost use Rattle.tm_runs.specs.Runs.{CanGoOn};
-ghost use Rattle.tm_vm.specs.Answers.{program, Silently};
+ghost use Rattle.tm_vm.specs.Answers.{Silently};
 
 use crate::flow::Flow;
 use crate::machine::Machine;
@@ -51,21 +52,18 @@ impl Machine {
     }
 
     /// Replaces a closure, and the names of arguments on top of it, by a macro whose code begins at a place.
-    pub(crate) fn do_build_macro<H: Host>(
+    pub(crate) fn do_build_macro(
         &mut self,
         alloc: Global,
-        host: &H,
         code: &Verified,
         name: &Name,
         place: usize,
         caller: bool,
     ) -> Result<Flow, Halt>
-        requires in_place { CanGoOn self.old.run }
-        requires its_code { code.now ≡ H.code host.now self.old.run.stream }
-        ensures { Silently (build_macro_of (program (H.meaning host.now) (H.code host.now))
-            name.now place caller self.old) self.old self.new result }
+        requires { CanGoOn self.old.run }
+        ensures { (p : Program) → code.now ≡ p.code self.old.run.stream →
+            Silently (build_macro_of p name.now place caller self.old) self.old self.new result }
     {
-        let _host = host;
         let names = self.run.popped()?;
         let closure = self.run.popped()?;
         let Some(closure) = closure_number(&closure)? else {

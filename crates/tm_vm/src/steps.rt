@@ -115,7 +115,7 @@ impl Machine {
             Instruction::Enclose(name) => self.do_enclose(alloc, host, name),
             Instruction::GetClosure => self.do_get_closure(),
             Instruction::BuildMacro(name, place, caller) => {
-                self.do_build_macro(alloc, host, code, name, *place, *caller)
+                self.do_build_macro(alloc, code, name, *place, *caller)
             }
             Instruction::Return => self.do_return(base),
             Instruction::UnpackList(count) => self.do_unpack_list(alloc, *count),

@@ -5,19 +5,18 @@ use Rattle.tm_vm.proofs.Emitted.{captured_at_once}
 use Rattle.tm_vm.proofs.machine.Machine.capture_at_once.Goals as goal
 
 pub returns-clause-done : goal.returns-clause-done
-returns-clause-done g c =
-    let host = g.H.Host.meaning c.args.host.now in
+returns-clause-done c = λ host base unformatted heard.
     let w = c.self.inside.state in
     let ks = c.emit_at_once.new.self in
     let put = c.in-Some-emit_at_once.ensures in
     let e = put.1 (records_of w) in
     let fine = rw c.escape.ensures at e.1 in
     let taken = rw c.escape.ensures at e.2 in
-    let heard = subst (λ (m : Config). audible c.args.base.now m ≡ true) (sym c.self.view_is) c.requires.heard in
+    let audible_here = subst (λ (m : Config). audible base m ≡ true) (sym c.self.view_is) heard in
     let moved = c.pay_and_advance.ensures ∙ ap (λ (r : Activation). record {
       run = record r { place = r.place + 1 };
       captures = ks;
       world = record w { fuel = w.fuel - 1 };
     }) c.drop_top.ensures in
-    rw (sym c.self.view_is, c.captured.ensures) (captured_at_once host c.args.base.now _ _ c.in-Some.value.now c.in-Some.ensures.0
-    c.in-Some-emit_at_once.answer put.0 heard c.in-Some.ensures.1 c.requires.unformatted (e.0 host.undefined) fine ks moved taken)
+    rw (sym c.self.view_is, c.captured.ensures) (captured_at_once host base _ _ c.in-Some.value.now c.in-Some.ensures.0
+    c.in-Some-emit_at_once.answer put.0 audible_here c.in-Some.ensures.1 unformatted (e.0 host.undefined) fine ks moved taken)

@@ -1,3 +1,4 @@
+use Rattle.tm_vm.specs.Answers.{program}
 use Rattle.tm_vm.proofs.Performed.{loads, needed, opened, silent, wrote}
 use Rattle.tm_vm.proofs.machine.Machine.perform.Goals as goal
 
@@ -17,7 +18,9 @@ pub returns-in-BuildList : goal.returns-in-BuildList
 returns-in-BuildList g c = rw c.in-BuildList.is (silent c.do_build_list.result c.do_build_list.ensures)
 
 pub returns-in-BuildMacro : goal.returns-in-BuildMacro
-returns-in-BuildMacro g c = rw c.in-BuildMacro.is (silent c.do_build_macro.result c.do_build_macro.ensures)
+returns-in-BuildMacro g c =
+    let p = program (g.H.Host.meaning c.args.host.now) (g.H.Host.code c.args.host.now) in
+    rw c.in-BuildMacro.is (silent c.do_build_macro.result (c.do_build_macro.ensures p c.requires.its_code))
 
 pub returns-in-BuildMap : goal.returns-in-BuildMap
 returns-in-BuildMap g c = rw c.in-BuildMap.is (silent c.do_build_map.result c.do_build_map.ensures)
