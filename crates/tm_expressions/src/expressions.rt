@@ -7,7 +7,7 @@ ghost use Rattle.tm_expressions.specs.Grammar.{named_step, operand, part, slice,
 ghost use Rattle.tm_expressions.specs.Levels.{conditioned, levels, operand_start, postfixed};
 ghost use Rattle.tm_expressions.specs.Tokens.{postfix_level};
 ghost use Rattle.tm_expressions.specs.Waiting.{role_of};
-ghost use Rattle.tm_trees.specs.Trees.expr_forms as exprs;
+ghost use Rattle.tm_syntax.specs.declared.tree.Expr.TheVariants as exprs;
 ghost use Rattle.tm_grammar.specs.Combinators.{one_more};
 ghost use Rattle.tm_values.specs.declared.error.ErrorKind.TheVariants.{OutOfMemory};
 

@@ -6,7 +6,7 @@ ghost use Rattle.tm_expressions.specs.Grammar.{keyword, list_literal, map_litera
 ghost use Rattle.tm_expressions.specs.Grammar.{named, of_self, one_passed, pair, passed, primary, spread_list, spread_map, tuple};
 ghost use Rattle.tm_grammar.specs.Combinators.{one_more};
 ghost use Rattle.tm_syntax.specs.declared.token.Sign.TheVariants as sign;
-ghost use Rattle.tm_trees.specs.Trees.expr_forms as exprs;
+ghost use Rattle.tm_syntax.specs.declared.tree.Expr.TheVariants as exprs;
 ghost use Rattle.tm_values.specs.declared.error.ErrorKind.TheVariants.{OutOfMemory};
 
 use crate::cursor::{Cursor, refusal};

@@ -7,7 +7,7 @@ ghost use Rattle.tm_values.specs.declared.error.ErrorKind.TheVariants.{EvalBlock
 ghost use Rattle.tm_values.specs.declared.error.ErrorKind.TheVariants.{BadStream, UndefinedError, UnknownBlock, UnknownFunction, UnknownMethod};
 ghost use Rattle.tm_trees.specs.Trees.{EmitBlock, EmitSuper};
 ghost use Rattle.tm_trees.specs.Instructions.modes.{Capture};
-ghost use Rattle.tm_trees.specs.Instructions.instructions as i;
+ghost use Rattle.tm_syntax.specs.declared.instruction.Instruction.TheVariants as i;
 ghost use Rattle.tm_rows.specs.BlockRows.{run_before, extending, capital, one_left};
 ghost use Rattle.tm_rows.specs.Rows.{Charges, Fails, FailsAfter, Says, Shows, StopsAt, fuel_for, said, literal, literal_number, raw, one, x};
 ghost use Rattle.tm_rows.specs.FilterRows.{with_limit};

@@ -12,7 +12,7 @@ ghost use Rattle.tm_values.specs.declared.error.ErrorKind.TheVariants.{UnknownFi
 ghost use Rattle.tm_rows.specs.Rows.{Charges, Fails, FailsAfter, Restores, Says, Shows, fuel_for, literal};
 ghost use Rattle.tm_rows.specs.Rows.{literal_number, said, x};
 ghost use Rattle.tm_rows.specs.FilterRows.{with_limit};
-ghost use Rattle.tm_trees.specs.Instructions.instructions as i;
+ghost use Rattle.tm_syntax.specs.declared.instruction.Instruction.TheVariants as i;
 ghost use Rattle.tm_rows.specs.BlockRows.{one_left, run_before, closures_before, own_before};
 ghost use Rattle.tm_rows.specs.BlockRows.{stores_j, imports_under_closure, negated_text};
 ghost use Rattle.tm_rows.specs.IncludeTrees.{includes_within, sets_apart, encloses_apart, sees_loop};

@@ -4,7 +4,7 @@ ghost use Rattle.std.specs.Fmt.{decimal};
 ghost use Rattle.tm_values.specs.Val.{undefined, keywords, no_pairs, pair};
 ghost use Rattle.tm_values.specs.declared.escape.AutoEscape.TheVariants as escapes;
 ghost use Rattle.tm_values.specs.declared.error.ErrorKind.TheVariants.{BadStream, InvalidOperation, TooManyArguments, UndefinedError};
-ghost use Rattle.tm_trees.specs.Instructions.instructions as i;
+ghost use Rattle.tm_syntax.specs.declared.instruction.Instruction.TheVariants as i;
 ghost use Rattle.tm_meaning.specs.Calls.{bound_to};
 ghost use Rattle.tm_rows.specs.Rows.{said};
 ghost use Rattle.tm_rows.specs.MacroRows.{CodeWrites, FailsWith, StaysAfter, run_under, m, x, whole_number, load, names, given};

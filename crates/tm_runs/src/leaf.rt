@@ -2,7 +2,7 @@
 ghost use Rattle.std.specs.Prelude.{◌≡◌, ◌≤◌, ◌<◌, ◌+◌, ◌-◌, ◌^◌, ◌++◌, [], ◌∷◌, IfSome, IsTrue, OnOk, Some, slice_get};
 ghost use Rattle.tm_values.specs.Answer.{IsLent, OkOrOutOfMemory, OrStays};
 ghost use Rattle.tm_values.specs.Val.{text};
-ghost use Rattle.tm_trees.specs.Instructions.instructions as instruction;
+ghost use Rattle.tm_syntax.specs.declared.instruction.Instruction.TheVariants as instruction;
 ghost use Rattle.tm_meaning.specs.World.{is_escaping, CanPay};
 ghost use Rattle.tm_parts.specs.Operate.{Doubles, Operates, TakesMember, TestsUndefined};
 ghost use Rattle.tm_runs.specs.Leaves.{CanAdvance, Changes, ChangesFree, Does, Drops, EmitsTop, JumpsIfFalse, LooksUp, RunsOn, RunsOut};

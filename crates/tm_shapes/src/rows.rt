@@ -2,7 +2,7 @@
 ghost use Rattle.std.specs.Prelude.{◌≡◌, [], ◌∷◌, None, codes, false, true};
 ghost use Rattle.tm_values.specs.Val.{boolean, text};
 ghost use Rattle.tm_trees.specs.Instructions.modes.{Capture, Discard};
-ghost use Rattle.tm_trees.specs.Instructions.instructions as i;
+ghost use Rattle.tm_syntax.specs.declared.instruction.Instruction.TheVariants as i;
 ghost use Rattle.tm_shapes.specs.Accepts.{accepts};
 ghost use Rattle.tm_shapes.specs.declared.kind.Form.TheVariants as forms;
 ghost use Rattle.tm_shapes.specs.StreamRows.{added, called_again, counted, filter, filtered_loop, into_the_middle, loop_over_one_or_none};
