@@ -23,6 +23,37 @@ use Rattle.tm_shapes.specs.Flows.{end_capture, pop_escape, is_closed, are, flow_
 use Rattle.tm_shapes.specs.Search.{Has}
 use Rattle.tm_shapes.specs.Accepts.{Readings, read_by}
 
+-- ---------------------------------------------------------------- values that are replaced by values
+-- How many values an instruction takes, and how many it leaves, if it does that alone: read off its flow, where it first finds enough.
+abbrev left_there : Flow → Option ℕ
+left_there (leads p s) = Some (length s.part.operands)
+left_there f = None
+
+abbrev lone : Site
+lone = record { place = 0; rest = []; entered = false; between = false; reading = readings.Value; returned = None; enters = false }
+
+abbrev left_over : Instruction → ℕ → Option ℕ
+left_over x n = left_there (flow_of lone x (entry_shape n))
+
+abbrev enough : Option ℕ → ℕ → ℕ → ℕ
+enough (Some m) n more = n
+enough None n more = more
+
+abbrev taken_from : ℕ → ℕ → Instruction → ℕ
+taken_from zero n x = n
+taken_from (suc k) n x = enough (left_over x n) n (taken_from k (suc n) x)
+
+-- no instruction takes more than four
+abbrev taken_by : Instruction → ℕ
+taken_by x = taken_from 4 0 x
+
+abbrev or_none : Option ℕ → ℕ
+or_none (Some m) = m
+or_none None = 0
+
+abbrev left_by : Instruction → ℕ
+left_by x = or_none (left_over x (taken_by x))
+
 -- whether the 0 of a place is marked
 abbrev pub mark_of : Option Bool → Bool
 mark_of (Some true) = true
@@ -798,4 +829,9 @@ module _ (code : List Instruction) (read : Readings) (sh : Shapes) (marks : List
       flow_three i.EndCapture at_it never there h = capture_three t.part.captures h
       flow_three i.PushAutoEscape at_it never there h = push_escape_three h
       flow_three i.PopAutoEscape at_it never there h = pop_escape_three t.part.escapes h
-      flow_three _ at_it never there h = replaces_three _ _ h
+      flow_three (i.BuildTuple c) at_it never there h = replaces_three c 1 h
+      flow_three (i.BuildMap c) at_it never there h = replaces_three (c + c) 1 h
+      flow_three (i.BuildKwargs c) at_it never there h = replaces_three (c + c) 1 h
+      flow_three (i.MergeKwargs c) at_it never there h = replaces_three c 1 h
+      flow_three (i.UnpackList c) at_it never there h = replaces_three 1 c h
+      flow_three x at_it never there h = replaces_three (taken_by x) (left_by x) h

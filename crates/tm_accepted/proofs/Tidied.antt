@@ -10,6 +10,7 @@ use Rattle.tm_trees.specs.Trees.{target, Assignment, Parameter, Imported, Captur
 use Rattle.tm_trees.specs.Trees.{For', Break, Continue, Block', Extends, Set, CaptureBlock', With', Do, AutoEscape', Macro', CallBlock', Row_of-Stmt}
 use Rattle.tm_trees.specs.Trees.{Include, Import, FromImport, no_statement, statement, Otherwise, no_else, otherwise}
 use Rattle.tm_trees.specs.Trees.unaries
+use Rattle.tm_trees.specs.Trees.binaries
 use Rattle.tm_trees.specs.Trees.applications
 use Rattle.tm_trees.specs.Trees.uses
 use Rattle.tm_trees.specs.Instructions.{Instruction}
@@ -56,6 +57,7 @@ module _ (macros : Bool) where
   unary_tidy unaries.Negate = one i.Neg refl
 
   binary_plain : (op : BinaryOperator) → all_plain (binary_code op) ≡ true
+  binary_plain binaries.NotIn = refl
   binary_plain _ = refl
 
   binary_tidy : (op : BinaryOperator) → TidyBy macros (straight (binary_code op))

@@ -95,11 +95,16 @@ unary_types unaries.Negate = one_step i.Neg 1 1 (λ at s. refl)
 add_step : Replaces 2 1 (straight (i.Add ∷ []))
 add_step e s ks pc = (Over 1 ks s, (as_value, tt, tt, λ r. refl), refl)
 
+-- the first instruction of code, or this one
+abbrev first_of : Instruction → List Instruction → Instruction
+first_of x [] = x
+first_of x (y ∷ ys) = y
+
 binary_types : (op : BinaryOperator) → Replaces 2 1 (straight (binary_code op))
 binary_types binaries.NotIn = λ e s ks pc.
     (Over 1 ks s, (as_value, tt, tt, λ r. refl), one_step i.Not 1 1 (λ at s. refl) e s ks (pc + 1))
 binary_types binaries.Add = add_step
-binary_types _ = one_step _ 2 1 (λ at s. refl)
+binary_types op = one_step (first_of i.Not (binary_code op)) 2 1 (λ at s. refl)
 
 -- a row of values becomes a list, and one of pairs a map, where there are any
 row_types : (n : ℕ) → Replaces n (rows_of n) (straight (list_of_row n))

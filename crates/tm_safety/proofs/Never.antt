@@ -496,7 +496,20 @@ module _ (p : Program) (shapes : StreamId → Shapes) (shaped : (s : StreamId) �
         answers (escape_for f.first v) (λ e w. goes vs (Rattle.tm_meaning.specs.World.with_escape e w) (replacing (w.escape ∷ c.run.escapes) c))
         (λ e. push_escape_fine p shapes shaped g c s st at here e ks vs m h))
     effect_fine i.PopAutoEscape code none h = pop_escape_fine p shapes shaped g c s st at here s.part.escapes st.holds.escapes h
-    effect_fine _ code none h = two_fine _ h
+    effect_fine i.Eq code none h = two_fine (result_of binaries.Equal p.host.undefined (records_of c.world)) h
+    effect_fine i.Ne code none h = two_fine (result_of binaries.NotEqual p.host.undefined (records_of c.world)) h
+    effect_fine i.Lt code none h = two_fine (result_of binaries.Less p.host.undefined (records_of c.world)) h
+    effect_fine i.Lte code none h = two_fine (result_of binaries.LessOrEqual p.host.undefined (records_of c.world)) h
+    effect_fine i.Gt code none h = two_fine (result_of binaries.Greater p.host.undefined (records_of c.world)) h
+    effect_fine i.Gte code none h = two_fine (result_of binaries.GreaterOrEqual p.host.undefined (records_of c.world)) h
+    effect_fine i.In code none h = two_fine (result_of binaries.In p.host.undefined (records_of c.world)) h
+    effect_fine i.Sub code none h = two_fine (result_of binaries.Subtract p.host.undefined (records_of c.world)) h
+    effect_fine i.StringConcat code none h = two_fine (result_of binaries.Concatenate p.host.undefined (records_of c.world)) h
+    effect_fine i.Mul code none h = two_fine (result_of binaries.Multiply p.host.undefined (records_of c.world)) h
+    effect_fine i.Div code none h = two_fine (result_of binaries.Divide p.host.undefined (records_of c.world)) h
+    effect_fine i.IntDiv code none h = two_fine (result_of binaries.FloorDivide p.host.undefined (records_of c.world)) h
+    effect_fine i.Rem code none h = two_fine (result_of binaries.Remainder p.host.undefined (records_of c.world)) h
+    effect_fine i.Pow code none h = two_fine (result_of binaries.Power p.host.undefined (records_of c.world)) h
 
     -- a filter or a test of a name
     pub apply_fine : (k : Application) (x : List ℕ) (n : Option ℕ) → Meets sh (replaces_counted at n s) → Good_next (apply_of p k x n c)
