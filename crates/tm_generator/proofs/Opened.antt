@@ -4,8 +4,7 @@ use Rattle.std.specs.Prelude.{true, false, codes}
 use denote.Hole.Carrier.{hidden}
 use Rattle.tm_values.specs.Val.{text}
 use Rattle.tm_trees.specs.Trees.{Argument, Expr, Var, Const, List', Tuple', Map', Call', SelfBlock, Row_of-Argument, no_argument, argument}
-use Rattle.tm_syntax.specs.declared.tree.Argument.TheBlock.{hidden-the_row-Expr-0 as hidden_expr, hidden-the_row-Step-5 as steps}
-use Rattle.tm_syntax.specs.declared.tree.Argument.TheBlock.{shape-the_row-Step-5 as steps_shape}
+use Rattle.tm_trees.specs.Trees.{hidden_expr, steps, steps_shape}
 use Rattle.tm_trees.specs.Trees.{Row_of-Keyword, no_keyword, keyword_and, Row_of-Step, no_step, step, Step, Attribute, Apply', Called, Keyword}
 use Rattle.tm_trees.specs.Trees.{arguments, keywords}
 use Rattle.tm_trees.specs.Trees.expr_forms as e

@@ -4,14 +4,8 @@ use Rattle.std.specs.Prelude.{get_or, Option, Some}
 use Rattle.std.proofs.lemmas.List.{reverse-reverse}
 use denote.Hole.Carrier.{hidden}
 use Rattle.tm_trees.specs.Trees.{UnaryOperator, BinaryOperator, Expr, Pair, Argument, Keyword, Condition, Comparison, Step}
-use Rattle.tm_syntax.specs.declared.tree.Argument.TheBlock.{hidden-the_row-Expr-0 as hidden_expr, hidden-the_row-Expr-1 as exprs}
-use Rattle.tm_syntax.specs.declared.tree.Argument.TheBlock.{hidden-the_row-Pair-2 as pairs, hidden-the_row-Step-5 as steps}
-use Rattle.tm_syntax.specs.declared.tree.Argument.TheBlock.{hidden-the_row-Condition-6 as conditions}
-use Rattle.tm_syntax.specs.declared.tree.Argument.TheBlock.{hidden-the_row-Comparison-7 as comparisons}
-use Rattle.tm_syntax.specs.declared.tree.Argument.TheBlock.{shape-the_row-Expr-1 as exprs_shape, shape-the_row-Pair-2 as pairs_shape}
-use Rattle.tm_syntax.specs.declared.tree.Argument.TheBlock.{shape-the_row-Step-5 as steps_shape}
-use Rattle.tm_syntax.specs.declared.tree.Argument.TheBlock.{shape-the_row-Condition-6 as conditions_shape}
-use Rattle.tm_syntax.specs.declared.tree.Argument.TheBlock.{shape-the_row-Comparison-7 as comparisons_shape}
+use Rattle.tm_trees.specs.Trees.{hidden_expr, exprs, pairs, steps, conditions, comparisons, exprs_shape, pairs_shape, steps_shape}
+use Rattle.tm_trees.specs.Trees.{conditions_shape, comparisons_shape}
 use Rattle.tm_trees.specs.Trees.{arguments, keywords}
 use Rattle.tm_trees.specs.Trees.{Application}
 use Rattle.tm_trees.specs.Trees.expr_forms as e

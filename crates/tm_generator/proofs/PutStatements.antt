@@ -3,8 +3,7 @@ use Rattle.std.proofs.Common.{◌≡◌, ℕ, Bool, List, [], ◌∷◌, ◌++�
 use Rattle.std.specs.Prelude.{Some, codes, false}
 use denote.Hole.Carrier.{hidden}
 use Rattle.tm_trees.specs.Trees.{Expr, ForLoop, Stmt, CallBlock, Parameter}
-use Rattle.tm_syntax.specs.declared.tree.Argument.TheBlock.{hidden-the_row-Expr-0 as hidden_expr}
-use Rattle.tm_syntax.specs.declared.tree.Stmt.TheBlock.{hidden-the_row-Stmt-0 as statements, shape-the_row-Stmt-0 as statements_shape}
+use Rattle.tm_trees.specs.Trees.{hidden_expr, statements, statements_shape}
 use Rattle.tm_trees.specs.Trees.statement_forms as st
 use Rattle.tm_syntax.specs.declared.opened.Opened.{Opened}
 use Rattle.tm_syntax.specs.Blocks.{FoundBlock, body_of, blocks_of, blocks_in, found_block}

@@ -2,8 +2,7 @@
 use Rattle.std.proofs.Common.{◌≡◌, ℕ, List, [], ◌∷◌, length, refl, sym, ap, ◌∙◌, arith}
 use denote.Hole.Carrier.{hidden}
 use Rattle.tm_trees.specs.Trees.{AssignmentTarget}
-use Rattle.tm_syntax.specs.declared.tree.AssignmentTarget.TheBlock.{hidden-the_row-AssignmentTarget-0 as targets}
-use Rattle.tm_syntax.specs.declared.tree.AssignmentTarget.TheBlock.{shape-the_row-AssignmentTarget-0 as targets_shape}
+use Rattle.tm_trees.specs.Trees.{targets, targets_shape}
 use Rattle.tm_trees.specs.Trees.target_forms as t
 use Rattle.tm_trees.specs.Instructions.instructions as i
 use Rattle.tm_syntax.specs.Code.{target_code, targets_code, count_targets}

@@ -4,10 +4,7 @@ use Rattle.std.specs.Prelude.{true, false, ◌||◌, Result, Ok, Err, OnOk, IfOk
 use denote.Hole.Carrier.{hidden}
 use Rattle.tm_values.specs.Val.{text}
 use Rattle.tm_trees.specs.Trees.{Expr, Argument, Keyword}
-use Rattle.tm_syntax.specs.declared.tree.Argument.TheBlock.{hidden-the_row-Expr-0 as hidden_expr, hidden-the_row-Argument-3 as arguments}
-use Rattle.tm_syntax.specs.declared.tree.Argument.TheBlock.{hidden-the_row-Keyword-4 as keywords}
-use Rattle.tm_syntax.specs.declared.tree.Argument.TheBlock.{shape-the_row-Argument-3 as arguments_shape}
-use Rattle.tm_syntax.specs.declared.tree.Argument.TheBlock.{shape-the_row-Keyword-4 as keywords_shape}
+use Rattle.tm_trees.specs.Trees.{hidden_expr, arguments, keywords, arguments_shape, keywords_shape}
 use Rattle.tm_trees.specs.Trees.argument_forms as a
 use Rattle.tm_trees.specs.Trees.keyword_forms as k
 use Rattle.tm_trees.specs.Instructions.instructions as i

@@ -3,20 +3,9 @@ use Rattle.std.proofs.Common.{◌≡◌, ℕ, ◌+◌, ◌<◌, List, [], ◌∷
 use Rattle.std.specs.Prelude.{get_or, Bool, true, false, cond, Option, Some, None}
 use denote.Hole.Carrier.{hidden}
 use Rattle.tm_trees.specs.Trees.{UnaryOperator, BinaryOperator, Expr, Pair, Argument, Keyword, Condition, Comparison, Step}
-use Rattle.tm_syntax.specs.declared.tree.Argument.TheBlock.{hidden-the_row-Expr-0 as hidden_expr, hidden-the_row-Expr-1 as exprs}
-use Rattle.tm_syntax.specs.declared.tree.Argument.TheBlock.{hidden-the_row-Pair-2 as pairs, hidden-the_row-Argument-3 as arguments}
-use Rattle.tm_syntax.specs.declared.tree.Argument.TheBlock.{hidden-the_row-Keyword-4 as keywords, hidden-the_row-Step-5 as steps}
-use Rattle.tm_syntax.specs.declared.tree.Argument.TheBlock.{hidden-the_row-Condition-6 as conditions}
-use Rattle.tm_syntax.specs.declared.tree.Argument.TheBlock.{hidden-the_row-Comparison-7 as comparisons}
-use Rattle.tm_syntax.specs.declared.tree.Argument.TheBlock.{shape-the_row-Expr-1 as exprs_shape, shape-the_row-Pair-2 as pairs_shape}
-use Rattle.tm_syntax.specs.declared.tree.Argument.TheBlock.{shape-the_row-Argument-3 as arguments_shape}
-use Rattle.tm_syntax.specs.declared.tree.Argument.TheBlock.{shape-the_row-Keyword-4 as keywords_shape}
-use Rattle.tm_syntax.specs.declared.tree.Argument.TheBlock.{shape-the_row-Step-5 as steps_shape}
-use Rattle.tm_syntax.specs.declared.tree.Argument.TheBlock.{shape-the_row-Condition-6 as conditions_shape}
-use Rattle.tm_syntax.specs.declared.tree.Argument.TheBlock.{shape-the_row-Comparison-7 as comparisons_shape}
-use Rattle.tm_syntax.specs.declared.tree.AssignmentTarget.TheBlock.{hidden-the_row-AssignmentTarget-0 as targets}
-use Rattle.tm_syntax.specs.declared.tree.AssignmentTarget.TheBlock.{shape-the_row-AssignmentTarget-0 as targets_shape}
-use Rattle.tm_syntax.specs.declared.tree.Stmt.TheBlock.{hidden-the_row-Stmt-0 as statements, shape-the_row-Stmt-0 as statements_shape}
+use Rattle.tm_trees.specs.Trees.{hidden_expr, exprs, pairs, arguments, keywords, steps, conditions, comparisons, exprs_shape, pairs_shape}
+use Rattle.tm_trees.specs.Trees.{arguments_shape, keywords_shape, steps_shape, conditions_shape, comparisons_shape, targets, targets_shape}
+use Rattle.tm_trees.specs.Trees.{statements, statements_shape}
 use Rattle.tm_trees.specs.Trees.{AssignmentTarget, Stmt}
 use Rattle.tm_trees.specs.Trees.expr_forms as e
 use Rattle.tm_trees.specs.Trees.argument_forms as a

@@ -5,13 +5,8 @@ use Rattle.std.proofs.Math.Dec.{eqb-suc-zero}
 use Rattle.std.specs.Prelude.{get_or, Option, Some, None, is_some, if◌then◌else◌, ◌&&◌, ◌==◌, nat_eq, codes}
 use Rattle.std.specs.Cmp.Lexicographic.{pointwise}
 use denote.Hole.Carrier.{hidden}
-use Rattle.tm_syntax.specs.declared.tree.Argument.TheBlock.{hidden-the_row-Expr-0 as hidden_expr}
-use Rattle.tm_syntax.specs.declared.tree.Argument.TheBlock.{hidden-the_row-Argument-3 as row_of_arguments}
-use Rattle.tm_syntax.specs.declared.tree.Argument.TheBlock.{hidden-the_row-Keyword-4 as row_of_keywords}
-use Rattle.tm_syntax.specs.declared.tree.Argument.TheBlock.{hidden-the_row-Step-5 as row_of_steps}
-use Rattle.tm_syntax.specs.declared.tree.Argument.TheBlock.{shape-the_row-Argument-3 as arguments_shape}
-use Rattle.tm_syntax.specs.declared.tree.Argument.TheBlock.{shape-the_row-Keyword-4 as keywords_shape}
-use Rattle.tm_syntax.specs.declared.tree.Argument.TheBlock.{shape-the_row-Step-5 as steps_shape}
+use Rattle.tm_trees.specs.Trees.{hidden_expr, arguments as row_of_arguments, keywords as row_of_keywords, steps as row_of_steps}
+use Rattle.tm_trees.specs.Trees.{arguments_shape, keywords_shape, steps_shape}
 use Rattle.tm_trees.specs.Trees.{Argument, Keyword, Step, Expr}
 use Rattle.tm_trees.specs.Trees.argument_forms as arguments
 use Rattle.tm_trees.specs.Trees.expr_forms as exprs

@@ -5,7 +5,7 @@ use Rattle.std.proofs.lemmas.List.{append-nil, drop_all, map-append}
 use Rattle.std.specs.Prelude.{get_or}
 use denote.Hole.Carrier.{hidden}
 use Rattle.tm_trees.specs.Trees.{Expr, Stmt, ForLoop, Macro, CallBlock}
-use Rattle.tm_syntax.specs.declared.tree.Stmt.TheBlock.{hidden-the_row-Stmt-0 as row, shape-the_row-Stmt-0 as statements_shape}
+use Rattle.tm_trees.specs.Trees.{statements as row, statements_shape}
 use Rattle.tm_trees.specs.Trees.statement_forms as stmts
 use Rattle.tm_syntax.specs.Blocks.{blocks_of, blocks_in}
 use Rattle.tm_syntax.specs.Named.{Named}

@@ -1,21 +1,21 @@
 -- Trees as definitions and proofs cite them: the types, their forms, and the rows that they hold.
 pub use Rattle.tm_syntax.specs.declared.tree.Application.{Application}
 pub use Rattle.tm_syntax.specs.declared.tree.Argument.{Argument}
-pub use Rattle.tm_syntax.specs.declared.tree.Argument.TheBlock.{hidden-the_row-Argument-3 as arguments, hidden-the_row-Comparison-7 as comparisons}
-pub use Rattle.tm_syntax.specs.declared.tree.Argument.TheBlock.{hidden-the_row-Condition-6 as conditions, hidden-the_row-Expr-0 as hidden_expr}
-pub use Rattle.tm_syntax.specs.declared.tree.Argument.TheBlock.{hidden-the_row-Expr-1 as exprs, hidden-the_row-Keyword-4 as keywords}
-pub use Rattle.tm_syntax.specs.declared.tree.Argument.TheBlock.{hidden-the_row-Pair-2 as pairs, hidden-the_row-Step-5 as steps}
-pub use Rattle.tm_syntax.specs.declared.tree.Argument.TheBlock.{shape-the_row-Argument-3 as arguments_shape}
-pub use Rattle.tm_syntax.specs.declared.tree.Argument.TheBlock.{shape-the_row-Comparison-7 as comparisons_shape}
-pub use Rattle.tm_syntax.specs.declared.tree.Argument.TheBlock.{shape-the_row-Condition-6 as conditions_shape, shape-the_row-Expr-1 as exprs_shape}
-pub use Rattle.tm_syntax.specs.declared.tree.Argument.TheBlock.{shape-the_row-Keyword-4 as keywords_shape, shape-the_row-Pair-2 as pairs_shape}
-pub use Rattle.tm_syntax.specs.declared.tree.Argument.TheBlock.{shape-the_row-Step-5 as steps_shape}
+unfoldable pub use Rattle.tm_syntax.specs.declared.tree.Argument.TheBlock.{hidden-the_row-Argument-3 as arguments, hidden-the_row-Comparison-7 as comparisons}
+unfoldable pub use Rattle.tm_syntax.specs.declared.tree.Argument.TheBlock.{hidden-the_row-Condition-6 as conditions, hidden-the_row-Expr-0 as hidden_expr}
+unfoldable pub use Rattle.tm_syntax.specs.declared.tree.Argument.TheBlock.{hidden-the_row-Expr-1 as exprs, hidden-the_row-Keyword-4 as keywords}
+unfoldable pub use Rattle.tm_syntax.specs.declared.tree.Argument.TheBlock.{hidden-the_row-Pair-2 as pairs, hidden-the_row-Step-5 as steps}
+unfoldable pub use Rattle.tm_syntax.specs.declared.tree.Argument.TheBlock.{shape-the_row-Argument-3 as arguments_shape}
+unfoldable pub use Rattle.tm_syntax.specs.declared.tree.Argument.TheBlock.{shape-the_row-Comparison-7 as comparisons_shape}
+unfoldable pub use Rattle.tm_syntax.specs.declared.tree.Argument.TheBlock.{shape-the_row-Condition-6 as conditions_shape, shape-the_row-Expr-1 as exprs_shape}
+unfoldable pub use Rattle.tm_syntax.specs.declared.tree.Argument.TheBlock.{shape-the_row-Keyword-4 as keywords_shape, shape-the_row-Pair-2 as pairs_shape}
+unfoldable pub use Rattle.tm_syntax.specs.declared.tree.Argument.TheBlock.{shape-the_row-Step-5 as steps_shape}
 pub use Rattle.tm_syntax.specs.declared.tree.Assignment.{Assignment}
 pub use Rattle.tm_syntax.specs.declared.tree.AssignmentTarget.{AssignmentTarget, Attribute as Member, Name as To, Row_of-AssignmentTarget}
 pub use Rattle.tm_syntax.specs.declared.tree.AssignmentTarget.{Unpack' as Items, end_of-AssignmentTarget as no_target}
 pub use Rattle.tm_syntax.specs.declared.tree.AssignmentTarget.{more_of-AssignmentTarget as target}
-pub use Rattle.tm_syntax.specs.declared.tree.AssignmentTarget.TheBlock.{hidden-the_row-AssignmentTarget-0 as targets}
-pub use Rattle.tm_syntax.specs.declared.tree.AssignmentTarget.TheBlock.{shape-the_row-AssignmentTarget-0 as targets_shape}
+unfoldable pub use Rattle.tm_syntax.specs.declared.tree.AssignmentTarget.TheBlock.{hidden-the_row-AssignmentTarget-0 as targets}
+unfoldable pub use Rattle.tm_syntax.specs.declared.tree.AssignmentTarget.TheBlock.{shape-the_row-AssignmentTarget-0 as targets_shape}
 pub use Rattle.tm_syntax.specs.declared.tree.BinaryOperator.{BinaryOperator}
 pub use Rattle.tm_syntax.specs.declared.tree.CallBlock.{CallBlock}
 pub use Rattle.tm_syntax.specs.declared.tree.CaptureUse.{CaptureUse}
@@ -37,7 +37,7 @@ pub use Rattle.tm_syntax.specs.declared.tree.Stmt.{AutoEscape', Block', Break, C
 pub use Rattle.tm_syntax.specs.declared.tree.Stmt.{EmitLoop, EmitRaw, EmitSuper, Extends, For', FromImport, Held-Stmt-If-2 as Otherwise, If', Import}
 pub use Rattle.tm_syntax.specs.declared.tree.Stmt.{Include, Macro', None' as no_else, Row_of-Stmt, Set, Some' as otherwise, Stmt, With'}
 pub use Rattle.tm_syntax.specs.declared.tree.Stmt.{end_of-Stmt as no_statement, more_of-Stmt as statement}
-pub use Rattle.tm_syntax.specs.declared.tree.Stmt.TheBlock.{hidden-the_row-Stmt-0 as statements, shape-the_row-Stmt-0 as statements_shape}
+unfoldable pub use Rattle.tm_syntax.specs.declared.tree.Stmt.TheBlock.{hidden-the_row-Stmt-0 as statements, shape-the_row-Stmt-0 as statements_shape}
 pub use Rattle.tm_syntax.specs.declared.tree.Tree.{Tree}
 pub use Rattle.tm_syntax.specs.declared.tree.UnaryOperator.{UnaryOperator}
 pub use Rattle.tm_syntax.specs.declared.tree.Application.TheVariants as applications
