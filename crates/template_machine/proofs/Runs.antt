@@ -12,7 +12,7 @@ use Rattle.tm_parts.specs.declared.halt.Halt.{Halt}
 use Rattle.tm_meaning.specs.Steps.{step}
 use Rattle.tm_meaning.specs.Meaning.{Outcome}
 use Rattle.tm_meaning.specs.Runs.{left_of}
-use Rattle.tm_vm.specs.Answers.{program, HaltsAs, ReachesEnd}
+use Rattle.tm_vm.specs.Answers.{HaltsAs, ReachesEnd}
 use Rattle.tm_vm.specs.Nested.{WroteBeginning}
 use Rattle.tm_meaning.specs.declared.stream.TemplateId.TheVariants.{Own}
 use Rattle.tm_meaning.specs.Calls.{whole}
@@ -21,14 +21,14 @@ use Rattle.tm_safety.proofs.Ends.{run_ends_well}
 use Rattle.tm_templates.proofs.Streams.{of_source}
 use Rattle.template_machine.specs.Environment.{AreOfTrees, IsMadeIn, IsOfTrees, EnvironmentValue, TemplateValue, host_of, trees, code}
 use Rattle.template_machine.proofs.Meant.{trees_code}
-use Rattle.template_machine.specs.Renders.{answer_of, is_cut, meaning, meaning_from, IsFresh, Ran, RenderedText, RenderedSource, source_rendered, IsUnnumbered}
+use Rattle.template_machine.specs.Renders.{answer_of, is_cut, meaning, meaning_from, program_of, IsFresh, Ran, RenderedText, RenderedSource, source_rendered, IsUnnumbered}
 use Rattle.template_machine.proofs.Answered.{run_answers, run_done, run_halted, run_leaves}
 
 module _ {O : Type 0} (stated : O → StatedObjects) (t : TemplateValue O) (captures new : List Capture) (w left : World)
     (told now : Option (List ℕ)) (failures count : ℕ) (config : Config)
     (begins : config ≡ running (run_from w.stream (length captures)) captures w) (fresh : IsFresh captures) where
   abbrev p : Program
-  p = program (host_of stated t) (code t)
+  p = program_of stated t
 
   abbrev m : Outcome
   m = meaning_from stated t w

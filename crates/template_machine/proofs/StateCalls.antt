@@ -27,12 +27,12 @@ use Rattle.tm_records.specs.declared.saved.SavedMacro.{SavedMacro}
 use Rattle.tm_records.specs.declared.saved.SavedSuper.{SavedSuper}
 use Rattle.tm_records.specs.declared.nested.NestedRun.{NestedRun}
 use Rattle.tm_objects.specs.Stated.{StatedObjects}
-use Rattle.tm_vm.specs.Answers.{ComesTo, HaltsAs, NoFewer, ReachesEnd, program}
+use Rattle.tm_vm.specs.Answers.{ComesTo, HaltsAs, NoFewer, ReachesEnd}
 use Rattle.tm_vm.proofs.Loop.{left_below, undone_is}
 use Rattle.tm_safety.proofs.Ends.{run_ends_well}
 use Rattle.template_machine.specs.Environment.{IsOfTrees, TemplateValue, code, host_of, trees}
 use Rattle.template_machine.proofs.Meant.{trees_code}
-use Rattle.template_machine.specs.Renders.{answer_by, answer_of, called_value, callee_run, is_cut, IsMacroCall, IsCapturedRun, RanApart}
+use Rattle.template_machine.specs.Renders.{answer_by, answer_of, called_value, callee_run, is_cut, program_of, IsMacroCall, IsCapturedRun, RanApart}
 
 -- the captures of a run whose text is a value, and those after it
 abbrev one : List Capture
@@ -82,7 +82,7 @@ not_stuck (fault why) t out left x same = let ends : Stuck left ≡ Failed why x
 module _ {O : Type 0} (stated : O → StatedObjects) (t : TemplateValue O) (of : IsOfTrees t) (k : Callee) (w left : World)
     (told now : Option (List ℕ)) where
   abbrev p : Program
-  p = program (host_of stated t) (code t)
+  p = program_of stated t
 
   abbrev o : Outcome
   o = callee_run stated t k w
@@ -110,7 +110,7 @@ module _ {O : Type 0} (stated : O → StatedObjects) (t : TemplateValue O) (of :
 module _ {O : Type 0} (stated : O → StatedObjects) (t r : TemplateValue O) (same : r ≡ t) (k : Callee) (w left : World)
     (captures : List Capture) (fresh : captures ≡ one) (told now : Option (List ℕ)) where
   abbrev of : TemplateValue O → Program
-  of v = program (host_of stated v) (code v)
+  of v = program_of stated v
 
   abbrev Comes : TemplateValue O → Config → End → Type 0
   Comes v c e = ReachesEnd (of v) (base_of true c.captures c.world) c told now e
@@ -169,10 +169,10 @@ module _ {O : Type 0} (stated : O → StatedObjects) (t r : TemplateValue O) (sa
 
 -- one that there isn't
 pub over_none : {O : Type 0} (stated : O → StatedObjects) (t r : TemplateValue O) (same : r ≡ t) (k : Callee) (w put : World)
-    (captures : List Capture) → IsOfTrees t → captures ≡ one → first_run (program (host_of stated r) (code r)) k (length captures) ≡ None →
+    (captures : List Capture) → IsOfTrees t → captures ≡ one → first_run (program_of stated r) k (length captures) ≡ None →
     w ≡ put → RanApart (Err (halt.Fault (InvalidOperation ∷ []))) (callee_run stated t k w) put
 over_none stated t r same k w put captures by_trees fresh none there =
-    let p = program (host_of stated r) (code r) in
+    let p = program_of stated r in
     let base = base_of true captures w in
     let refused : begins p base k captures w ≡ Over (Failed (InvalidOperation ∷ []) w) = ap (λ x. begun p base x captures w) none in
     subst (λ x. RanApart (Err (halt.Fault (InvalidOperation ∷ []))) (callee_run stated t k w) x) there

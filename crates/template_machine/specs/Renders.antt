@@ -34,7 +34,6 @@ use Rattle.tm_shapes.specs.Shaped.{IsShaped}
 use Rattle.tm_shapes.specs.Shapes.{Shapes}
 use Rattle.tm_safety.specs.Fits.{AllEnter, ids_of}
 use Rattle.tm_safety.specs.Runs.{stream_of}
-use Rattle.tm_vm.specs.Answers.{program}
 use Rattle.tm_vm.specs.Nested.{WroteBeginning}
 use Rattle.template_machine.specs.Environment.{AreOfTrees, EnvironmentValue, TemplateValue, IsTemplateOf, code, host_of, trees}
 
@@ -275,7 +274,7 @@ KeepsLists _ before w = SameLists before w
 -- ---------------------------------------------------------------- streams
 -- what a template runs, under what its environment gives
 abbrev pub program_of : {O : Type 0} → (O → StatedObjects) → TemplateValue O → Program
-program_of stated t = program (host_of stated t) (code t)
+program_of stated t = record { host = host_of stated t; code = code t }
 
 -- Where shapes fit all streams, each loop of which a world has a record is entered in the shape of its place. A world without records is so.
 abbrev pub SoundRecords : {O : Type 0} → TemplateValue O → World → Type 0

@@ -19,7 +19,7 @@ use tm_parts::{Captures, Halt, NullWriter, Sink};
 use tm_shapes::Verified;
 use tm_state::StateData;
 use tm_syntax::{Name, NameMap};
-use tm_tables::{CallableAnswer, Called, Host, NO_PLACE, Parties, TemplateEntry, View};
+use tm_tables::{Host, NO_PLACE, Parties, TemplateEntry};
 use tm_templates::CompiledTemplate;
 use tm_values::{AutoEscape, Error, ErrorKind, UndefinedBehavior, Value};
 use tm_vm::Machine;
@@ -258,11 +258,16 @@ impl<O: Parties> Rendering<'_, O> {
 }
 
 impl<O: Parties> Host for Rendering<'_, O> {
-    ghost use Rattle.template_machine.specs.Environment.{host_of, code};
+    ghost use Rattle.template_machine.specs.Renders.{program_of};
 
-    ghost meaning = { host_of O.stated };
+    type Objects = O;
 
-    ghost code = { code };
+    ghost program = { program_of O.stated };
+
+    #[inline(always)]
+    fn objects(&self) -> &O {
+        self.environment.objects()
+    }
 
     fn globals(&self) -> &NameMap<Value> {
         self.environment.global_values()
@@ -288,14 +293,6 @@ impl<O: Parties> Host for Rendering<'_, O> {
         self.template(&stream.template).is_required(&stream.block)
     }
 
-    fn joined_name(&self, alloc: Global, name: &str, running: &str) -> Result<Name, Error> {
-        self.environment.objects().join(alloc, name, running)
-    }
-
-    fn joins_names(&self) -> bool {
-        self.environment.objects().joins_names()
-    }
-
     #[inline(always)]
     fn entry(&self, name: &str, place: usize) -> Option<TemplateEntry<'_>> {
         match self.environment.find_entry(place, name) {
@@ -312,78 +309,5 @@ impl<O: Parties> Host for Rendering<'_, O> {
     fn instructions(&self, stream: &StreamId, place: usize) -> &Verified {
         self.template_at(&stream.template, place)
             .stream(&stream.block)
-    }
-
-    fn call_function(
-        &self,
-        alloc: Global,
-        number: usize,
-        args: &[Value],
-        view: &View<'_>,
-    ) -> Option<Called> {
-        self.environment
-            .objects()
-            .call_function(alloc, number, args, view)
-    }
-
-    fn filter_place(&self, name: &str) -> usize {
-        self.environment.objects().filter_place(name)
-    }
-
-    fn apply_filter(
-        &self,
-        alloc: Global,
-        name: &str,
-        place: usize,
-        args: &[Value],
-        view: &View<'_>,
-    ) -> Option<CallableAnswer> {
-        self.environment
-            .objects()
-            .apply_filter(alloc, name, place, args, view)
-    }
-
-    fn test_place(&self, name: &str) -> usize {
-        self.environment.objects().test_place(name)
-    }
-
-    fn perform_test(
-        &self,
-        alloc: Global,
-        name: &str,
-        place: usize,
-        args: &[Value],
-        view: &View<'_>,
-    ) -> Option<CallableAnswer> {
-        self.environment
-            .objects()
-            .perform_test(alloc, name, place, args, view)
-    }
-
-    fn call_unknown_method(
-        &self,
-        alloc: Global,
-        value: &Value,
-        name: &str,
-        args: &[Value],
-        view: &View<'_>,
-    ) -> Option<CallableAnswer> {
-        self.environment
-            .objects()
-            .call_unknown_method(alloc, value, name, args, view)
-    }
-
-    #[inline(always)]
-    fn has_formatter(&self) -> bool {
-        self.environment.objects().has_formatter()
-    }
-
-    fn format(
-        &self,
-        alloc: Global,
-        value: &Value,
-        view: &View<'_>,
-    ) -> Option<Result<String, Error>> {
-        self.environment.objects().format(alloc, value, view)
     }
 }

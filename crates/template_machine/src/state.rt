@@ -157,7 +157,7 @@ impl<'env, O: Parties> StateOf<'env, O> {
             (named_template O.stated self.now.template name.now self.now.world) }
     {
         let alloc = self.rendering.allocator();
-        let joined = self.rendering.joined_name(alloc, name, self.name())?;
+        let joined = self.rendering.objects().join(alloc, name, self.name())?;
         self.rendering.environment().get_template(joined.as_str())
     }
 

@@ -1,130 +1,68 @@
-//! What the machine asks of the environment and the objects of the caller.
-ghost use Rattle.std.specs.Prelude.{◌≡◌, List, Ok, Some, None, MatchOption, IsSomeAnd, false, is_some, slice_get};
-ghost use Rattle.tm_trees.specs.Instructions.{Instruction};
-ghost use Rattle.tm_meaning.specs.World.{HostValue as Meaning, template_at, card_at};
-ghost use Rattle.tm_meaning.specs.declared.stream.StreamId.{StreamId as Stream};
-ghost use Rattle.tm_meaning.specs.Calls.{is_required, method_object};
+//! What the machine asks of a render's environment.
+ghost use Rattle.std.specs.Prelude.{◌≡◌};
+ghost use Rattle.tm_meaning.specs.Machine.{Program};
+ghost use Rattle.tm_meaning.specs.World.{template_at, card_at};
+ghost use Rattle.tm_meaning.specs.Calls.{is_required};
 ghost use Rattle.tm_syntax.specs.Named.{find};
-ghost use Rattle.tm_values.specs.Answer.{IsAnswer};
 ghost use Rattle.tm_blocks.specs.Lists.{IsEntry};
-ghost use Rattle.tm_objects.specs.Stated.{IsCalled, IsFormatterAnswer, IsNamedAnswer};
 
-use crate::callable::{CallableAnswer, Called};
-use crate::view::View;
-use std::alloc::Global;
+use crate::objects::Parties;
 use tm_blocks::TemplateEntry;
 use tm_meaning::{StreamId, TemplateId};
 use tm_shapes::Verified;
-use tm_syntax::{Name, NameMap};
-use tm_values::{AutoEscape, Error, UndefinedBehavior, Value};
+use tm_syntax::NameMap;
+use tm_values::{AutoEscape, UndefinedBehavior, Value};
 
-/// What a render runs under: the environment, the rendered template and all objects of the caller, as one.
-/// Its meaning is the host record of the definitions.
+/// What a render runs under: the environment, the template that is rendered, and the caller's objects.
 pub trait Host {
-    ghost meaning: { Self → Meaning };
+    /// The caller's objects.
+    type Objects: Parties;
 
-    ghost code: { Self → Stream → List Instruction };
+    /// The host of the definitions, and the instructions of each stream.
+    ghost program: { Self → Program };
+
+    /// The caller's objects, which are those of the definitions.
+    fn objects(&self) -> &Self::Objects
+        ensures functions { (program self.now).host.functions
+            ≡ (Self.Objects.stated result.now).functions }
+        ensures filters { (program self.now).host.filters
+            ≡ (Self.Objects.stated result.now).filters }
+        ensures tests { (program self.now).host.tests ≡ (Self.Objects.stated result.now).tests }
+        ensures methods { (program self.now).host.unknown_method
+            ≡ (Self.Objects.stated result.now).unknown_method }
+        ensures formatter { (program self.now).host.formatter
+            ≡ (Self.Objects.stated result.now).formatter }
+        ensures join { (program self.now).host.join ≡ (Self.Objects.stated result.now).join };
 
     /// The globals.
     fn globals(&self) -> &NameMap<Value>
-        ensures { result.now ≡ (meaning self.now).globals };
+        ensures { result.now ≡ (program self.now).host.globals };
 
-    /// How deep scopes may lie.
+    /// How many scopes may be nested.
     fn recursion_limit(&self) -> usize
-        ensures { result ≡ (meaning self.now).limit };
+        ensures { result ≡ (program self.now).host.limit };
 
     /// How undefined values behave.
     fn undefined_behavior(&self) -> UndefinedBehavior
-        ensures { result ≡ (meaning self.now).undefined };
+        ensures { result ≡ (program self.now).host.undefined };
 
-    /// The name of a template, wherever it stands.
+    /// The name of `template`. `place` is a hint where it is found.
     fn template_name(&self, template: &TemplateId, place: usize) -> &str
-        ensures { result.now ≡ (template_at (meaning self.now) template.now).name };
+        ensures { result.now ≡ (template_at (program self.now).host template.now).name };
 
-    /// How what a template emits is escaped.
+    /// How `template` escapes what it emits.
     fn template_escape(&self, template: &TemplateId) -> AutoEscape
-        ensures { result ≡ (template_at (meaning self.now) template.now).escape };
+        ensures { result ≡ (template_at (program self.now).host template.now).escape };
 
-    /// Whether a stream is a required block.
+    /// Whether `stream` is a required block.
     fn is_required(&self, stream: &StreamId) -> bool
-        ensures { result ≡ is_required (card_at (meaning self.now) stream.now) };
+        ensures { result ≡ is_required (card_at (program self.now).host stream.now) };
 
-    /// The name of the template that another name means where a template of this name runs. The fault of what joins
-    /// them; OutOfMemory.
-    fn joined_name(&self, alloc: Global, name: &str, running: &str) -> Result<Name, Error>
-        ensures { IsAnswer result ((meaning self.now).join name.now running.now) };
-
-    /// Whether something joins the names of templates. Where nothing does, each means the template of that name.
-    fn joins_names(&self) -> bool
-        ensures { result ≡ false → (name : _) → (running : _) →
-            (meaning self.now).join name running ≡ Ok name };
-
-    /// The template of a name, where there is one, wherever it stands.
+    /// The template named `name`, if there is one. `place` is a hint where it is found.
     fn entry(&self, name: &str, place: usize) -> Option<TemplateEntry<'_>>
-        ensures { IsEntry result name.now (find name.now (meaning self.now).templates) };
+        ensures { IsEntry result name.now (find name.now (program self.now).host.templates) };
 
-    /// The instructions of a stream, wherever its template stands.
+    /// The instructions of `stream`. `place` is a hint where its template is found.
     fn instructions(&self, stream: &StreamId, place: usize) -> &Verified
-        ensures { result.now ≡ code self.now stream.now };
-
-    /// What the function of a number answers, or which one of the language it is; none where there is no such function.
-    fn call_function(
-        &self,
-        alloc: Global,
-        number: usize,
-        args: &[Value],
-        view: &View<'_>,
-    ) -> Option<Called>
-        ensures { MatchOption (slice_get (meaning self.now).functions number) (result ≡ None)
-            (λ f. IsSomeAnd result (λ called. IsCalled called f args.now view.now)) };
-
-    /// Where the filter of a name stands, as a hint for `apply_filter`; NO_PLACE where there is none of that name.
-    fn filter_place(&self, name: &str) -> usize;
-
-    /// What the filter of a name answers, wherever it stands; none where there is none of that name.
-    fn apply_filter(
-        &self,
-        alloc: Global,
-        name: &str,
-        place: usize,
-        args: &[Value],
-        view: &View<'_>,
-    ) -> Option<CallableAnswer>
-        ensures { IsNamedAnswer result (find name.now (meaning self.now).filters)
-            args.now view.now };
-
-    /// Where the test of a name stands, as a hint for `perform_test`; NO_PLACE where there is none of that name.
-    fn test_place(&self, name: &str) -> usize;
-
-    /// What the test of a name answers, wherever it stands; none where there is none of that name.
-    fn perform_test(
-        &self,
-        alloc: Global,
-        name: &str,
-        place: usize,
-        args: &[Value],
-        view: &View<'_>,
-    ) -> Option<CallableAnswer>
-        ensures { IsNamedAnswer result (find name.now (meaning self.now).tests)
-            args.now view.now };
-
-    /// What the method object answers of a value's method of a name; none where there is no such object.
-    fn call_unknown_method(
-        &self,
-        alloc: Global,
-        value: &Value,
-        name: &str,
-        args: &[Value],
-        view: &View<'_>,
-    ) -> Option<CallableAnswer>
-        ensures { IsNamedAnswer result
-            (method_object (meaning self.now).unknown_method value.now name.now) args.now view.now };
-
-    /// Whether there is a formatter.
-    fn has_formatter(&self) -> bool
-        ensures { result ≡ is_some (meaning self.now).formatter };
-
-    /// What the formatter answers for a value; none where there is no formatter.
-    fn format(&self, alloc: Global, value: &Value, view: &View<'_>) -> Option<Result<String, Error>>
-        ensures { IsFormatterAnswer result (meaning self.now).formatter value.now view.now };
+        ensures { result.now ≡ (program self.now).code stream.now };
 }

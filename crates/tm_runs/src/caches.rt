@@ -6,7 +6,7 @@ ghost use Rattle.tm_runs.specs.Runs.{IsUsed};
 
 use std::alloc::Global;
 use std::marker::Model;
-use tm_objects::Host;
+use tm_objects::{Host, Parties};
 use tm_parts::Halt;
 use tm_scopes::NO_PLACE;
 use tm_syntax::{Application, CACHES, NO_CACHE, Name};
@@ -16,8 +16,8 @@ use tm_values::{Error, ErrorKind};
 #[inline(never)]
 fn place_of<H: Host>(host: &H, application: Application, name: &str) -> usize {
     match application {
-        Application::Filter => host.filter_place(name),
-        Application::Test | Application::NegatedTest => host.test_place(name),
+        Application::Filter => host.objects().filter_place(name),
+        Application::Test | Application::NegatedTest => host.objects().test_place(name),
         Application::Method => NO_PLACE,
     }
 }

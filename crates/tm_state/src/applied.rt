@@ -9,7 +9,7 @@ use crate::state::StateData;
 use std::alloc::Global;
 use tm_records::CallResult;
 use tm_syntax::Application;
-use tm_tables::{CallableAnswer, Host};
+use tm_tables::{CallableAnswer, Host, Parties};
 use tm_values::{Error, ErrorKind, Value};
 
 impl StateData {
@@ -27,8 +27,8 @@ impl StateData {
         args: &[Value],
     ) -> Result<CallResult, Error>
         ensures called { Becomes result
-            (applied (H.meaning host.now) application name.now args.now self.old) self.new }
-        ensures leaves { LeavesState (H.meaning host.now).limit result self.old self.new }
+            (applied (H.program host.now).host application name.now args.now self.old) self.new }
+        ensures leaves { LeavesState (H.program host.now).host.limit result self.old self.new }
     {
         match application {
             Application::Method => self.call_first(alloc, host, name, args),
@@ -48,8 +48,8 @@ impl StateData {
         args: &[Value],
     ) -> Result<CallResult, Error>
         ensures called { Becomes result
-            (call_first (H.meaning host.now) name.now args.now self.old) self.new }
-        ensures leaves { LeavesState (H.meaning host.now).limit result self.old self.new }
+            (call_first (H.program host.now).host name.now args.now self.old) self.new }
+        ensures leaves { LeavesState (H.program host.now).host.limit result self.old self.new }
     {
         match args.split_first() {
             Some((receiver, others)) => self.call_method(alloc, host, receiver, name, others),
@@ -71,8 +71,8 @@ impl StateData {
         args: &[Value],
     ) -> Result<CallResult, Error>
         ensures called { Becomes result
-            (apply_filter (H.meaning host.now) name.now args.now self.old) self.new }
-        ensures leaves { LeavesState (H.meaning host.now).limit result self.old self.new }
+            (apply_filter (H.program host.now).host name.now args.now self.old) self.new }
+        ensures leaves { LeavesState (H.program host.now).host.limit result self.old self.new }
     {
         let answer = self.filter_answer(alloc, host, name, place, args)?;
         self.follow(alloc, host, answer, false)
@@ -91,8 +91,8 @@ impl StateData {
         args: &[Value],
     ) -> Result<CallResult, Error>
         ensures called { Becomes result
-            (perform_test (H.meaning host.now) name.now args.now self.old) self.new }
-        ensures leaves { LeavesState (H.meaning host.now).limit result self.old self.new }
+            (perform_test (H.program host.now).host name.now args.now self.old) self.new }
+        ensures leaves { LeavesState (H.program host.now).host.limit result self.old self.new }
     {
         let answer = self.test_answer(alloc, host, name, place, args)?;
         self.follow(alloc, host, answer, true)
@@ -109,11 +109,11 @@ impl StateData {
         place: usize,
         args: &[Value],
     ) -> Result<CallableAnswer, Error>
-        ensures { FoundAnswers result (H.meaning host.now)
-            (find name.now (H.meaning host.now).filters) UnknownFilter args.now self.now }
+        ensures { FoundAnswers result (H.program host.now).host
+            (find name.now (H.program host.now).host.filters) UnknownFilter args.now self.now }
     {
         let view = self.view(host);
-        match host.apply_filter(alloc, name, place, args, &view) {
+        match host.objects().apply_filter(alloc, name, place, args, &view) {
             Some(answer) => Ok(answer),
             None => Err(Error::from(ErrorKind::UnknownFilter)),
         }
@@ -129,11 +129,11 @@ impl StateData {
         place: usize,
         args: &[Value],
     ) -> Result<CallableAnswer, Error>
-        ensures { FoundAnswers result (H.meaning host.now)
-            (find name.now (H.meaning host.now).tests) UnknownTest args.now self.now }
+        ensures { FoundAnswers result (H.program host.now).host
+            (find name.now (H.program host.now).host.tests) UnknownTest args.now self.now }
     {
         let view = self.view(host);
-        match host.perform_test(alloc, name, place, args, &view) {
+        match host.objects().perform_test(alloc, name, place, args, &view) {
             Some(answer) => Ok(answer),
             None => Err(Error::from(ErrorKind::UnknownTest)),
         }

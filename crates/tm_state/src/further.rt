@@ -17,13 +17,13 @@ use tm_meaning::{Call, Reply, StreamId};
 use tm_printing::to_text;
 use tm_records::{CallResult, Further, NestedRun, RunOf, Saved, SavedBlock, is_macro, text_for};
 use tm_syntax::Name;
-use tm_tables::{CallableAnswer, Called, Host, NO_PLACE};
+use tm_tables::{CallableAnswer, Called, Host, NO_PLACE, Parties};
 use tm_values::{Error, ErrorKind, MacroValue, Node, Value};
 
 impl StateData {
     /// How many depths more lie within the limit.
     pub(crate) fn depths_left<H: Host>(&self, host: &H) -> usize
-        ensures { result ≡ depths_left (H.meaning host.now) self.now }
+        ensures { result ≡ depths_left (H.program host.now).host self.now }
     {
         host.recursion_limit().saturating_sub(self.context.depth())
     }
@@ -38,9 +38,9 @@ impl StateData {
         test: bool,
     ) -> Result<CallResult, Error>
         ensures called { Becomes result (tested test
-            (replied (by_depths (H.meaning host.now) self.old) answer.reply
+            (replied (by_depths (H.program host.now).host self.old) answer.reply
             (record self.old { temps = put_each answer.temps self.old.temps }))) self.new }
-        ensures leaves { LeavesState (H.meaning host.now).limit result self.old self.new }
+        ensures leaves { LeavesState (H.program host.now).host.limit result self.old self.new }
     {
         let left = self.depths_left(host);
         let mut made = 0;
@@ -100,10 +100,10 @@ impl StateData {
         levels: usize,
         test: bool,
     ) -> Result<Further, Error>
-        requires { depth self.old.scopes + levels ≤ (H.meaning host.now).limit }
+        requires { depth self.old.scopes + levels ≤ (H.program host.now).host.limit }
         ensures comes { (make : _) → FurtherComes make test call result
-            (further_call make levels (H.meaning host.now) call self.old) self.new }
-        ensures lies { FurtherLies (H.meaning host.now).limit result self.old self.new }
+            (further_call make levels (H.program host.now).host call self.old) self.new }
+        ensures lies { FurtherLies (H.program host.now).host.limit result self.old self.new }
     {
         match call {
             Call::Filter(name, args) => {
@@ -134,9 +134,9 @@ impl StateData {
         test: bool,
     ) -> Result<Further, Error>
         ensures comes { (make : _) → PrintedComes make test result
-            (as_printed (named_call make levels (H.meaning host.now)
+            (as_printed (named_call make levels (H.program host.now).host
             name.now args.now self.old)) self.new }
-        ensures lies { FurtherLies (H.meaning host.now).limit result self.old self.new }
+        ensures lies { FurtherLies (H.program host.now).host.limit result self.old self.new }
     {
         match self.lookup(host, name)? {
             Some(found) => self.further_value(alloc, host, &found, args, levels, test),
@@ -156,9 +156,9 @@ impl StateData {
         test: bool,
     ) -> Result<Further, Error>
         ensures comes { (make : _) → PrintedComes make test result
-            (as_printed (value_call make levels (H.meaning host.now)
+            (as_printed (value_call make levels (H.program host.now).host
             value.now args.now self.old)) self.new }
-        ensures lies { FurtherLies (H.meaning host.now).limit result self.old self.new }
+        ensures lies { FurtherLies (H.program host.now).host.limit result self.old self.new }
     {
         match &value.node {
             Node::Function(number) => self.further_function(alloc, host, *number, args, test),
@@ -179,9 +179,9 @@ impl StateData {
         test: bool,
     ) -> Result<Further, Error>
         ensures comes { (make : _) → PrintedComes make test result
-            (as_printed (value_call make 0 (H.meaning host.now)
+            (as_printed (value_call make 0 (H.program host.now).host
             (function number) args.now self.old)) self.new }
-        ensures lies { FurtherLies (H.meaning host.now).limit result self.old self.new }
+        ensures lies { FurtherLies (H.program host.now).host.limit result self.old self.new }
     {
         // Whether a test asked is no matter here.
         let _test = test;
@@ -202,9 +202,9 @@ impl StateData {
         test: bool,
     ) -> Result<Further, Error>
         ensures comes { (make : _) → PrintedComes make test result
-            (as_printed (value_call make levels (H.meaning host.now)
+            (as_printed (value_call make levels (H.program host.now).host
             (macro declared.now) args.now self.old)) self.new }
-        ensures lies { FurtherLies (H.meaning host.now).limit result self.old self.new }
+        ensures lies { FurtherLies (H.program host.now).host.limit result self.old self.new }
     {
         match self.macro_run(alloc, host, declared, args, levels, text_for(test)) {
             Ok(run) => Ok(Further::Run(run)),
@@ -222,11 +222,11 @@ impl StateData {
         args: &[Value],
     ) -> Result<CallableAnswer, Error>
         ensures answers { (make : _) → Answers make result (value_call make 0
-            (H.meaning host.now) (function number) args.now self.old) self.new }
+            (H.program host.now).host (function number) args.now self.old) self.new }
         ensures rest { self.new ≡ record self.old { namespaces = self.new.namespaces } }
     {
         let view = self.view(host);
-        match host.call_function(alloc, number, args, &view) {
+        match host.objects().call_function(alloc, number, args, &view) {
             Some(Called::Answered(answer)) => Ok(answer),
             Some(Called::Language(function)) => {
                 let value = self.call_language(alloc, function, args)?;
@@ -246,13 +246,13 @@ impl StateData {
         levels: usize,
         test: bool,
     ) -> Result<Box<NestedRun>, Error>
-        requires { depth self.old.scopes + levels ≤ (H.meaning host.now).limit }
+        requires { depth self.old.scopes + levels ≤ (H.program host.now).host.limit }
         ensures ok { IfOk result (λ run. NeedsPlain test run.value (from_deeper self.old
-            (enter_block (H.meaning host.now) name.now (deeper levels self.old))) self.new) }
+            (enter_block (H.program host.now).host name.now (deeper levels self.old))) self.new) }
         ensures deeper { IfOk result (λ run.
-            CallDeeper (H.meaning host.now).limit run.value.saved self.old self.new) }
+            CallDeeper (H.program host.now).host.limit run.value.saved self.old self.new) }
         ensures err { IfErr result (λ e. is_want_of_memory e ≡ false → from_deeper self.old
-            (enter_block (H.meaning host.now) name.now (deeper levels self.old))
+            (enter_block (H.program host.now).host name.now (deeper levels self.old))
             ≡ refused e self.old) }
         ensures unchanged { OnErr result (self.new ≡ self.old) }
         ensures kept { KeepsFixedAndNames self.old self.new }
@@ -279,15 +279,15 @@ impl StateData {
         name: &Name,
         levels: usize,
     ) -> Result<(StreamId, SavedBlock), Error>
-        requires { depth self.old.scopes + levels ≤ (H.meaning host.now).limit }
+        requires { depth self.old.scopes + levels ≤ (H.program host.now).host.limit }
         ensures ok { IfOk result (λ r. (r.1 ≡ saved_of self.old) × (from_deeper self.old
-            (enter_block (H.meaning host.now) name.now (deeper levels self.old)) ≡
+            (enter_block (H.program host.now).host name.now (deeper levels self.old)) ≡
             runs (record (block_call r.0 self.old) { text = texts.Plain }) self.new)) }
         ensures more { OnOk result (HasOneMore self.old self.new) }
-        ensures deeper { OnOk result (depth self.new.scopes ≤ (H.meaning host.now).limit) }
+        ensures deeper { OnOk result (depth self.new.scopes ≤ (H.program host.now).host.limit) }
         ensures places { self.new.places ≡ self.old.places }
         ensures err { IfErr result (λ e. is_want_of_memory e ≡ false → from_deeper self.old
-            (enter_block (H.meaning host.now) name.now (deeper levels self.old))
+            (enter_block (H.program host.now).host name.now (deeper levels self.old))
             ≡ refused e self.old) }
         ensures unchanged { OnErr result (self.new ≡ self.old) }
         ensures kept { KeepsFixedAndNames self.old self.new }

@@ -20,7 +20,7 @@ use tm_records::{
     INCLUDE_DEPTH, NestedRun, RunOf, Saved, SavedBlock, SavedInclude, include_cost, shared_name,
 };
 use tm_syntax::Name;
-use tm_tables::{Host, Lists, TemplateEntry};
+use tm_tables::{Host, Lists, Parties, TemplateEntry};
 use tm_values::{Error, ErrorKind, SharedText, Value};
 
 impl StateData {
@@ -39,12 +39,12 @@ impl StateData {
         heard: bool,
     ) -> Result<Option<Box<NestedRun>>, Error>
         ensures ok { IfOk result (λ found. NeedsInclude heard found
-            (enter_include (H.meaning host.now) apart value.now missing self.old)
+            (enter_include (H.program host.now).host apart value.now missing self.old)
             self.old self.new) }
         ensures lies { IfOk result (λ found.
-            IncludeLies (H.meaning host.now).limit found self.old self.new) }
+            IncludeLies (H.program host.now).host.limit found self.old self.new) }
         ensures err { IfErr result (λ e. is_want_of_memory e ≡ false →
-            enter_include (H.meaning host.now) apart value.now missing self.old
+            enter_include (H.program host.now).host apart value.now missing self.old
             ≡ refused e self.old) }
         ensures unchanged { OnErr result (self.new ≡ self.old) }
         ensures kept { KeepsFixedAndNames self.old self.new }
@@ -70,9 +70,9 @@ impl StateData {
         value: &Value,
     ) -> Result<(Option<TemplateEntry<'a>>, bool), Error>
         ensures ok { IfOk result (λ r.
-            IsChosen r.0 r.1 (H.meaning host.now) value.now self.now) }
+            IsChosen r.0 r.1 (H.program host.now).host value.now self.now) }
         ensures err { IfErr result (λ e. is_want_of_memory e ≡ false → (apart missing : _) →
-            enter_include (H.meaning host.now) apart value.now missing self.now
+            enter_include (H.program host.now).host apart value.now missing self.now
             ≡ refused e self.now) }
     {
         if let Some(name) = value.as_str() {
@@ -92,9 +92,9 @@ impl StateData {
         choices: &[Value],
     ) -> Result<Option<TemplateEntry<'a>>, Error>
         ensures ok { IfOk result (λ found.
-            IsFirstEntry found (H.meaning host.now) choices.now self.now) }
+            IsFirstEntry found (H.program host.now).host choices.now self.now) }
         ensures err { IfErr result (λ e. is_want_of_memory e ≡ false →
-            first_found (H.meaning host.now) choices.now self.now ≡ Bad e self.now) }
+            first_found (H.program host.now).host choices.now self.now ≡ Bad e self.now) }
     {
         for choice in choices {
             let Some(text) = choice.as_str() else {
@@ -117,14 +117,14 @@ impl StateData {
         name: &str,
     ) -> Result<Option<TemplateEntry<'a>>, Error>
         ensures ok { IfOk result (λ found.
-            IsNamed found (H.meaning host.now) name.now self.now) }
+            IsNamed found (H.program host.now).host name.now self.now) }
         ensures err { IfErr result (λ e. is_want_of_memory e ≡ false →
-            joined (H.meaning host.now) name.now self.now ≡ Bad e self.now) }
+            joined (H.program host.now).host name.now self.now ≡ Bad e self.now) }
     {
-        if !host.joins_names() {
+        if !host.objects().joins_names() {
             return Ok(host.entry(name, self.template_place));
         }
-        let joined = host.joined_name(
+        let joined = host.objects().join(
             alloc,
             name,
             host.template_name(&self.stream.template, self.template_place),
@@ -142,15 +142,15 @@ impl StateData {
         apart: bool,
         heard: bool,
     ) -> Result<Box<NestedRun>, Error>
-        requires { IsEntryThere entry (H.meaning host.now) }
+        requires { IsEntryThere entry (H.program host.now).host }
         ensures ok { IfOk result (λ run. (missing : _) → NeedsSuper heard false run.value
-            (include_found (H.meaning host.now) apart missing
+            (include_found (H.program host.now).host apart missing
             (Some (TemplateId.Entry entry.entry.name.now)) self.old)
             self.old self.new) }
         ensures deeper { IfOk result (λ run.
-            OneDeeper (H.meaning host.now).limit run.value.saved self.old self.new) }
+            OneDeeper (H.program host.now).host.limit run.value.saved self.old self.new) }
         ensures err { IfErr result (λ e. is_want_of_memory e ≡ false → (missing : _) →
-            include_found (H.meaning host.now) apart missing
+            include_found (H.program host.now).host apart missing
             (Some (TemplateId.Entry entry.entry.name.now)) self.old
             ≡ refused e self.old) }
         ensures unchanged { OnErr result (self.new ≡ self.old) }
@@ -181,7 +181,7 @@ impl StateData {
     /// OutOfMemory, and then the state stays as it was.
     #[inline(always)]
     fn open_template<H: Host>(&mut self, alloc: Global, host: &H, apart: bool) -> Result<(), Error>
-        requires fits { depth self.old.scopes + 1 ≤ (H.meaning host.now).limit }
+        requires fits { depth self.old.scopes + 1 ≤ (H.program host.now).host.limit }
         ensures ok { OnOk result (self.new ≡ record self.old {
           scopes = record self.old.scopes {
             frames = include_frames apart self.old.scopes.frames;
@@ -210,7 +210,7 @@ impl StateData {
         scopes: usize,
         closure: Option<usize>,
     ) -> SavedInclude
-        requires fits { depth self.old.scopes + include_depth ≤ (H.meaning host.now).limit }
+        requires fits { depth self.old.scopes + include_depth ≤ (H.program host.now).host.limit }
         requires same { block ≡ self.old.block }
         ensures saved { result ≡ record {
           replaced = record (saved_of self.old) { scopes = scopes };

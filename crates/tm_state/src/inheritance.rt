@@ -12,7 +12,7 @@ use std::alloc::Global;
 use tm_meaning::{RunText, StreamId, TemplateId, Wrapping};
 use tm_records::{CallResult, NestedRun, RunOf, Saved, SavedBlock, shared_name};
 use tm_syntax::Name;
-use tm_tables::{Host, NO_PLACE};
+use tm_tables::{Host, NO_PLACE, Parties};
 use tm_values::{Error, ErrorKind, Value};
 
 impl StateData {
@@ -24,8 +24,8 @@ impl StateData {
         args: &[Value],
     ) -> Result<CallResult, Error>
         ensures called { NamedBecomes result
-            (call_super (H.meaning host.now) args.now self.old) self.new }
-        ensures leaves { LeavesState (H.meaning host.now).limit result self.old self.new }
+            (call_super (H.program host.now).host args.now self.old) self.new }
+        ensures leaves { LeavesState (H.program host.now).host.limit result self.old self.new }
     {
         if !args.is_empty() {
             return Err(Error::from(ErrorKind::InvalidOperation));
@@ -45,12 +45,12 @@ impl StateData {
         value: bool,
     ) -> Result<Box<NestedRun>, Error>
         ensures ok { IfOk result (λ run. NeedsSuper heard value run.value
-            (enter_super (H.meaning host.now) self.old) self.old self.new) }
+            (enter_super (H.program host.now).host self.old) self.old self.new) }
         ensures deeper { IfOk result (λ run.
-            OneDeeper (H.meaning host.now).limit run.value.saved self.old self.new) }
+            OneDeeper (H.program host.now).host.limit run.value.saved self.old self.new) }
         ensures call { IfOk result (λ run. IsCall run.value.saved) }
         ensures err { IfErr result (λ e. is_want_of_memory e ≡ false →
-            enter_super (H.meaning host.now) self.old ≡ refused e self.old) }
+            enter_super (H.program host.now).host self.old ≡ refused e self.old) }
         ensures unchanged { OnErr result (self.new ≡ self.old) }
         ensures kept { KeepsFixedAndNames self.old self.new }
         ensures blocks { self.new.blocks ≡ self.old.blocks }
@@ -126,16 +126,16 @@ impl StateData {
         waiting: &Option<TemplateId>,
         inside: bool,
     ) -> Result<TemplateId, Error>
-        ensures ok { IfOk result (λ t. load (H.meaning host.now) value.now waiting.now inside self.old
+        ensures ok { IfOk result (λ t. load (H.program host.now).host value.now waiting.now inside self.old
             ≡ Good t self.new) }
         ensures err { IfErr result (λ e. is_want_of_memory e ≡ false →
-            load (H.meaning host.now) value.now waiting.now inside self.old ≡ Bad e self.new) }
+            load (H.program host.now).host value.now waiting.now inside self.old ≡ Bad e self.new) }
         ensures rest { self.new ≡ record self.old {
           blocks = self.new.blocks;
           loaded = self.new.loaded;
         } }
         ensures fewer { OnOk result
-            (names_left (H.meaning host.now) self.new + 1 ≤ names_left (H.meaning host.now) self.old) }
+            (names_left (H.program host.now).host self.new + 1 ≤ names_left (H.program host.now).host self.old) }
         ensures names { OnErr result (self.new.loaded ≡ self.old.loaded) }
     {
         let name = self.parent_name(alloc, host, value, waiting, inside)?;
@@ -153,10 +153,10 @@ impl StateData {
         inside: bool,
     ) -> Result<Name, Error>
         ensures ok { IfOk result (λ name.
-            load (H.meaning host.now) value.now waiting.now inside self.now
-            ≡ load_named (H.meaning host.now) name self.now) }
+            load (H.program host.now).host value.now waiting.now inside self.now
+            ≡ load_named (H.program host.now).host name self.now) }
         ensures err { IfErr result (λ e. is_want_of_memory e ≡ false →
-            load (H.meaning host.now) value.now waiting.now inside self.now ≡ Bad e self.now) }
+            load (H.program host.now).host value.now waiting.now inside self.now ≡ Bad e self.now) }
     {
         let Some(name) = value.as_str() else {
             return Err(Error::from(ErrorKind::InvalidOperation));
@@ -164,7 +164,7 @@ impl StateData {
         if waiting.is_some() || inside {
             return Err(Error::from(ErrorKind::InvalidOperation));
         }
-        host.joined_name(
+        host.objects().join(
             alloc,
             name,
             host.template_name(&self.stream.template, self.template_place),
@@ -180,15 +180,15 @@ impl StateData {
         name: Name,
     ) -> Result<TemplateId, Error>
         ensures ok { IfOk result (λ t.
-            load_named (H.meaning host.now) name self.old ≡ Good t self.new) }
+            load_named (H.program host.now).host name self.old ≡ Good t self.new) }
         ensures err { IfErr result (λ e. is_want_of_memory e ≡ false →
-            load_named (H.meaning host.now) name self.old ≡ Bad e self.new) }
+            load_named (H.program host.now).host name self.old ≡ Bad e self.new) }
         ensures rest { self.new ≡ record self.old {
           blocks = self.new.blocks;
           loaded = self.new.loaded;
         } }
         ensures fewer { OnOk result
-            (names_left (H.meaning host.now) self.new + 1 ≤ names_left (H.meaning host.now) self.old) }
+            (names_left (H.program host.now).host self.new + 1 ≤ names_left (H.program host.now).host self.old) }
         ensures names { OnErr result (self.new.loaded ≡ self.old.loaded) }
     {
         if self.lists.is_loaded(name.as_str()) {

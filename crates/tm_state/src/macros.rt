@@ -34,9 +34,9 @@ impl StateData {
     /// OutOfMemory. Then the state stays as it was.
     pub fn enclose<H: Host>(&mut self, alloc: Global, host: &H, name: &Name) -> Result<(), Error>
         ensures ok { OnOk result
-            (enclose (H.meaning host.now) name.now self.old ≡ Good tt self.new) }
+            (enclose (H.program host.now).host name.now self.old ≡ Good tt self.new) }
         ensures err { IfErr result (λ e. is_want_of_memory e ≡ false →
-            enclose (H.meaning host.now) name.now self.old ≡ Bad e self.old) }
+            enclose (H.program host.now).host name.now self.old ≡ Bad e self.old) }
         ensures unchanged { OnErr result (self.new ≡ self.old) }
         ensures rest { self.new ≡ record self.old {
           scopes = self.new.scopes;
@@ -123,11 +123,11 @@ impl StateData {
         text: RunText,
     ) -> Result<Box<NestedRun>, Error>
         ensures ok { IfOk result (λ run. NeedsMacro text run.value (enter_macro levels
-            (H.meaning host.now) declared.now args.now self.old) self.old self.new) }
+            (H.program host.now).host declared.now args.now self.old) self.old self.new) }
         ensures deeper { IfOk result (λ run.
-            CallDeeper (H.meaning host.now).limit run.value.saved self.old self.new) }
+            CallDeeper (H.program host.now).host.limit run.value.saved self.old self.new) }
         ensures err { IfErr result (λ e. is_want_of_memory e ≡ false → enter_macro levels
-            (H.meaning host.now) declared.now args.now self.old ≡ refused e self.old) }
+            (H.program host.now).host declared.now args.now self.old ≡ refused e self.old) }
         ensures unchanged { OnErr result (self.new ≡ self.old) }
         ensures kept { KeepsFixedAndNames self.old self.new }
         ensures blocks { self.new.blocks ≡ self.old.blocks }
@@ -162,11 +162,11 @@ impl StateData {
         entry: &mut NestedRun,
     ) -> Result<(), Error>
         ensures ok { OnOk result (NeedsMacro text entry.new (enter_macro levels
-            (H.meaning host.now) declared.now args.now self.old) self.old self.new) }
+            (H.program host.now).host declared.now args.now self.old) self.old self.new) }
         ensures deeper { OnOk result
-            (CallDeeper (H.meaning host.now).limit entry.new.saved self.old self.new) }
+            (CallDeeper (H.program host.now).host.limit entry.new.saved self.old self.new) }
         ensures err { IfErr result (λ e. is_want_of_memory e ≡ false → enter_macro levels
-            (H.meaning host.now) declared.now args.now self.old ≡ refused e self.old) }
+            (H.program host.now).host declared.now args.now self.old ≡ refused e self.old) }
         ensures unchanged { OnErr result (self.new ≡ self.old) }
         ensures rest { self.new ≡ record self.old {
           scopes = self.new.scopes;
@@ -239,7 +239,7 @@ impl StateData {
         room: Vec<Value>,
     ) -> Option<(&StreamId, Vec<Value>)>
         requires { room.items ≡ [] }
-        ensures { IfSome result (λ r. enter_macro 0 (H.meaning host.now) declared.now args.now self.now
+        ensures { IfSome result (λ r. enter_macro 0 (H.program host.now).host declared.now args.now self.now
             ≡ runs_macro r.0.now declared.now r.1.items self.now
             (in_macro r.0.now declared.now self.now)) }
     {

@@ -22,7 +22,7 @@ use tm_values::{Error, ErrorKind, Value};
 impl StateData {
     /// Lets the scopes stand so many levels deeper, within the limit, and gives the depth at which the outermost one stood.
     pub(crate) fn go_deeper<H: Host>(&mut self, host: &H, levels: usize) -> usize
-        requires { depth self.old.scopes + levels ≤ (H.meaning host.now).limit }
+        requires { depth self.old.scopes + levels ≤ (H.program host.now).host.limit }
         ensures outer { result ≡ self.old.scopes.outer }
         ensures deeper { self.new ≡ deeper levels self.old }
     {
@@ -51,14 +51,14 @@ impl StateData {
         name: &Name,
     ) -> Result<(StreamId, SavedBlock), Error>
         ensures ok { IfOk result (λ r. (r.1 ≡ saved_of self.old)
-            × (enter_block (H.meaning host.now) name.now self.old ≡
+            × (enter_block (H.program host.now).host name.now self.old ≡
             runs_block r.0 self.old self.new)) }
         ensures more { OnOk result (HasOneMore self.old self.new) }
         ensures deeper { OnOk result ((self.new.scopes.outer ≡ self.old.scopes.outer)
-            × (depth self.new.scopes ≤ (H.meaning host.now).limit)) }
+            × (depth self.new.scopes ≤ (H.program host.now).host.limit)) }
         ensures places { self.new.places ≡ self.old.places }
         ensures err { IfErr result (λ e. is_want_of_memory e ≡ false →
-            enter_block (H.meaning host.now) name.now self.old ≡ refused e self.old) }
+            enter_block (H.program host.now).host name.now self.old ≡ refused e self.old) }
         ensures unchanged { OnErr result (self.new ≡ self.old) }
         ensures kept { KeepsFixedAndNames self.old self.new }
         ensures blocks { self.new.blocks ≡ self.old.blocks }
@@ -83,8 +83,8 @@ impl StateData {
         name: &Name,
     ) -> Result<CallResult, Error>
         ensures called { Becomes result
-            (enter_block (H.meaning host.now) name.now self.old) self.new }
-        ensures leaves { LeavesState (H.meaning host.now).limit result self.old self.new }
+            (enter_block (H.program host.now).host name.now self.old) self.new }
+        ensures leaves { LeavesState (H.program host.now).host.limit result self.old self.new }
     {
         let (stream, saved) = self.enter_block(alloc, host, name)?;
         let run = NestedRun {

@@ -153,7 +153,7 @@ impl StateData {
 
     /// What an object of the caller sees of the state.
     pub fn view<'a, H: Host>(&'a self, host: &'a H) -> View<'a>
-        ensures { result ≡ view_of (H.meaning host.now) self.now }
+        ensures { result ≡ view_of (H.program host.now).host self.now }
     {
         View::new(
             self.id,
@@ -172,7 +172,7 @@ impl StateData {
     /// The value of a name: of the scopes, an inner one's first, else of the globals. InvalidOperation where
     /// a context value on the way can't be known.
     pub fn lookup<H: Host>(&self, host: &H, name: &Name) -> Result<Option<Value>, Error>
-        ensures { IsAnswer result (find_name (view_of (H.meaning host.now) self.now) name.now) }
+        ensures { IsAnswer result (find_name (view_of (H.program host.now).host self.now) name.now) }
     {
         match self.context.find(name, &self.closures, self)? {
             Some(found) => Ok(Some(found.value(self.id)?)),
@@ -193,7 +193,7 @@ impl StateData {
         ensures order { IfOk result
             (λ names. IsStrictlySortedBy name_cmp (texts_of names.items)) }
         ensures found { IfOk result (λ names. AreFound
-            (find_name (view_of (H.meaning host.now) self.now)) (texts_of names.items)) }
+            (find_name (view_of (H.program host.now).host self.now)) (texts_of names.items)) }
         ensures err { IfErr result (NamingFails (records_of self.now) self.now.scopes.frames) }
     {
         self.context
@@ -287,8 +287,8 @@ impl StateData {
     /// Whether a value can be emitted where there is no formatter: UndefinedError where it is undefined and the
     /// behaviour refuses that, else what the escape refuses.
     pub fn check_value<H: Host>(&self, alloc: Global, host: &H, value: &Value) -> Result<(), Error>
-        requires { (H.meaning host.now).formatter ≡ None }
-        ensures { CanBeEmitted result (emitted (H.meaning host.now) value.now self.now)
+        requires { (H.program host.now).host.formatter ≡ None }
+        ensures { CanBeEmitted result (emitted (H.program host.now).host value.now self.now)
             (emitted_text self.now.escape (records_of self.now) value.now) self.now }
     {
         check_defined(value, host.undefined_behavior(), UndefinedUse::Emission)?;

@@ -27,10 +27,6 @@ use Rattle.tm_runs.specs.Runs.{finished_at}
 use Rattle.tm_vm.specs.declared.flow.Flow.{Flow}
 use Rattle.tm_vm.specs.declared.flow.Flow.TheVariants as flow
 
--- the environment's meaning and the instructions of its streams
-abbrev pub program : HostValue → (StreamId → List Instruction) → Program
-program host code = record { host = host; code = code }
-
 -- ---------------------------------------------------------------- ends
 -- The end that a halt is has a property. A halt by the writer, or by running out of memory, is no end of the definitions.
 abbrev pub HaltsAs : Halt → World → (End → Type 0) → Type 0

@@ -7,7 +7,6 @@ ghost use Rattle.tm_meaning.specs.Instructions.{binary_of, discard_top_of, dup_t
 ghost use Rattle.tm_meaning.specs.Instructions.{is_undefined_of, load_const_of, lookup_of, store_local_of};
 ghost use Rattle.tm_meaning.specs.Steps.{effect};
 ghost use Rattle.tm_runs.specs.Runs.{CanGoOn};
-ghost use Rattle.tm_vm.specs.Answers.{program};
 ghost use Rattle.tm_vm.specs.AtOnce.{Attempted, AttemptedUntold, IsAtOnce, IsCharged, IsFree, IsPaid, paid};
 
 use crate::machine::Machine;
@@ -17,7 +16,7 @@ use tm_parts::Sink;
 use tm_printing::emit_at_once;
 use tm_runs::Attempt;
 use tm_syntax::{BinaryOperator, Instruction, Name, RawText};
-use tm_tables::Host;
+use tm_tables::{Host, Parties};
 use tm_values::Value;
 
 impl Machine {
@@ -39,7 +38,7 @@ impl Machine {
     fn lookup_at_once<H: Host>(&mut self, host: &H, name: &Name) -> bool
         requires in_place { CanGoOn self.old.run }
         requires can_pay { CanPay 1 self.old.world.fuel }
-        ensures { IsAtOnce result (lookup_of (H.meaning host.now) name.now)
+        ensures { IsAtOnce result (lookup_of (H.program host.now).host name.now)
             self.old self.new }
     {
         let _host = host;
@@ -58,7 +57,7 @@ impl Machine {
     fn get_attr_at_once<H: Host>(&mut self, host: &H, name: &Name) -> bool
         requires in_place { CanGoOn self.old.run }
         requires can_pay { CanPay 1 self.old.world.fuel }
-        ensures { IsAtOnce result (get_attr_of (H.meaning host.now) name.now)
+        ensures { IsAtOnce result (get_attr_of (H.program host.now).host name.now)
             self.old self.new }
     {
         let _host = host;
@@ -88,7 +87,7 @@ impl Machine {
     fn binary_at_once<H: Host>(&mut self, host: &H, operator: BinaryOperator) -> bool
         requires in_place { CanGoOn self.old.run }
         requires can_pay { CanPay 1 self.old.world.fuel }
-        ensures { IsAtOnce result (binary_of (H.meaning host.now) operator)
+        ensures { IsAtOnce result (binary_of (H.program host.now).host operator)
             self.old self.new }
     {
         let _host = host;
@@ -104,7 +103,7 @@ impl Machine {
     fn jump_if_false_at_once<H: Host>(&mut self, host: &H, place: usize) -> bool
         requires in_place { CanGoOn self.old.run }
         requires can_pay { CanPay 1 self.old.world.fuel }
-        ensures { IsAtOnce result (jump_if_false_of (H.meaning host.now) place)
+        ensures { IsAtOnce result (jump_if_false_of (H.program host.now).host place)
             self.old self.new }
     {
         let _host = host;
@@ -267,12 +266,12 @@ impl Machine {
     fn emit_at_once<H: Host, W: Sink>(&mut self, host: &H, base: &Base, writer: &mut W) -> Attempt
         requires in_place { CanGoOn self.old.run }
         requires can_pay { CanPay 1 self.old.world.fuel }
-        ensures done { Attempted result (emit_of (H.meaning host.now) base.now) self.old self.new
+        ensures done { Attempted result (emit_of (H.program host.now).host base.now) self.old self.new
             (W.written writer.old) (W.written writer.new)
             (W.failures writer.old) (W.failures writer.new) }
         ensures charged { IsCharged result }
     {
-        if host.has_formatter() {
+        if host.objects().has_formatter() {
             return Attempt::Left;
         }
         if !self.is_audible(base) {
@@ -304,7 +303,7 @@ impl Machine {
     ) -> Attempt
         requires { CanGoOn self.old.run }
         ensures done { Attempted result
-            (effect (program (H.meaning host.now) (H.code host.now)) base.now instruction.now)
+            (effect (H.program host.now) base.now instruction.now)
             self.old self.new
             (W.written writer.old) (W.written writer.new)
             (W.failures writer.old) (W.failures writer.new) }

@@ -6,7 +6,7 @@ ghost use Rattle.tm_meaning.specs.Instructions.{call_function_of, call_object_of
 ghost use Rattle.tm_meaning.specs.Instructions.{apply_filter_of, perform_test_of};
 ghost use Rattle.tm_meaning.specs.Instructions.{call_block_of, fast_recurse_of};
 ghost use Rattle.tm_runs.specs.Runs.{CanGoOn};
-ghost use Rattle.tm_vm.specs.Answers.{program, recurses, Silently, Opens, Needs, EntersAsValue, GoesOnWith};
+ghost use Rattle.tm_vm.specs.Answers.{recurses, Silently, Opens, Needs, EntersAsValue, GoesOnWith};
 
 use crate::flow::Flow;
 use crate::machine::Machine;
@@ -31,10 +31,10 @@ impl Machine {
         count: Option<usize>,
     ) -> Result<Flow, Halt>
         requires in_place { CanGoOn self.old.run }
-        requires its_code { code.now ≡ H.code host.now self.old.run.stream }
-        ensures { Needs (program (H.meaning host.now) (H.code host.now))
+        requires its_code { code.now ≡ (H.program host.now).code self.old.run.stream }
+        ensures { Needs (H.program host.now)
             (call_function_of
-            (program (H.meaning host.now) (H.code host.now)) name.now count self.old)
+            (H.program host.now) name.now count self.old)
             self.old self.new result }
     {
         if let Some(count) = count {
@@ -56,10 +56,10 @@ impl Machine {
         count: Option<usize>,
     ) -> Result<Flow, Halt>
         requires in_place { CanGoOn self.old.run }
-        requires its_code { code.now ≡ H.code host.now self.old.run.stream }
-        ensures { Needs (program (H.meaning host.now) (H.code host.now))
+        requires its_code { code.now ≡ (H.program host.now).code self.old.run.stream }
+        ensures { Needs (H.program host.now)
             (call_function_of
-            (program (H.meaning host.now) (H.code host.now)) name.now count self.old)
+            (H.program host.now) name.now count self.old)
             self.old self.new result }
     {
         match self.run.take_count(count) {
@@ -79,10 +79,10 @@ impl Machine {
         count: usize,
     ) -> Result<Flow, Halt>
         requires in_place { CanGoOn self.old.run }
-        requires its_code { code.now ≡ H.code host.now self.old.run.stream }
-        ensures { Needs (program (H.meaning host.now) (H.code host.now))
+        requires its_code { code.now ≡ (H.program host.now).code self.old.run.stream }
+        ensures { Needs (H.program host.now)
             (call_function_of
-            (program (H.meaning host.now) (H.code host.now)) name.now (Some count) self.old)
+            (H.program host.now) name.now (Some count) self.old)
             self.old self.new result }
     {
         let Some(args) = self.run.args(count) else {
@@ -104,8 +104,8 @@ impl Machine {
         called: CallResult,
     ) -> Result<Flow, Halt>
         requires in_place { CanGoOn self.old.run }
-        requires its_code { code.now ≡ H.code host.now self.old.run.stream }
-        ensures { GoesOnWith (program (H.meaning host.now) (H.code host.now))
+        requires its_code { code.now ≡ (H.program host.now).code self.old.run.stream }
+        ensures { GoesOnWith (H.program host.now)
             called count self.old self.new result }
     {
         match called {
@@ -127,8 +127,8 @@ impl Machine {
         called: Recursion,
     ) -> Result<Flow, Halt>
         requires in_place { CanGoOn self.old.run }
-        requires its_code { code.now ≡ H.code host.now self.old.run.stream }
-        ensures { Opens (asked (program (H.meaning host.now) (H.code host.now)) self.old
+        requires its_code { code.now ≡ (H.program host.now).code self.old.run.stream }
+        ensures { Opens (asked (H.program host.now) self.old
             (drop count self.old.run.operands)
             (recurs called.number called.items.value.items self.old.world))
             self.old self.new result }
@@ -168,9 +168,9 @@ impl Machine {
         code: &Verified,
     ) -> Result<Flow, Halt>
         requires in_place { CanGoOn self.old.run }
-        requires its_code { code.now ≡ H.code host.now self.old.run.stream }
+        requires its_code { code.now ≡ (H.program host.now).code self.old.run.stream }
         ensures { Opens (fast_recurse_of
-            (program (H.meaning host.now) (H.code host.now)) base.now self.old)
+            (H.program host.now) base.now self.old)
             self.old self.new result }
     {
         let value = self.run.popped()?;
@@ -189,9 +189,9 @@ impl Machine {
         value: bool,
     ) -> Result<Flow, Halt>
         requires in_place { CanGoOn self.old.run }
-        requires its_code { code.now ≡ H.code host.now self.old.run.stream }
+        requires its_code { code.now ≡ (H.program host.now).code self.old.run.stream }
         ensures { Opens (recurses
-            (program (H.meaning host.now) (H.code host.now)) called value self.old)
+            (H.program host.now) called value self.old)
             self.old self.new result }
     {
         let Recursion { number, items } = called;
@@ -222,10 +222,10 @@ impl Machine {
         count: Option<usize>,
     ) -> Result<Flow, Halt>
         requires in_place { CanGoOn self.old.run }
-        requires its_code { code.now ≡ H.code host.now self.old.run.stream }
-        ensures { Needs (program (H.meaning host.now) (H.code host.now))
+        requires its_code { code.now ≡ (H.program host.now).code self.old.run.stream }
+        ensures { Needs (H.program host.now)
             (apply_of
-            (program (H.meaning host.now) (H.code host.now)) application name.now count self.old)
+            (H.program host.now) application name.now count self.old)
             self.old self.new result }
     {
         match self.run.take_count(count) {
@@ -246,10 +246,10 @@ impl Machine {
         count: usize,
     ) -> Result<Flow, Halt>
         requires in_place { CanGoOn self.old.run }
-        requires its_code { code.now ≡ H.code host.now self.old.run.stream }
-        ensures { Needs (program (H.meaning host.now) (H.code host.now))
+        requires its_code { code.now ≡ (H.program host.now).code self.old.run.stream }
+        ensures { Needs (H.program host.now)
             (apply_of
-            (program (H.meaning host.now) (H.code host.now))
+            (H.program host.now)
             application name.now (Some count) self.old)
             self.old self.new result }
     {
@@ -272,10 +272,10 @@ impl Machine {
         count: Option<usize>,
     ) -> Result<Flow, Halt>
         requires in_place { CanGoOn self.old.run }
-        requires its_code { code.now ≡ H.code host.now self.old.run.stream }
-        ensures { Needs (program (H.meaning host.now) (H.code host.now))
+        requires its_code { code.now ≡ (H.program host.now).code self.old.run.stream }
+        ensures { Needs (H.program host.now)
             (call_object_of
-            (program (H.meaning host.now) (H.code host.now)) count self.old)
+            (H.program host.now) count self.old)
             self.old self.new result }
     {
         match self.run.take_count(count) {
@@ -293,10 +293,10 @@ impl Machine {
         count: usize,
     ) -> Result<Flow, Halt>
         requires in_place { CanGoOn self.old.run }
-        requires its_code { code.now ≡ H.code host.now self.old.run.stream }
-        ensures { Needs (program (H.meaning host.now) (H.code host.now))
+        requires its_code { code.now ≡ (H.program host.now).code self.old.run.stream }
+        ensures { Needs (H.program host.now)
             (call_object_of
-            (program (H.meaning host.now) (H.code host.now)) (Some count) self.old)
+            (H.program host.now) (Some count) self.old)
             self.old self.new result }
     {
         let Some(values) = self.run.args(count) else {
@@ -319,10 +319,10 @@ impl Machine {
         cache: u8,
     ) -> Result<Flow, Halt>
         requires in_place { CanGoOn self.old.run }
-        requires its_code { code.now ≡ H.code host.now self.old.run.stream }
-        ensures { Needs (program (H.meaning host.now) (H.code host.now))
+        requires its_code { code.now ≡ (H.program host.now).code self.old.run.stream }
+        ensures { Needs (H.program host.now)
             (apply_filter_of
-            (program (H.meaning host.now) (H.code host.now)) name.now count cache self.old)
+            (H.program host.now) name.now count cache self.old)
             self.old self.new result }
     {
         let place = self.run.use_filter(host, cache, name)?;
@@ -342,10 +342,10 @@ impl Machine {
         cache: u8,
     ) -> Result<Flow, Halt>
         requires in_place { CanGoOn self.old.run }
-        requires its_code { code.now ≡ H.code host.now self.old.run.stream }
-        ensures { Needs (program (H.meaning host.now) (H.code host.now))
+        requires its_code { code.now ≡ (H.program host.now).code self.old.run.stream }
+        ensures { Needs (H.program host.now)
             (perform_test_of
-            (program (H.meaning host.now) (H.code host.now)) name.now count cache self.old)
+            (H.program host.now) name.now count cache self.old)
             self.old self.new result }
     {
         let place = self.run.use_test(host, cache, name)?;
@@ -373,9 +373,9 @@ impl Machine {
         name: &Name,
     ) -> Result<Flow, Halt>
         requires { CanGoOn self.old.run }
-        ensures { Needs (program (H.meaning host.now) (H.code host.now))
+        ensures { Needs (H.program host.now)
             (call_block_of
-            (program (H.meaning host.now) (H.code host.now)) base.now name.now self.old)
+            (H.program host.now) base.now name.now self.old)
             self.old self.new result }
     {
         let heard = self.is_audible(base);

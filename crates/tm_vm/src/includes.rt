@@ -1,7 +1,7 @@
 //! The instructions of templates that others include and import.
 ghost use Rattle.tm_meaning.specs.Instructions.{export_locals_of, include_of};
 ghost use Rattle.tm_runs.specs.Runs.{CanGoOn};
-ghost use Rattle.tm_vm.specs.Answers.{program, Needs, Silently};
+ghost use Rattle.tm_vm.specs.Answers.{Needs, Silently};
 
 use crate::flow::Flow;
 use crate::machine::Machine;
@@ -23,9 +23,9 @@ impl Machine {
         missing: bool,
     ) -> Result<Flow, Halt>
         requires { CanGoOn self.old.run }
-        ensures { Needs (program (H.meaning host.now) (H.code host.now))
+        ensures { Needs (H.program host.now)
             (include_of
-            (program (H.meaning host.now) (H.code host.now)) base.now apart missing self.old)
+            (H.program host.now) base.now apart missing self.old)
             self.old self.new result }
     {
         let heard = self.is_audible(base);

@@ -1,7 +1,7 @@
 //! The instructions of parents and of the blocks after those that run.
 ghost use Rattle.tm_meaning.specs.Instructions.{fast_super_of, load_blocks_of};
 ghost use Rattle.tm_runs.specs.Runs.{CanGoOn};
-ghost use Rattle.tm_vm.specs.Answers.{program, Loads, Needs};
+ghost use Rattle.tm_vm.specs.Answers.{Loads, Needs};
 
 use crate::flow::Flow;
 use crate::machine::Machine;
@@ -20,9 +20,9 @@ impl Machine {
         base: &Base,
     ) -> Result<Flow, Halt>
         requires { CanGoOn self.old.run }
-        ensures { Needs (program (H.meaning host.now) (H.code host.now))
+        ensures { Needs (H.program host.now)
             (fast_super_of
-            (program (H.meaning host.now) (H.code host.now)) base.now self.old)
+            (H.program host.now) base.now self.old)
             self.old self.new result }
     {
         let heard = self.is_audible(base);
@@ -40,8 +40,8 @@ impl Machine {
         base: &Base,
     ) -> Result<Flow, Halt>
         requires { CanGoOn self.old.run }
-        ensures { Loads (H.meaning host.now)
-            (load_blocks_of (H.meaning host.now) base.now self.old) self.old self.new result }
+        ensures { Loads (H.program host.now).host
+            (load_blocks_of (H.program host.now).host base.now self.old) self.old self.new result }
     {
         let name = self.run.popped()?;
         let is_inside = base.captures < self.captures.depth();

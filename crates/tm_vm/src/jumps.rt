@@ -21,7 +21,7 @@ impl Machine {
     /// Pops a value, and goes on at a place where it is false.
     pub(crate) fn do_jump_if_false<H: Host>(&mut self, host: &H, place: usize) -> Result<Flow, Halt>
         requires { CanGoOn self.old.run }
-        ensures { Silently (jump_if_false_of (H.meaning host.now) place self.old)
+        ensures { Silently (jump_if_false_of (H.program host.now).host place self.old)
             self.old self.new result }
     {
         let Some(value) = self.run.pop() else {
@@ -42,7 +42,7 @@ impl Machine {
         jumps: bool,
     ) -> Result<Flow, Halt>
         requires { CanGoOn self.old.run }
-        ensures { Silently (jump_or_pop_of (H.meaning host.now) jumps place self.old)
+        ensures { Silently (jump_or_pop_of (H.program host.now).host jumps place self.old)
             self.old self.new result }
     {
         let is_true = match self.run.top_truth(host.undefined_behavior()) {

@@ -3,13 +3,12 @@ ghost use Rattle.std.specs.Prelude.{◌≡◌, IfErr, IfOk, IfSome, Some, true};
 ghost use Rattle.tm_meaning.specs.Memory.{is_want_of_memory};
 ghost use Rattle.tm_meaning.specs.Instructions.{call_function_of};
 ghost use Rattle.tm_runs.specs.Runs.{CanGoOn};
-ghost use Rattle.tm_vm.specs.Answers.{program};
 ghost use Rattle.tm_vm.specs.LeafCalls.{CallsLeaf, GivesText};
 
 use crate::machine::Machine;
 use std::alloc::Global;
 use tm_syntax::Name;
-use tm_tables::Host;
+use tm_tables::{Host, Parties};
 use tm_values::{Error, Value};
 
 impl Machine {
@@ -24,10 +23,10 @@ impl Machine {
     ) -> Result<Option<(Value, u64)>, Error>
         ensures unchanged { self.new ≡ self.old }
         ensures gives { IfOk result (λ found. IfSome found (λ r. GivesText
-            (program (H.meaning host.now) (H.code host.now)) name.now count self.old r.0 r.1)) }
+            (H.program host.now) name.now count self.old r.0 r.1)) }
         ensures kind { IfErr result (λ e. is_want_of_memory e ≡ true) }
     {
-        if host.has_formatter() || name.is("super") {
+        if host.objects().has_formatter() || name.is("super") {
             return Ok(None);
         }
         let Some(args) = self.run.args(count) else {
@@ -73,9 +72,9 @@ impl Machine {
         count: usize,
     ) -> Result<bool, Error>
         requires { CanGoOn self.old.run }
-        ensures { CallsLeaf (program (H.meaning host.now) (H.code host.now))
+        ensures { CallsLeaf (H.program host.now)
             (call_function_of
-            (program (H.meaning host.now) (H.code host.now)) name.now (Some count) self.old)
+            (H.program host.now) name.now (Some count) self.old)
             self.old self.new result }
     {
         let Some((text, left)) = self.leaf_text(alloc, host, name, count)? else {

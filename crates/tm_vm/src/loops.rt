@@ -2,7 +2,7 @@
 ghost use Rattle.std.specs.Prelude.{◌≡◌};
 ghost use Rattle.tm_meaning.specs.Instructions.{push_loop_of, iterate_of, push_did_not_iterate_of, pop_loop_frame_of, returns};
 ghost use Rattle.tm_runs.specs.Runs.{resumed, CanGoOn};
-ghost use Rattle.tm_vm.specs.Answers.{program, Silently, Opens, Shifts};
+ghost use Rattle.tm_vm.specs.Answers.{Silently, Opens, Shifts};
 
 use crate::flow::Flow;
 use crate::machine::Machine;
@@ -28,9 +28,9 @@ impl Machine {
         flags: LoopFlags,
     ) -> Result<Flow, Halt>
         requires in_place { CanGoOn self.old.run }
-        requires its_code { code.now ≡ H.code host.now self.old.run.stream }
+        requires its_code { code.now ≡ (H.program host.now).code self.old.run.stream }
         ensures { Opens
-            (push_loop_of (program (H.meaning host.now) (H.code host.now)) flags self.old)
+            (push_loop_of (H.program host.now) flags self.old)
             self.old self.new result }
     {
         let number = code.loop_number(self.run.place());

@@ -4,7 +4,7 @@ ghost use Rattle.tm_meaning.specs.Inheritance.{names_left};
 ghost use Rattle.tm_meaning.specs.Machine.{audible, base_of, first_run, run_from, running};
 ghost use Rattle.tm_meaning.specs.Steps.{step};
 ghost use Rattle.tm_parts.specs.Halts.{failures_after};
-ghost use Rattle.tm_vm.specs.Answers.{program, BeginsRun, EndsAs, IsAtFirst, ReachesEnd, NoFewer, SameStanding, StaysRun};
+ghost use Rattle.tm_vm.specs.Answers.{BeginsRun, EndsAs, IsAtFirst, ReachesEnd, NoFewer, SameStanding, StaysRun};
 ghost use Rattle.tm_state.specs.Answers.{KeepsFixed};
 ghost use Rattle.tm_state.specs.State.{callee_of, put_back};
 ghost use Rattle.tm_vm.specs.Nested.{RanNested, StandsOn, WroteBeginning, IsBack, IsWrapped, IsCaptured, base_in, begins_in};
@@ -94,7 +94,7 @@ impl Machine {
         captures: Captures,
         state: StateData,
     ) -> Result<Machine, StateData>
-        ensures { IsAtFirst (first_run (program (H.meaning host.now) (H.code host.now))
+        ensures { IsAtFirst (first_run (H.program host.now)
             (callee_of run) (length captures)) captures state result }
     {
         let own = StreamId::root(TemplateId::Own);
@@ -172,16 +172,16 @@ impl Machine {
         writer: &mut W,
     ) -> Result<(), Halt>
         requires { StandsOn entry.value.saved self.old.world }
-        ensures ran { RanNested (program (H.meaning host.now) (H.code host.now)) entry.value
+        ensures ran { RanNested (H.program host.now) entry.value
             self.old self.new (W.written writer.old) (W.written writer.new) result }
-        ensures beginning { WroteBeginning (program (H.meaning host.now) (H.code host.now))
+        ensures beginning { WroteBeginning (H.program host.now)
             (base_in entry.value self.old)
-            (begins_in (program (H.meaning host.now) (H.code host.now)) entry.value self.old)
+            (begins_in (H.program host.now) entry.value self.old)
             (W.written writer.old) (W.written writer.new) }
         ensures failures { W.failures writer.new ≡ failures_after result (W.failures writer.old) }
         ensures kept { KeepsFixed self.old.world self.new.world }
-        ensures names { names_left (H.meaning host.now) self.new.world
-            ≤ names_left (H.meaning host.now) self.old.world }
+        ensures names { names_left (H.program host.now).host self.new.world
+            ≤ names_left (H.program host.now).host self.old.world }
         ensures back { IsBack entry.value.saved self.old.world self.new.world }
         ensures same_run { StaysRun self.old.run self.new.run }
     {
@@ -226,7 +226,7 @@ impl Machine {
     /// Begins the run of what is called over the same captures and state, and gives the run that waits; none where there
     /// is no such run.
     fn begin<H: Host>(&mut self, alloc: Global, host: &H, run: RunOf) -> Option<Activation>
-        ensures { BeginsRun (first_run (program (H.meaning host.now) (H.code host.now))
+        ensures { BeginsRun (first_run (H.program host.now)
             (callee_of run) (length self.old.captures)) result self.old self.new }
     {
         let floor = self.captures.depth();
@@ -280,7 +280,7 @@ impl Machine {
 
     /// The instructions of the run's stream.
     fn code<'host, H: Host>(&self, host: &'host H) -> &'host Verified
-        ensures { result.now ≡ H.code host.now self.now.run.stream }
+        ensures { result.now ≡ (H.program host.now).code self.now.run.stream }
     {
         host.instructions(self.run.stream(), self.state.template_place())
     }
@@ -295,18 +295,18 @@ impl Machine {
         writer: &mut W,
     ) -> Result<(), Halt>
         ensures ended { EndsAs result self.new
-            (ReachesEnd (program (H.meaning host.now) (H.code host.now))
+            (ReachesEnd (H.program host.now)
             (base_of heard self.old.captures self.old.world) self.old
             (W.written writer.old) (W.written writer.new)) }
-        ensures beginning { WroteBeginning (program (H.meaning host.now) (H.code host.now))
+        ensures beginning { WroteBeginning (H.program host.now)
             (base_of heard self.old.captures self.old.world)
-            (step (program (H.meaning host.now) (H.code host.now))
+            (step (H.program host.now)
             (base_of heard self.old.captures self.old.world) self.old)
             (W.written writer.old) (W.written writer.new) }
         ensures failures { W.failures writer.new ≡ failures_after result (W.failures writer.old) }
         ensures kept { KeepsFixed self.old.world self.new.world }
-        ensures names { names_left (H.meaning host.now) self.new.world
-            ≤ names_left (H.meaning host.now) self.old.world }
+        ensures names { names_left (H.program host.now).host self.new.world
+            ≤ names_left (H.program host.now).host self.old.world }
         ensures no_fewer { NoFewer self.old.world self.new.world }
         ensures closed { OnOk result (SameStanding self.old.world self.new.world) }
     {

@@ -34,7 +34,7 @@ impl Machine {
         name: &Name,
     ) -> Result<Flow, Halt>
         requires { CanGoOn self.old.run }
-        ensures { Silently (enclose_of (H.meaning host.now) name.now self.old)
+        ensures { Silently (enclose_of (H.program host.now).host name.now self.old)
             self.old self.new result }
     {
         self.state.enclose(alloc, host, name)?;

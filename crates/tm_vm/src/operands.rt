@@ -33,7 +33,7 @@ impl Machine {
     /// Pushes the value of a name, undefined where there is none.
     pub(crate) fn do_lookup<H: Host>(&mut self, host: &H, name: &Name) -> Result<Flow, Halt>
         requires { CanGoOn self.old.run }
-        ensures { Silently (lookup_of (H.meaning host.now) name.now self.old)
+        ensures { Silently (lookup_of (H.program host.now).host name.now self.old)
             self.old self.new result }
     {
         let value = match self.state.lookup(host, name)? {
@@ -59,7 +59,7 @@ impl Machine {
         name: &Name,
     ) -> Result<Flow, Halt>
         requires { CanGoOn self.old.run }
-        ensures { Silently (get_attr_of (H.meaning host.now) name.now self.old)
+        ensures { Silently (get_attr_of (H.program host.now).host name.now self.old)
             self.old self.new result }
     {
         let value = self.run.popped()?;
@@ -76,7 +76,7 @@ impl Machine {
         operator: UnaryOperator,
     ) -> Result<Flow, Halt>
         requires { CanGoOn self.old.run }
-        ensures { Silently (unary_of (H.meaning host.now) operator self.old)
+        ensures { Silently (unary_of (H.program host.now).host operator self.old)
             self.old self.new result }
     {
         let value = self.run.popped()?;
@@ -93,7 +93,7 @@ impl Machine {
         operator: BinaryOperator,
     ) -> Result<Flow, Halt>
         requires { CanGoOn self.old.run }
-        ensures { Silently (binary_of (H.meaning host.now) operator self.old)
+        ensures { Silently (binary_of (H.program host.now).host operator self.old)
             self.old self.new result }
     {
         let right = self.run.popped()?;
@@ -111,7 +111,7 @@ impl Machine {
         operator: BinaryOperator,
     ) -> Result<Flow, Halt>
         requires { CanGoOn self.old.run }
-        ensures { Silently (compare_and_preserve_of (H.meaning host.now) operator self.old)
+        ensures { Silently (compare_and_preserve_of (H.program host.now).host operator self.old)
             self.old self.new result }
     {
         let right = self.run.popped()?;
@@ -158,7 +158,7 @@ impl Machine {
     /// Replaces a value and a key by the value's item there.
     pub(crate) fn do_get_item<H: Host>(&mut self, alloc: Global, host: &H) -> Result<Flow, Halt>
         requires { CanGoOn self.old.run }
-        ensures { Silently (get_item_of (H.meaning host.now) self.old) self.old self.new result }
+        ensures { Silently (get_item_of (H.program host.now).host self.old) self.old self.new result }
     {
         let key = self.run.popped()?;
         let value = self.run.popped()?;
@@ -170,7 +170,7 @@ impl Machine {
     /// Replaces a value, a start, a stop and a step by the value's slice.
     pub(crate) fn do_slice<H: Host>(&mut self, alloc: Global, host: &H) -> Result<Flow, Halt>
         requires { CanGoOn self.old.run }
-        ensures { Silently (slice_instruction_of (H.meaning host.now) self.old)
+        ensures { Silently (slice_instruction_of (H.program host.now).host self.old)
             self.old self.new result }
     {
         let Some(by) = self.run.pop() else {
@@ -250,7 +250,7 @@ impl Machine {
         count: usize,
     ) -> Result<Flow, Halt>
         requires { CanGoOn self.old.run }
-        ensures { Silently (merge_kwargs_of (H.meaning host.now) count self.old)
+        ensures { Silently (merge_kwargs_of (H.program host.now).host count self.old)
             self.old self.new result }
     {
         let Some(maps) = self.run.args(count) else {
@@ -271,7 +271,7 @@ impl Machine {
         count: usize,
     ) -> Result<Flow, Halt>
         requires { CanGoOn self.old.run }
-        ensures { Silently (unpack_lists_of (H.meaning host.now) count self.old)
+        ensures { Silently (unpack_lists_of (H.program host.now).host count self.old)
             self.old self.new result }
     {
         let Some(lists) = self.run.args(count) else {

@@ -12,7 +12,7 @@ use std::alloc::Global;
 use tm_meaning::Base;
 use tm_parts::{Halt, Sink};
 use tm_syntax::RawText;
-use tm_tables::Host;
+use tm_tables::{Host, Parties};
 use tm_values::Value;
 
 impl Machine {
@@ -79,11 +79,11 @@ impl Machine {
         writer: &mut W,
     ) -> Result<Flow, Halt>
         requires { CanGoOn self.old.run }
-        ensures { WritesNext (emit_of (H.meaning host.now) base.now self.old) self.old self.new
+        ensures { WritesNext (emit_of (H.program host.now).host base.now self.old) self.old self.new
             (W.written writer.old) (W.written writer.new)
             (W.failures writer.old) (W.failures writer.new) result }
     {
-        if host.has_formatter() {
+        if host.objects().has_formatter() {
             return self.emit_formatted(alloc, host, base, writer);
         }
         let Some(value) = self.run.pop() else {
@@ -104,7 +104,7 @@ impl Machine {
         writer: &mut W,
     ) -> Result<Flow, Halt>
         requires { CanGoOn self.old.run }
-        ensures { WritesNext (emit_of (H.meaning host.now) base.now self.old) self.old self.new
+        ensures { WritesNext (emit_of (H.program host.now).host base.now self.old) self.old self.new
             (W.written writer.old) (W.written writer.new)
             (W.failures writer.old) (W.failures writer.new) result }
     {

@@ -51,7 +51,7 @@ impl Machine {
     /// Opens a scope; InvalidOperation where it would lie deeper than the limit.
     pub(crate) fn do_push_with<H: Host>(&mut self, alloc: Global, host: &H) -> Result<Flow, Halt>
         requires { CanGoOn self.old.run }
-        ensures { Opens (push_with_of (H.meaning host.now) self.old) self.old self.new result }
+        ensures { Opens (push_with_of (H.program host.now).host self.old) self.old self.new result }
     {
         self.state.push_scope(alloc, host.recursion_limit())?;
         self.run.advance();

@@ -4,7 +4,7 @@ ghost use Rattle.tm_values.specs.declared.error.ErrorKind.TheVariants.{OutOfFuel
 ghost use Rattle.tm_meaning.specs.World.{Good, Bad};
 ghost use Rattle.tm_meaning.specs.Steps.{charge_of, closed, pay, effect, finish, return_of, step};
 ghost use Rattle.tm_runs.specs.Runs.{CanGoOn};
-ghost use Rattle.tm_vm.specs.Answers.{program, Performs, Finishes, Paid};
+ghost use Rattle.tm_vm.specs.Answers.{Performs, Finishes, Paid};
 ghost use Rattle.tm_vm.specs.AtOnce.{StepAttempted};
 ghost use Rattle.tm_state.specs.Answers.{KeepsFixedAndNames};
 
@@ -33,9 +33,9 @@ impl Machine {
         writer: &mut W,
     ) -> Result<Flow, Halt>
         requires in_place { CanGoOn self.old.run }
-        requires its_code { code.now ≡ H.code host.now self.old.run.stream }
-        ensures { Performs (program (H.meaning host.now) (H.code host.now)) base.now
-            (effect (program (H.meaning host.now) (H.code host.now)) base.now instruction.now
+        requires its_code { code.now ≡ (H.program host.now).code self.old.run.stream }
+        ensures { Performs (H.program host.now) base.now
+            (effect (H.program host.now) base.now instruction.now
             self.old)
             self.old self.new
             (W.written writer.old) (W.written writer.new)
@@ -215,12 +215,12 @@ impl Machine {
         code: &Verified,
         writer: &mut W,
     ) -> Result<Flow, Halt>
-        requires { code.now ≡ H.code host.now self.old.run.stream }
-        ensures performs { Performs (program (H.meaning host.now) (H.code host.now)) base.now
-            (step (program (H.meaning host.now) (H.code host.now)) base.now self.old)
+        requires { code.now ≡ (H.program host.now).code self.old.run.stream }
+        ensures performs { Performs (H.program host.now) base.now
+            (step (H.program host.now) base.now self.old)
             self.old self.new (W.written writer.old) (W.written writer.new)
             (W.failures writer.old) (W.failures writer.new) result }
-        ensures paid { Paid (program (H.meaning host.now) (H.code host.now))
+        ensures paid { Paid (H.program host.now)
             (length code.now) result self.old self.new }
     {
         let instructions = code.as_slice();
@@ -242,8 +242,8 @@ impl Machine {
         code: &Verified,
         writer: &mut W,
     ) -> Attempt
-        requires { code.now ≡ H.code host.now self.old.run.stream }
-        ensures { StepAttempted result base.now (program (H.meaning host.now) (H.code host.now))
+        requires { code.now ≡ (H.program host.now).code self.old.run.stream }
+        ensures { StepAttempted result base.now (H.program host.now)
             (length code.now) self.old self.new
             (W.written writer.old) (W.written writer.new)
             (W.failures writer.old) (W.failures writer.new) }
@@ -264,12 +264,12 @@ impl Machine {
         code: &Verified,
         writer: &mut W,
     ) -> Result<Flow, Halt>
-        requires { code.now ≡ H.code host.now self.old.run.stream }
-        ensures performs { Performs (program (H.meaning host.now) (H.code host.now)) base.now
-            (step (program (H.meaning host.now) (H.code host.now)) base.now self.old)
+        requires { code.now ≡ (H.program host.now).code self.old.run.stream }
+        ensures performs { Performs (H.program host.now) base.now
+            (step (H.program host.now) base.now self.old)
             self.old self.new (W.written writer.old) (W.written writer.new)
             (W.failures writer.old) (W.failures writer.new) result }
-        ensures paid { Paid (program (H.meaning host.now) (H.code host.now))
+        ensures paid { Paid (H.program host.now)
             (length code.now) result self.old self.new }
     {
         match self.attempt_next(host, base, code, writer) {

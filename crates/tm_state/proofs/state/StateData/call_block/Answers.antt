@@ -6,7 +6,7 @@ use Rattle.tm_state.proofs.state.StateData.call_block.Goals as goal
 
 pub returns-clause-called : goal.returns-clause-called
 returns-clause-called g c =
-    let asked = enter_block (g.H.Host.meaning c.args.host.now) c.args.name.now c.args.self.now in
+    let asked = enter_block (g.H.Host.program c.args.host.now).host c.args.name.now c.args.self.now in
     let entered = c.in_ok-stream.ensures.ok in
     subst (λ e. NeedsRun e asked c.boxed.new.self) (sym c.in_ok-boxed.ensures.ok) (
       refl,

@@ -8,7 +8,7 @@ use Rattle.tm_state.proofs.state.StateData.follow.Given as goal
 -- What was asked at first is what the last answer comes to, where so many further calls were made.
 abbrev pub invariant-loop-result : goal.invariant-loop-result
 invariant-loop-result g l =
-    let host = g.H.Host.meaning l.fn.host in
+    let host = (g.H.Host.program l.fn.host).host in
     (l.self ≡ record l.fn.self { temps = l.self.temps; namespaces = l.self.namespaces }) × (l.made ≤ l.left) ×
     (is_for_memory l.answer.reply ≡ false →
     replied (by_depths host l.fn.self) l.fn.answer.reply (record l.fn.self { temps = put_each l.fn.answer.temps l.fn.self.temps }) ≡

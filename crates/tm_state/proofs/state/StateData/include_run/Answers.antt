@@ -6,7 +6,7 @@ use Rattle.tm_state.proofs.state.StateData.include_run.Goals as goal
 
 pub returns-in_err-run-in-Some-clause-err : goal.returns-in_err-run-in-Some-clause-err
 returns-in_err-run-in-Some-clause-err g c =
-    let host = g.H.Host.meaning c.args.host.now in
+    let host = (g.H.Host.program c.args.host.now).host in
     let v = c.args.value.now in
     let w = c.args.self.now in
     let none = c.in_ok-found.names_none in
@@ -17,7 +17,7 @@ returns-in_err-run-in-Some-clause-err g c =
 
 pub returns-in_ok-run-in-Some-clause-ok : goal.returns-in_ok-run-in-Some-clause-ok
 returns-in_ok-run-in-Some-clause-ok g c =
-    let host = g.H.Host.meaning c.args.host.now in
+    let host = (g.H.Host.program c.args.host.now).host in
     let v = c.args.value.now in
     let w = c.args.self.now in
     let none = c.in_ok-found.names_none in

@@ -10,5 +10,5 @@ returns-clause-found g c =
     let frames = sym (ap (λ (w : World). w.scopes.frames) c.self.view_is) in
     let closures = sym (ap (λ (w : World). w.closures) c.self.view_is) in
     IfOk-weaker c.known_names.result _ _
-    (λ names known. known-in (view_of (g.H.Host.meaning c.args.host.now) c.args.self.now) _ _ _ (texts_of names.items) closures frames
+    (λ names known. known-in (view_of (g.H.Host.program c.args.host.now).host c.args.self.now) _ _ _ (texts_of names.items) closures frames
     (sym c.globals.ensures) known) c.known_names.ensures.known

@@ -8,7 +8,7 @@ use Rattle.tm_state.proofs.state.StateData.load_named.Goals as goal
 
 pub returns-clause-ok : goal.returns-clause-ok
 returns-clause-ok g c =
-    let host = g.H.Host.meaning c.args.host.now in
+    let host = (g.H.Host.program c.args.host.now).host in
     let x = c.args.name in
     let w = c.args.self.now in
     let held = c.self.inside.lists.loaded in
@@ -25,7 +25,7 @@ returns-clause-ok g c =
 
 pub returns-clause-fewer : goal.returns-clause-fewer
 returns-clause-fewer g c =
-    let host = g.H.Host.meaning c.args.host.now in
+    let host = (g.H.Host.program c.args.host.now).host in
     let x = c.args.name in
     let w = c.args.self.now in
     let held = c.self.inside.lists.loaded in

@@ -12,9 +12,9 @@ use Rattle.tm_state.proofs.state.StateData.template_run.Goals as goal
 
 begins : (g : given.Over) (c : goal.After-boxed g) →
     c.run_template-saved.new.self
-    ≡ Begun (g.H.Host.meaning c.args.host.now) c.args.entry.name.now c.args.self.now c.args.entry.blocks c.requires.2 c.args.apart
+    ≡ Begun (g.H.Host.program c.args.host.now).host c.args.entry.name.now c.args.self.now c.args.entry.blocks c.requires.2 c.args.apart
 begins g c =
-    let host = g.H.Host.meaning c.args.host.now in
+    let host = (g.H.Host.program c.args.host.now).host in
     let e = c.args.entry in
     stands_begun host e.name.now c.args.self.now e.blocks c.requires.2 c.args.apart c.open_template.new.self
     c.in_ok-open_template.ensures.ok c.run_template-saved.new.self
@@ -22,13 +22,13 @@ begins g c =
 
 saves : (g : given.Over) (c : goal.After-boxed g) → c.run_template-saved.result ≡ saved_include c.args.self.now
 saves g c =
-    saved_over (g.H.Host.meaning c.args.host.now) c.args.entry.name.now c.args.self.now c.args.entry.blocks c.requires.2 c.args.apart
+    saved_over (g.H.Host.program c.args.host.now).host c.args.entry.name.now c.args.self.now c.args.entry.blocks c.requires.2 c.args.apart
     c.open_template.new.self c.run_template-saved.result c.height-scopes.result c.own_closure-closure.result c.in_ok-open_template.ensures.ok
     (search rules) (search rules) c.run_template-saved.ensures.saved
 
 pub returns-clause-ok : goal.returns-clause-ok
 returns-clause-ok g c =
-    let host = g.H.Host.meaning c.args.host.now in
+    let host = (g.H.Host.program c.args.host.now).host in
     let x = c.args.entry.name.now in
     let w = c.args.self.now in
     let within = within_limit c.args.apart host.limit (depth w.scopes) c.depths_left.result c.depths_left.ensures
@@ -41,7 +41,7 @@ returns-clause-ok g c =
 
 pub returns-clause-deeper : goal.returns-clause-deeper
 returns-clause-deeper g c =
-    let host = g.H.Host.meaning c.args.host.now in
+    let host = (g.H.Host.program c.args.host.now).host in
     let w = c.args.self.now in
     let within = within_cost c.args.apart host.limit (depth w.scopes) c.depths_left.result c.depths_left.ensures
     (omega (arith, c.include_cost.ensures, c.if-depths_left-include_cost.false)) in
@@ -53,5 +53,5 @@ returns-clause-deeper g c =
 pub returns-clause-unchanged : goal.returns-clause-unchanged
 returns-clause-unchanged g c =
     on_err_weaker c.boxed.result (λ back. back
-    ∙ included_left (g.H.Host.meaning c.args.host.now) c.args.entry.name.now c.args.self.now c.args.entry.blocks c.requires.2 c.args.apart
+    ∙ included_left (g.H.Host.program c.args.host.now).host c.args.entry.name.now c.args.self.now c.args.entry.blocks c.requires.2 c.args.apart
     c.run_template-saved.result c.run_template-saved.new.self (saves g c) (begins g c)) c.boxed.ensures.back

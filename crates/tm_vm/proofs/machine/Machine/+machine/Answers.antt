@@ -4,7 +4,7 @@ use Rattle.tm_meaning.specs.Inheritance.{names_left}
 use Rattle.tm_meaning.specs.Machine.{Config, base_of}
 use Rattle.tm_state.specs.State.{put_back}
 use Rattle.tm_parts.specs.Halts.{failures_after}
-use Rattle.tm_vm.specs.Answers.{HaltsAs, program}
+use Rattle.tm_vm.specs.Answers.{HaltsAs}
 use Rattle.tm_vm.specs.declared.flow.Flow.TheVariants as flow
 use Rattle.tm_vm.proofs.Loop.{at_base, fixed_same, fixed_then, stands_first, stands_next, stands_again, stands_after, stands_called, beginning_at, beginning_in}
 use Rattle.tm_parts.specs.declared.halt.Halt.TheVariants as halt
@@ -19,7 +19,7 @@ use Rattle.tm_vm.proofs.machine.Machine.+machine.Goals as goal
 
 pub run-streams-init : goal.run-streams-init
 run-streams-init g t c =
-    let p = program (g.H.Host.meaning c.args.host.now) (g.H.Host.code c.args.host.now) in
+    let p = g.H.Host.program c.args.host.now in
     let a = c.args.self.now in
     record {
       failures = refl;
@@ -41,11 +41,11 @@ run-steps-init g t c = record {
 }
 
 pub run-step-requires : goal.run-step-requires
-run-step-requires g t c = c.code-code.ensures ∙ ap (λ s. g.H.Host.code c.args.host.now s) (sym c.steps.invariant.same_stream)
+run-step-requires g t c = c.code-code.ensures ∙ ap (λ s. (g.H.Host.program c.args.host.now).code s) (sym c.steps.invariant.same_stream)
 
 pub run-steps-preserved-in-Ok-GoOn : goal.run-steps-preserved-in-Ok-GoOn
 run-steps-preserved-in-Ok-GoOn g t c =
-    let p = program (g.H.Host.meaning c.args.host.now) (g.H.Host.code c.args.host.now) in
+    let p = g.H.Host.program c.args.host.now in
     let a = c.args.self.now in
     let now = g.W.Sink.written c.steps.writer in
     let new = g.W.Sink.written c.step.new.writer in
@@ -68,7 +68,7 @@ run-steps-preserved-in-Ok-GoOn g t c =
 
 pub run-steps-preserved-in-Ok-Called : goal.run-steps-preserved-in-Ok-Called
 run-steps-preserved-in-Ok-Called g t c =
-    let p = program (g.H.Host.meaning c.args.host.now) (g.H.Host.code c.args.host.now) in
+    let p = g.H.Host.program c.args.host.now in
     let a = c.args.self.now in
     let now = g.W.Sink.written c.steps.writer in
     let new = g.W.Sink.written c.step.new.writer in
@@ -91,7 +91,7 @@ run-steps-preserved-in-Ok-Called g t c =
 
 pub run-run_nested-requires : goal.run-run_nested-requires
 run-run_nested-requires g t c κs within =
-    let limit = (g.H.Host.meaning c.args.host.now).limit in
+    let limit = (g.H.Host.program c.args.host.now).host.limit in
     let e = c.in-Ok-Enter.entry.value in
     let step = rw c.in-Ok-Enter.field-0-is at c.in-Ok-Enter.ensures.performs in
     let deep = step.depths in
@@ -104,7 +104,7 @@ run-run_nested-requires g t c κs within =
 
 pub run-returns-in-Err-run_nested-clause-ended : goal.run-returns-in-Err-run_nested-clause-ended
 run-returns-in-Err-run_nested-clause-ended g t c =
-    let p = program (g.H.Host.meaning c.args.host.now) (g.H.Host.code c.args.host.now) in
+    let p = g.H.Host.program c.args.host.now in
     let a = c.args.self.now in
     let now = g.W.Sink.written c.steps.writer in
     let at = g.W.Sink.written c.step.new.writer in
@@ -119,7 +119,7 @@ run-returns-in-Err-run_nested-clause-ended g t c =
 
 pub run-returns-in-Err-run_nested-clause-beginning : goal.run-returns-in-Err-run_nested-clause-beginning
 run-returns-in-Err-run_nested-clause-beginning g t c =
-    let p = program (g.H.Host.meaning c.args.host.now) (g.H.Host.code c.args.host.now) in
+    let p = g.H.Host.program c.args.host.now in
     let a = c.args.self.now in
     let now = g.W.Sink.written c.steps.writer in
     let at = g.W.Sink.written c.step.new.writer in
@@ -143,7 +143,7 @@ run-returns-in-Err-run_nested-clause-kept g t c =
 
 pub run-returns-in-Err-run_nested-clause-names : goal.run-returns-in-Err-run_nested-clause-names
 run-returns-in-Err-run_nested-clause-names g t c =
-    let host = g.H.Host.meaning c.args.host.now in
+    let host = (g.H.Host.program c.args.host.now).host in
     let step = rw c.in-Ok-Enter.field-0-is at c.in-Ok-Enter.ensures.performs in
     let same : names_left host c.step.new.self.world ≡ names_left host c.steps.self.world =
     ap (λ ns. names_left host (record c.steps.self.world { loaded = ns })) step.names in
@@ -151,7 +151,7 @@ run-returns-in-Err-run_nested-clause-names g t c =
 
 pub run-returns-in-Err-run_nested-clause-no_fewer : goal.run-returns-in-Err-run_nested-clause-no_fewer
 run-returns-in-Err-run_nested-clause-no_fewer g t c =
-    let limit = (g.H.Host.meaning c.args.host.now).limit in
+    let limit = (g.H.Host.program c.args.host.now).host.limit in
     let e = c.in-Ok-Enter.entry.value in
     let step = rw c.in-Ok-Enter.field-0-is at c.in-Ok-Enter.ensures.performs in
     let deep = step.depths in
@@ -160,7 +160,7 @@ run-returns-in-Err-run_nested-clause-no_fewer g t c =
 
 pub run-steps-smaller : goal.run-steps-smaller
 run-steps-smaller g t c =
-    let p = program (g.H.Host.meaning c.args.host.now) (g.H.Host.code c.args.host.now) in
+    let p = g.H.Host.program c.args.host.now in
     let mid = c.step.new.self in
     let paid = rw c.in-Ok-Enter.field-0-is at c.in-Ok-Enter.ensures.paid in
     let there = was_there c.in_default.ensures.ran in
@@ -170,8 +170,8 @@ run-steps-smaller g t c =
 
 pub run-steps-preserved : goal.run-steps-preserved
 run-steps-preserved g t c =
-    let host = g.H.Host.meaning c.args.host.now in
-    let p = program host (g.H.Host.code c.args.host.now) in
+    let host = (g.H.Host.program c.args.host.now).host in
+    let p = g.H.Host.program c.args.host.now in
     let a = c.args.self.now in
     let limit = host.limit in
     let now = g.W.Sink.written c.steps.writer in
@@ -212,7 +212,7 @@ run-streams-smaller g t c =
 
 pub run-streams-preserved : goal.run-streams-preserved
 run-streams-preserved g t c =
-    let p = program (g.H.Host.meaning c.args.host.now) (g.H.Host.code c.args.host.now) in
+    let p = g.H.Host.program c.args.host.now in
     let a = c.args.self.now in
     let now = g.W.Sink.written c.steps.writer in
     let new = g.W.Sink.written c.step.new.writer in
@@ -231,7 +231,7 @@ run-streams-preserved g t c =
 
 pub run-returns-in-Ok-Done-clause-ended : goal.run-returns-in-Ok-Done-clause-ended
 run-returns-in-Ok-Done-clause-ended g t c =
-    let p = program (g.H.Host.meaning c.args.host.now) (g.H.Host.code c.args.host.now) in
+    let p = g.H.Host.program c.args.host.now in
     let a = c.args.self.now in
     let now = g.W.Sink.written c.steps.writer in
     let new = g.W.Sink.written c.step.new.writer in
@@ -277,7 +277,7 @@ run-returns-in-Ok-Done-clause-closed g t c =
 
 pub run-returns-in-Err-clause-ended : goal.run-returns-in-Err-clause-ended
 run-returns-in-Err-clause-ended g t c =
-    let p = program (g.H.Host.meaning c.args.host.now) (g.H.Host.code c.args.host.now) in
+    let p = g.H.Host.program c.args.host.now in
     let a = c.args.self.now in
     let now = g.W.Sink.written c.steps.writer in
     let new = g.W.Sink.written c.step.new.writer in
@@ -287,7 +287,7 @@ run-returns-in-Err-clause-ended g t c =
 
 pub run-returns-in-Err-clause-beginning : goal.run-returns-in-Err-clause-beginning
 run-returns-in-Err-clause-beginning g t c =
-    let p = program (g.H.Host.meaning c.args.host.now) (g.H.Host.code c.args.host.now) in
+    let p = g.H.Host.program c.args.host.now in
     let a = c.args.self.now in
     let now = g.W.Sink.written c.steps.writer in
     let new = g.W.Sink.written c.step.new.writer in
@@ -320,7 +320,7 @@ retaken left lent e run taken rest value =
 
 pub run_nested-returns-in_default-clause-ran : goal.run_nested-returns-in_default-clause-ran
 run_nested-returns-in_default-clause-ran g t c =
-    let p = program (g.H.Host.meaning c.args.host.now) (g.H.Host.code c.args.host.now) in
+    let p = g.H.Host.program c.args.host.now in
     let e : NestedRun = record c.take_run-run.new.self { run = c.take_run-run.result } in
     let whole = retaken c.take_run-run.new.self c.deref_mut-nested.result.now c.args.entry.value c.take_run-run.result
     c.take_run-run.ensures.run c.take_run-run.ensures.rest c.deref_mut-nested.ensures.value in
@@ -332,7 +332,7 @@ run_nested-returns-in_default-clause-ran g t c =
 
 pub run_nested-returns-in-Err-clause-ran : goal.run_nested-returns-in-Err-clause-ran
 run_nested-returns-in-Err-clause-ran g t c =
-    let p = program (g.H.Host.meaning c.args.host.now) (g.H.Host.code c.args.host.now) in
+    let p = g.H.Host.program c.args.host.now in
     let e : NestedRun = record c.take_run-run.new.self { run = c.take_run-run.result } in
     let whole = retaken c.take_run-run.new.self c.deref_mut-nested.result.now c.args.entry.value c.take_run-run.result
     c.take_run-run.ensures.run c.take_run-run.ensures.rest c.deref_mut-nested.ensures.value in
@@ -355,7 +355,7 @@ run_nested-returns-in-Err-clause-back g t c =
 
 pub run_nested-returns-then-value-clause-ran : goal.run_nested-returns-then-value-clause-ran
 run_nested-returns-then-value-clause-ran g t c =
-    let p = program (g.H.Host.meaning c.args.host.now) (g.H.Host.code c.args.host.now) in
+    let p = g.H.Host.program c.args.host.now in
     let e : NestedRun = record c.take_run-run.new.self { run = c.take_run-run.result } in
     let whole = retaken c.take_run-run.new.self c.deref_mut-nested.result.now c.args.entry.value c.take_run-run.result
     c.take_run-run.ensures.run c.take_run-run.ensures.rest c.deref_mut-nested.ensures.value in
@@ -380,7 +380,7 @@ run_nested-returns-then-value-clause-back g t c =
 
 pub run_nested-returns-clause-ran : goal.run_nested-returns-clause-ran
 run_nested-returns-clause-ran g t c =
-    let p = program (g.H.Host.meaning c.args.host.now) (g.H.Host.code c.args.host.now) in
+    let p = g.H.Host.program c.args.host.now in
     let e : NestedRun = record c.take_run-run.new.self { run = c.take_run-run.result } in
     let whole = retaken c.take_run-run.new.self c.deref_mut-nested.result.now c.args.entry.value c.take_run-run.result
     c.take_run-run.ensures.run c.take_run-run.ensures.rest c.deref_mut-nested.ensures.value in
@@ -413,7 +413,7 @@ run_nested-returns-in_default-clause-back g t c =
 
 pub run_nested-returns-in-Err-clause-beginning : goal.run_nested-returns-in-Err-clause-beginning
 run_nested-returns-in-Err-clause-beginning g t c =
-    let p = program (g.H.Host.meaning c.args.host.now) (g.H.Host.code c.args.host.now) in
+    let p = g.H.Host.program c.args.host.now in
     let e : NestedRun = record c.take_run-run.new.self { run = c.take_run-run.result } in
     let whole = retaken c.take_run-run.new.self c.deref_mut-nested.result.now c.args.entry.value c.take_run-run.result
     c.take_run-run.ensures.run c.take_run-run.ensures.rest c.deref_mut-nested.ensures.value in

@@ -1,14 +1,13 @@
 use Rattle.std.proofs.Common.{◌<◌, ◌∙◌, length, ap, sym, arith, slice_get}
 use Rattle.std.proofs.lemmas.Bool.Decides.{nat_tests}
-use Rattle.tm_vm.specs.Answers.{program}
 use Rattle.tm_vm.proofs.Performed.{read_at}
 use Rattle.tm_vm.proofs.StepsAtOnce.{step_attempted}
 use Rattle.tm_vm.proofs.machine.Machine.attempt_next.Goals as goal
 
 pub returns-in-Some : goal.returns-in-Some
 returns-in-Some g c =
-    let host = g.H.Host.meaning c.args.host.now in
-    let p = program host (g.H.Host.code c.args.host.now) in
+    let host = (g.H.Host.program c.args.host.now).host in
+    let p = g.H.Host.program c.args.host.now in
     let a = c.args.self.now in
     let xs = c.as_slice.result.now in
     let found : c.place.result < length xs = grind (arith, nat_tests, sym c.in-Some.ensures.lookup.0) in

@@ -1,13 +1,12 @@
 use Rattle.tm_meaning.specs.Calls.{applied}
 use Rattle.tm_meaning.specs.Machine.{Config}
-use Rattle.tm_vm.specs.Answers.{program}
 use Rattle.tm_vm.proofs.Counted.{counted_needs}
 use Rattle.tm_vm.proofs.machine.Machine.do_apply.Goals as goal
 
 pub returns-in-Some : goal.returns-in-Some
 returns-in-Some g c =
-    let host = g.H.Host.meaning c.args.host.now in
+    let host = (g.H.Host.program c.args.host.now).host in
     let inside : Config = record { run = c.self.inside.run; captures = c.self.inside.captures; world = c.self.inside.state } in
-    counted_needs (program host (g.H.Host.code c.args.host.now)) (λ w vs. applied host c.args.application c.args.name.now vs w) c.args.count c.in-Some.count inside
+    counted_needs (g.H.Host.program c.args.host.now) (λ w vs. applied host c.args.application c.args.name.now vs w) c.args.count c.in-Some.count inside
     c.take_count.new.self c.in-Some.ensures.rest c.in-Some.ensures.counted c.args.self.now c.apply.new.self c.apply.result
     c.self.view_is c.apply.ensures

@@ -2,7 +2,6 @@ use Rattle.std.proofs.Common.{None, false, rules, sym, ◌∙◌}
 use Rattle.tm_meaning.specs.Instructions.{call_block_of}
 use Rattle.tm_meaning.specs.Machine.{Config}
 use Rattle.tm_meaning.specs.declared.run_text.RunText.TheVariants as texts
-use Rattle.tm_vm.specs.Answers.{program}
 use Rattle.tm_records.specs.declared.nested.NestedRun.{NestedRun}
 use Rattle.tm_records.specs.declared.nested.RunOf.TheVariants as run_of
 use Rattle.tm_records.specs.declared.saved.Saved.TheVariants as saved
@@ -14,7 +13,7 @@ returns-in-Err g c = search rules fits 100
 
 pub returns : goal.returns
 returns g c =
-    let p = program (g.H.Host.meaning c.args.host.now) (g.H.Host.code c.args.host.now) in
+    let p = g.H.Host.program c.args.host.now in
     let new : Config = record { run = c.advance-2.new.self; captures = c.self.inside.captures; world = c.enter_block.new.self } in
     let e : NestedRun = record {
       run = run_of.Stream c.in-Ok.entered.0;

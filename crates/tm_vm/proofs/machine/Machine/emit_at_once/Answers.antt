@@ -6,7 +6,7 @@ use Rattle.tm_vm.proofs.machine.Machine.emit_at_once.Goals as goal
 
 pub returns-clause-done : goal.returns-clause-done
 returns-clause-done g c =
-    let host = g.H.Host.meaning c.args.host.now in
+    let host = (g.H.Host.program c.args.host.now).host in
     let e = c.in-Some-emit_at_once.ensures (records_of c.self.inside.state) in
     let heard = sym (subst (λ (m : Config). true ≡ audible c.args.base.now m) (sym c.self.view_is) c.if-not-is_audible.ensures) in
     let fine = rw c.escape.ensures at e.1 in

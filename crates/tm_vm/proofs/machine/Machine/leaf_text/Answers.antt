@@ -2,7 +2,6 @@ use Rattle.std.proofs.Common.{◌≡◌, ◌≤◌, ◌+◌, ◌∙◌, ◌∷�
 use Rattle.tm_syntax.specs.Entries.{entries}
 use Rattle.tm_trees.specs.Instructions.{Instruction}
 use Rattle.tm_meaning.specs.Machine.{Config}
-use Rattle.tm_vm.specs.Answers.{program}
 use Rattle.tm_runs.specs.Leaves.{LeafRun, RunsOut, begun}
 use Rattle.tm_vm.specs.LeafCalls.{GivesText}
 use Rattle.tm_vm.proofs.Emitted.{no_formatter}
@@ -11,8 +10,8 @@ use Rattle.tm_vm.proofs.machine.Machine.leaf_text.Goals as goal
 
 pub returns-clause-gives : goal.returns-clause-gives
 returns-clause-gives g c =
-    let host = g.H.Host.meaning c.args.host.now in
-    let p = program host (g.H.Host.code c.args.host.now) in
+    let host = (g.H.Host.program c.args.host.now).host in
+    let p = g.H.Host.program c.args.host.now in
     let old : Config = record { run = c.self.inside.run; captures = c.self.inside.captures; world = c.self.inside.state } in
     let s = c.in-Some-plain_call.stream.now in
     let m = c.in-Some-macro_named.declared.now in

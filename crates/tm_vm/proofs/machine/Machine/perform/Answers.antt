@@ -1,4 +1,3 @@
-use Rattle.tm_vm.specs.Answers.{program}
 use Rattle.tm_vm.proofs.Performed.{loads, needed, opened, silent, wrote}
 use Rattle.tm_vm.proofs.machine.Machine.perform.Goals as goal
 
@@ -19,7 +18,7 @@ returns-in-BuildList g c = rw c.in-BuildList.is (silent c.do_build_list.result c
 
 pub returns-in-BuildMacro : goal.returns-in-BuildMacro
 returns-in-BuildMacro g c =
-    let p = program (g.H.Host.meaning c.args.host.now) (g.H.Host.code c.args.host.now) in
+    let p = g.H.Host.program c.args.host.now in
     rw c.in-BuildMacro.is (silent c.do_build_macro.result (c.do_build_macro.ensures p c.requires.its_code))
 
 pub returns-in-BuildMap : goal.returns-in-BuildMap

@@ -1,14 +1,13 @@
 use Rattle.std.proofs.Common.{◌<◌, ◌∙◌, length, ap, sym, arith, slice_get}
 use Rattle.std.proofs.lemmas.Bool.Decides.{nat_tests}
 use Rattle.tm_meaning.specs.Machine.{Config}
-use Rattle.tm_vm.specs.Answers.{program}
 use Rattle.tm_vm.proofs.Performed.{read_at, step_done}
 use Rattle.tm_vm.proofs.Weight.{paid_for}
 use Rattle.tm_vm.proofs.machine.Machine.step_by_method.Goals as goal
 
 pub returns-clause-paid : goal.returns-clause-paid
 returns-clause-paid g c =
-    let p = program (g.H.Host.meaning c.args.host.now) (g.H.Host.code c.args.host.now) in
+    let p = g.H.Host.program c.args.host.now in
     let found : c.place.result < length c.as_slice-instructions.result.now = grind (arith, nat_tests, sym c.in-Some.ensures.lookup.0) in
     let size = ap length c.as_slice-instructions.ensures in
     let within : c.args.self.now.run.place < length c.args.code.now = omega (arith, found, size, c.place.ensures) in
@@ -18,7 +17,7 @@ returns-clause-paid g c =
 
 pub returns-clause-performs : goal.returns-clause-performs
 returns-clause-performs g c =
-    let p = program (g.H.Host.meaning c.args.host.now) (g.H.Host.code c.args.host.now) in
+    let p = g.H.Host.program c.args.host.now in
     let a = c.args.self.now in
     let xs = c.as_slice-instructions.result.now in
     let there = read_at xs c.place.result c.in-Some.instruction.now c.in-Some.ensures.lookup.3.0 c.in-Some.ensures.lookup.3.1 in
