@@ -136,11 +136,11 @@ module _ {C M F R J : Type 0} where
 
 -- a render as the first state of a counter
 pub at_first : {P : Type 0} (stated : P → StatedObjects) (t : TemplateValue P) (context : Val) (id : ℕ) (r : Result (CapturedValue (StateValue P)) (List ErrorKind))
-    (told now : Option Text) (failures count : ℕ) → id ≡ 0 →
-    (id < greatest → Rendered t (meaning stated t id context) r told now failures count) →
-    Rendered t (meaning stated t 0 context) r told now failures count
-at_first stated t context id r told now failures count e rendered =
-    subst (λ n. Rendered t (meaning stated t n context) r told now failures count) e (rendered (omega (arith, e)))
+    (told now : Told) → id ≡ 0 →
+    (id < greatest → Rendered t (meaning stated t id context) r told now) →
+    Rendered t (meaning stated t 0 context) r told now
+at_first stated t context id r told now e rendered =
+    subst (λ n. Rendered t (meaning stated t n context) r told now) e (rendered (omega (arith, e)))
 
 pub keeps_same : (told : Option Text) → Keeps told told
 keeps_same None = tt

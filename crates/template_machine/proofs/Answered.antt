@@ -116,7 +116,7 @@ heard_inside (fault chain) out w = refl
 -- ---------------------------------------------------------------- runs
 -- A run of a template's code, over captures and a writer.
 module _ (p : Program) (trees : Trees) (compiled : IsCompiled trees p) (captures new : List Capture) (w left : World)
-    (told now : Option (List ℕ)) (failures count : ℕ) where
+    (told now : Told) where
   abbrev m : Outcome
   m = rendered p.host trees w
 
@@ -140,7 +140,7 @@ module _ (p : Program) (trees : Trees) (compiled : IsCompiled trees p) (captures
   written text same appended = subst (λ t. Appends told now t) same appended
 
   pub run_done : (us : List Val) → IsFresh captures → ComesTo (Finished us new left) → count ≡ failures →
-      Ran m (Ok new) left captures told now failures count
+      Ran m (Ok new) left captures told now
   run_done us fresh (text, appended, reaches) counted =
       let same = finished_is m.ending us captures new text m.text left m.world (one_end reaches (reached fresh)) in
       run_as_meant same.1 (written text same.0 appended) counted
@@ -159,7 +159,7 @@ module _ (p : Program) (trees : Trees) (compiled : IsCompiled trees p) (captures
   pub run_halted : (why : Halt) (put : World) → (is_cut why ≡ false → left ≡ put) → IsFresh captures → HaltsAs why left ComesTo →
       WroteBeginning p (base_of true captures w)
       (step p (base_of true captures w) (running (run_from w.stream (length captures)) captures w)) told now →
-      count ≡ failures_after {A = Unit {0}} (Err why) failures → Ran m (Err why) put captures told now failures count
+      count ≡ failures_after {A = Unit {0}} (Err why) failures → Ran m (Err why) put captures told now
   run_halted why put there fresh ends begun counted = by_halt why there ends counted
     where
       part : AppendsBeginning told now (put_out captures m.text)
@@ -167,16 +167,16 @@ module _ (p : Program) (trees : Trees) (compiled : IsCompiled trees p) (captures
 
       by_chain : (b : Bool) (chain : List ErrorKind) → is_want_of_memory chain ≡ b → (is_want_of_memory chain ≡ false → left ≡ put) →
           (is_want_of_memory chain ≡ false → ComesTo (Failed chain left)) → count ≡ failures →
-          Ran m (Err (halt.Fault chain)) put captures told now failures count
+          Ran m (Err (halt.Fault chain)) put captures told now
       by_chain true chain memory there ends counted = run_by_memory chain refl memory part counted
       by_chain false chain own there ends counted =
           let came = ends own in
           let same = failed_is m.ending captures came.0 m.text left m.world chain (one_end came.2 (reached fresh)) in
-          subst (λ x. Ran m (Err (halt.Fault chain)) x captures told now failures count) (there own)
+          subst (λ x. Ran m (Err (halt.Fault chain)) x captures told now) (there own)
           (run_as_meant same.1 (written came.0 same.0 came.1) counted)
 
       by_halt : (why : Halt) → (is_cut why ≡ false → left ≡ put) → HaltsAs why left ComesTo →
-          count ≡ failures_after {A = Unit {0}} (Err why) failures → Ran m (Err why) put captures told now failures count
+          count ≡ failures_after {A = Unit {0}} (Err why) failures → Ran m (Err why) put captures told now
       by_halt halt.Writer there ends counted = run_by_writer refl part counted
       by_halt halt.Stuck there (text, appended, reaches) counted = absurd
           (not_stuck m.ending captures text m.text left m.world (one_end reaches (reached fresh)))
@@ -184,9 +184,9 @@ module _ (p : Program) (trees : Trees) (compiled : IsCompiled trees p) (captures
 
 -- ---------------------------------------------------------------- what a run that failed is to its caller
 -- over no capture, into a writer
-module _ (m : Outcome) (left : World) (old : List Capture) (none : old ≡ []) (told now : Option (List ℕ)) (failures count : ℕ) where
+module _ (m : Outcome) (left : World) (old : List Capture) (none : old ≡ []) (told now : Told) where
   abbrev Came : Halt → Type 0
-  Came why = Ran m (Err why) left old told now failures count
+  Came why = Ran m (Err why) left old told now
 
   all_of_it : Appends told now (put_out old m.text) → Appends told now m.text
   all_of_it appended = subst (λ ks. Appends told now (put_out ks m.text)) none appended
@@ -194,7 +194,7 @@ module _ (m : Outcome) (left : World) (old : List Capture) (none : old ≡ []) (
   part_of_it : AppendsBeginning told now (put_out old m.text) → AppendsBeginning told now m.text
   part_of_it part = subst (λ ks. AppendsBeginning told now (put_out ks m.text)) none part
 
-  pub rendered_failed : {O : Type 0} (t : TemplateValue O) (why : Halt) → Came why → Rendered t m (Err (error_of why)) told now failures count
+  pub rendered_failed : {O : Type 0} (t : TemplateValue O) (why : Halt) → Came why → Rendered t m (Err (error_of why)) told now
   rendered_failed t halt.Writer (run_as_meant is appended counted) = absurd is
   rendered_failed t halt.Writer (run_by_writer is part counted) = by_writer refl (part_of_it part) counted
   rendered_failed t halt.Writer (run_by_memory chain is memory part counted) = absurd (cc is)
@@ -206,7 +206,7 @@ module _ (m : Outcome) (left : World) (old : List Capture) (none : old ≡ []) (
   rendered_failed t (halt.Fault kinds) (run_by_memory chain is memory part counted) =
       let kind : kinds ≡ chain = cc is in by_memory (ap is_want_of_memory kind ∙ memory) (part_of_it part) counted
 
-  pub written_failed : (why : Halt) → Came why → BlockWritten m (Err (error_of why)) left told now failures count
+  pub written_failed : (why : Halt) → Came why → BlockWritten m (Err (error_of why)) left told now
   written_failed halt.Writer (run_as_meant is appended counted) = absurd is
   written_failed halt.Writer (run_by_writer is part counted) = block_by_writer refl (part_of_it part) counted
   written_failed halt.Writer (run_by_memory chain is memory part counted) = absurd (cc is)
@@ -218,8 +218,8 @@ module _ (m : Outcome) (left : World) (old : List Capture) (none : old ≡ []) (
   written_failed (halt.Fault kinds) (run_by_memory chain is memory part counted) =
       let kind : kinds ≡ chain = cc is in block_by_memory (ap is_want_of_memory kind ∙ memory) (part_of_it part) counted
 
-  pub written_done : (new : List Capture) → Ran m (Ok new) left old told now failures count →
-      BlockWritten m (Ok tt) left told now failures count
+  pub written_done : (new : List Capture) → Ran m (Ok new) left old told now →
+      BlockWritten m (Ok tt) left told now
   written_done new (run_as_meant is appended counted) = block_as_meant is.0 (all_of_it appended) counted
   written_done new (run_by_writer is part counted) = absurd (cc is)
   written_done new (run_by_memory chain is memory part counted) = absurd (cc is)

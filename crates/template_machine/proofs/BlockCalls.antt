@@ -103,41 +103,41 @@ module _ (s : StreamId) (w : World) (run : Run) (o : Outcome) where
   is_after (Err (halt.Fault chain)) left old is =
       (fault_after o.ending chain is.0, world_after o.ending ∙ ap (undone c.undo) is.1)
 
-  ran_after : (result : Result (List Capture) Halt) (left : World) (old : List Capture) (told now : Option (List ℕ)) (failures count : ℕ) →
-      Ran o result left old told now failures count → Ran q result (undone c.undo left) old told now failures count
-  ran_after result left old told now failures count (run_as_meant is appended counted) =
+  ran_after : (result : Result (List Capture) Halt) (left : World) (old : List Capture) (told now : Told) →
+      Ran o result left old told now → Ran q result (undone c.undo left) old told now
+  ran_after result left old told now (run_as_meant is appended counted) =
       run_as_meant (is_after result left old is)
       (subst (λ t. Appends told now (put_out old t)) (sym (text_after o.ending)) appended) counted
-  ran_after result left old told now failures count (run_by_writer is part counted) =
+  ran_after result left old told now (run_by_writer is part counted) =
       run_by_writer is (subst (λ t. AppendsBeginning told now (put_out old t)) (sym (text_after o.ending)) part) counted
-  ran_after result left old told now failures count (run_by_memory chain is memory part counted) =
+  ran_after result left old told now (run_by_memory chain is memory part counted) =
       run_by_memory chain is memory (subst (λ t. AppendsBeginning told now (put_out old t)) (sym (text_after o.ending)) part) counted
 
 -- ---------------------------------------------------------------- of a state
 module _ {O : Type 0} (stated : O → StatedObjects) (t : TemplateValue O) (b : List ℕ) (w left : World) (old : List Capture)
-    (told now : Option (List ℕ)) (failures count : ℕ) where
+    (told now : Told) where
   abbrev m : Outcome
   m = block_meaning stated t b w
 
   abbrev Came : Result (List Capture) Halt → World → Type 0
-  Came result x = Ran m result x old told now failures count
+  Came result x = Ran m result x old told now
 
   pub block_ran : (s : SavedBlock) (mid : World) (result : Result (List Capture) Halt) (put : World) →
-      IsEntered (enter_block (host_of stated t) b w) s w mid → Ran (meaning_from stated t mid) result left old told now failures count →
+      IsEntered (enter_block (host_of stated t) b w) s w mid → Ran (meaning_from stated t mid) result left old told now →
       put ≡ after_block s left → Came result put
   block_ran s mid result put (same, (stream, asked), more, places) ran is =
       let o = meaning_from stated t mid in
       subst (λ x. Came result x) (undone_is (saved.Block s) w left same ∙ sym is)
-      (subst (λ x. Ran x result (undone (block_call stream w).undo left) old told now failures count)
+      (subst (λ x. Ran x result (undone (block_call stream w).undo left) old told now)
       (sym (block_is (host_of stated t) (trees t) b w stream mid asked))
-      (ran_after stream w (new_run true w) o result left old told now failures count ran))
+      (ran_after stream w (new_run true w) o result left old told now ran))
 
 -- a block that is refused
 refused_ran : {O : Type 0} (stated : O → StatedObjects) (t : TemplateValue O) (b : List ℕ) (w : World) (old : List Capture)
-    (told : Option (List ℕ)) (failures : ℕ) (chain : List ErrorKind) → enter_block (host_of stated t) b w ≡ refused chain w →
-    Ran (block_meaning stated t b w) (Err (halt.Fault chain)) w old told told failures failures
+    (told : Told) (chain : List ErrorKind) → enter_block (host_of stated t) b w ≡ refused chain w →
+    Ran (block_meaning stated t b w) (Err (halt.Fault chain)) w old told told
 refused_ran stated t b w old told failures chain is =
-    subst (λ m. Ran m (Err (halt.Fault chain)) w old told told failures failures)
+    subst (λ m. Ran m (Err (halt.Fault chain)) w old told told)
     (sym (refused_is (host_of stated t) (trees t) b w chain is))
     (run_as_meant (refl, refl) (nothing old) refl)
   where
@@ -146,15 +146,15 @@ refused_ran stated t b w old told failures chain is =
     nothing (k ∷ ks) = appends_nothing told
 
 pub block_refused : {O : Type 0} (stated : O → StatedObjects) (t : TemplateValue O) (b : List ℕ) (w left : World) (old : List Capture)
-    (told : Option (List ℕ)) (failures : ℕ) (chain : List ErrorKind) → left ≡ w →
+    (told : Told) (chain : List ErrorKind) → left ≡ w →
     (is_want_of_memory chain ≡ false → enter_block (host_of stated t) b w ≡ refused chain w) →
-    Ran (block_meaning stated t b w) (Err (halt.Fault chain)) left old told told failures failures
+    Ran (block_meaning stated t b w) (Err (halt.Fault chain)) left old told told
 block_refused stated t b w left old told failures chain same is =
-    subst (λ x. Ran (block_meaning stated t b w) (Err (halt.Fault chain)) x old told told failures failures) (sym same)
+    subst (λ x. Ran (block_meaning stated t b w) (Err (halt.Fault chain)) x old told told) (sym same)
     (by_kind (is_want_of_memory chain) refl)
   where
     by_kind : (memory : Bool) → is_want_of_memory chain ≡ memory →
-        Ran (block_meaning stated t b w) (Err (halt.Fault chain)) w old told told failures failures
+        Ran (block_meaning stated t b w) (Err (halt.Fault chain)) w old told told
     by_kind true e = run_by_memory chain refl e (beginning_nothing _ _) refl
     by_kind false e = refused_ran stated t b w old told failures chain (is e)
 
@@ -165,7 +165,7 @@ text_of (k ∷ ks) = k.text
 
 module _ (m : Outcome) (left : World) (told now : Option (List ℕ)) where
   pub text_done : (old new rest : List Capture) (heard : Bool) (text : List ℕ) (failures count : ℕ) → old ≡ new_capture true ∷ [] →
-      Ran m (Ok new) left old told now failures count →
+      Ran m (Ok new) left old told now →
       new ≡ record { heard = heard; text = text } ∷ rest → (text ≡ m.text) × (answer_of m ≡ Ok left)
   text_done old new rest heard text failures count one (run_as_meant is appended counted) there =
       (ap text_of (sym there ∙ is.1 ∙ ap (λ ks. put_in ks m.text) one), is.0)

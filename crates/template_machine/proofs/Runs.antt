@@ -25,7 +25,7 @@ use Rattle.template_machine.specs.Renders.{answer_of, is_cut, meaning, meaning_f
 use Rattle.template_machine.proofs.Answered.{run_answers, run_done, run_halted, run_leaves}
 
 module _ {O : Type 0} (stated : O → StatedObjects) (t : TemplateValue O) (captures new : List Capture) (w left : World)
-    (told now : Option (List ℕ)) (failures count : ℕ) (config : Config)
+    (told now : Told) (config : Config)
     (begins : config ≡ running (run_from w.stream (length captures)) captures w) (fresh : IsFresh captures) where
   abbrev p : Program
   p = program_of stated t
@@ -35,31 +35,31 @@ module _ {O : Type 0} (stated : O → StatedObjects) (t : TemplateValue O) (capt
 
   pub over_done : IsOfTrees t → (us : List Val) (kept : List Capture) (put : World) → new ≡ kept → left ≡ put →
       ReachesEnd p (base_of true config.captures config.world) config told now (Finished us new left) → count ≡ failures →
-      Ran m (Ok kept) put captures told now failures count
+      Ran m (Ok kept) put captures told now
   over_done of us kept put is there comes counted =
-      subst (λ ks. Ran m (Ok ks) put captures told now failures count) is
-      (subst (λ x. Ran m (Ok new) x captures told now failures count) there
-      (run_done p (trees t) (trees_code t of) captures new w left told now failures count us fresh
+      subst (λ ks. Ran m (Ok ks) put captures told now) is
+      (subst (λ x. Ran m (Ok new) x captures told now) there
+      (run_done p (trees t) (trees_code t of) captures new w left told now us fresh
       (subst (λ (c : Config). ReachesEnd p (base_of true c.captures c.world) c told now (Finished us new left)) begins comes) counted))
 
   pub over_leaves : IsOfTrees t → (us : List Val) →
       ReachesEnd p (base_of true config.captures config.world) config told now (Finished us new left) → us ≡ left_of m
   over_leaves of us comes =
-      run_leaves p (trees t) (trees_code t of) captures new w left told now failures count us fresh
+      run_leaves p (trees t) (trees_code t of) captures new w left told now us fresh
       (subst (λ (c : Config). ReachesEnd p (base_of true c.captures c.world) c told now (Finished us new left)) begins comes)
 
   pub over_answers : IsOfTrees t → (us : List Val) →
       ReachesEnd p (base_of true config.captures config.world) config told now (Finished us new left) → answer_of m ≡ Ok left
   over_answers of us comes =
-      run_answers p (trees t) (trees_code t of) captures new w left told now failures count us fresh
+      run_answers p (trees t) (trees_code t of) captures new w left told now us fresh
       (subst (λ (c : Config). ReachesEnd p (base_of true c.captures c.world) c told now (Finished us new left)) begins comes)
 
   pub over_halted : IsOfTrees t → (why : Halt) (put : World) → (is_cut why ≡ false → left ≡ put) →
       HaltsAs why left (ReachesEnd p (base_of true config.captures config.world) config told now) →
       WroteBeginning p (base_of true config.captures config.world) (step p (base_of true config.captures config.world) config) told now →
-      count ≡ failures_after {A = Unit {0}} (Err why) failures → Ran m (Err why) put captures told now failures count
+      count ≡ failures_after {A = Unit {0}} (Err why) failures → Ran m (Err why) put captures told now
   over_halted of why put there ends begun counted =
-      run_halted p (trees t) (trees_code t of) captures new w left told now failures count why put there fresh
+      run_halted p (trees t) (trees_code t of) captures new w left told now why put there fresh
       (subst (λ (c : Config). HaltsAs why left (ReachesEnd p (base_of true c.captures c.world) c told now)) begins ends)
       (subst (λ (c : Config). WroteBeginning p (base_of true c.captures c.world) (step p (base_of true c.captures c.world) c) told now)
       begins begun) counted

@@ -198,11 +198,11 @@ module _ {O : Type 0} (stated : O → StatedObjects) (t : TemplateValue O) where
 
 -- ---------------------------------------------------------------- blocks
 module _ {O : Type 0} (stated : O → StatedObjects) (s : StateValue O) (b : List ℕ) (new : World) where
-  pub block_streamed : (left : World) (old : List Capture) (told now : Option (List ℕ)) (failures count : ℕ) (kept : SavedBlock) (mid : World)
+  pub block_streamed : (left : World) (old : List Capture) (told now : Told) (kept : SavedBlock) (mid : World)
       (result : Result (List Capture) Halt) → IsEntered (block_asked stated s b) kept s.world mid →
-      StreamRan stated s.template mid result left old told now failures count → new ≡ after_block kept left →
-      BlockRan stated s b result new old told now failures count
-  block_streamed left old told now failures count kept mid result (same, (stream, asked), more, places) ran is =
+      StreamRan stated s.template mid result left old told now → new ≡ after_block kept left →
+      BlockRan stated s b result new old told now
+  block_streamed left old told now kept mid result (same, (stream, asked), more, places) ran is =
       block_ran (block_call stream s.world) mid left asked ran (is ∙ sym (undone_is (saved.Block kept) s.world left same))
 
   -- to a text
@@ -225,19 +225,19 @@ module _ {O : Type 0} (stated : O → StatedObjects) (s : StateValue O) (b : Lis
   block_text_none chain memory same = block_refused chain refl (λ own. absurd (cc (sym memory ∙ own))) same
 
   -- into a writer
-  module _ (old : List Capture) (none : old ≡ []) (told now : Option (List ℕ)) (failures count : ℕ) where
-    pub block_done : (captures : List Capture) (x : Unit {0}) → BlockRan stated s b (Ok captures) new old told now failures count →
-        BlockStreamed stated s b (Ok x) new told now failures count
+  module _ (old : List Capture) (none : old ≡ []) (told now : Told) where
+    pub block_done : (captures : List Capture) (x : Unit {0}) → BlockRan stated s b (Ok captures) new old told now →
+        BlockStreamed stated s b (Ok x) new told now
     block_done captures x (block_refused chain failed own same) = absurd (cc failed.0)
     block_done captures x (block_ran c w left asked ran undo) =
         block_ran c w left asked
-        (into_done stated s.template w left old none told now failures count (λ r. IsBlockDone r left) captures x
+        (into_done stated s.template w left old none told now (λ r. IsBlockDone r left) captures x
         (λ us Ends ends. (us, captures, ends)) ran) undo
 
-    pub block_failed : (why : Halt) → BlockRan stated s b (Err why) new old told now failures count →
-        BlockStreamed stated s b (Err (error_of why)) new told now failures count
+    pub block_failed : (why : Halt) → BlockRan stated s b (Err why) new old told now →
+        BlockStreamed stated s b (Err (error_of why)) new told now
     block_failed why (block_refused chain failed own same) =
         let e : why ≡ halt.Fault chain = cc failed.0 in block_refused chain (ap (λ x. Err (error_of x)) e, failed.1, failed.2) own same
     block_failed why (block_ran c w left asked ran undo) =
         block_ran c w left asked
-        (into_failed stated s.template w left old none told now failures count (λ r. IsBlockDone r left) (λ chain Ends ends. ends) why ran) undo
+        (into_failed stated s.template w left old none told now (λ r. IsBlockDone r left) (λ chain Ends ends. ends) why ran) undo

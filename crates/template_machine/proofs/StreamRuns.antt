@@ -45,7 +45,7 @@ module _ {O : Type 0} (t : TemplateValue O) (each : EachAccepted t.environment.t
 
 -- ---------------------------------------------------------------- a run
 module _ {O : Type 0} (stated : O → StatedObjects) (t : TemplateValue O) (accepted : (s : StreamId) → IsAccepted (code t s)) (captures : List Capture)
-    (w left : World) (sound : SoundRecords t w) (told now : Option (List ℕ)) (failures count : ℕ) (config : Config)
+    (w left : World) (sound : SoundRecords t w) (told now : Told) (config : Config)
     (at : config ≡ running (run_from w.stream (length captures)) captures w) where
   abbrev p : Program
   p = program_of stated t
@@ -57,7 +57,7 @@ module _ {O : Type 0} (stated : O → StatedObjects) (t : TemplateValue O) (acce
   from_start e comes = subst (λ c. From c e) at comes
 
   abbrev Came : Result (List Capture) Halt → Type 0
-  Came result = StreamRan stated t w result left captures told now failures count
+  Came result = StreamRan stated t w result left captures told now
 
   done_from : (us : List Val) (new : List Capture) → From (running (run_from w.stream (length captures)) captures w) (Finished us new left) →
       count ≡ failures → Came (Ok new)
@@ -74,10 +74,10 @@ module _ {O : Type 0} (stated : O → StatedObjects) (t : TemplateValue O) (acce
   stuck_from (text, appended, leads) = never stated t (whole w.stream) captures w refl sound accepted text left leads
 
   pub streams_done : (us : List Val) (new kept : List Capture) (put : World) → new ≡ kept → left ≡ put → From config (Finished us new left) →
-      count ≡ failures → StreamRan stated t w (Ok kept) put captures told now failures count
+      count ≡ failures → StreamRan stated t w (Ok kept) put captures told now
   streams_done us new kept put is there comes counted =
-      subst (λ ks. StreamRan stated t w (Ok ks) put captures told now failures count) is
-      (subst (λ x. StreamRan stated t w (Ok new) x captures told now failures count) there (run_done us new comes counted))
+      subst (λ ks. StreamRan stated t w (Ok ks) put captures told now) is
+      (subst (λ x. StreamRan stated t w (Ok new) x captures told now) there (run_done us new comes counted))
 
   ended_from : (us : List Val) (new : List Capture) → From (running (run_from w.stream (length captures)) captures w) (Finished us new left) →
       (text : List ℕ) × StreamEnds stated t captures w text (Finished us new left)
@@ -95,14 +95,14 @@ module _ {O : Type 0} (stated : O → StatedObjects) (t : TemplateValue O) (acce
   -- a run that was cut short may leave any world
   module _ (put : World) where
     abbrev Put : Result (List Capture) Halt → Type 0
-    Put result = StreamRan stated t w result put captures told now failures count
+    Put result = StreamRan stated t w result put captures told now
 
     by_chain : (b : Bool) (chain : List ErrorKind) → is_want_of_memory chain ≡ b → (is_want_of_memory chain ≡ false → left ≡ put) →
         StreamBegins stated t captures w told now → (is_want_of_memory chain ≡ false → From config (Failed chain left)) → count ≡ failures →
         Put (Err (halt.Fault chain))
     by_chain true chain memory there part ends counted = stream_by_memory chain refl memory part counted
     by_chain false chain own there part ends counted =
-        subst (λ x. StreamRan stated t w (Err (halt.Fault chain)) x captures told now failures count) (there own)
+        subst (λ x. StreamRan stated t w (Err (halt.Fault chain)) x captures told now) (there own)
         (failed_from chain (from_start (Failed chain left) (ends own)) counted)
 
     halted : (why : Halt) → (is_cut why ≡ false → left ≡ put) → HaltsAs why left (From config) → StreamBegins stated t captures w told now →
@@ -189,12 +189,12 @@ module _ {O : Type 0} (stated : O → StatedObjects) (t : TemplateValue O) (w le
 
 -- over no capture, into a writer
 module _ {O A : Type 0} (stated : O → StatedObjects) (t : TemplateValue O) (w left : World) (old : List Capture) (none : old ≡ [])
-    (told now : Option (List ℕ)) (failures count : ℕ) (Says : Result A (List ErrorKind) → (End → Type 0) → Type 0) where
+    (told now : Told) (Says : Result A (List ErrorKind) → (End → Type 0) → Type 0) where
   abbrev Comes : Result (List Capture) Halt → Type 0
-  Comes result = StreamRan stated t w result left old told now failures count
+  Comes result = StreamRan stated t w result left old told now
 
   abbrev Answers : Result A (List ErrorKind) → Type 0
-  Answers result = Streamed stated t w result (Says result) told now failures count
+  Answers result = Streamed stated t w result (Says result) told now
 
   part_of : StreamBegins stated t old w told now → StreamBegins stated t [] w told now
   part_of part = subst (λ ks. StreamBegins stated t ks w told now) none part

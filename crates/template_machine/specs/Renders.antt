@@ -26,7 +26,7 @@ use Rattle.tm_records.specs.declared.saved.Saved.TheVariants as saved
 use Rattle.tm_records.specs.declared.results.CallResult.{CallResult}
 use Rattle.tm_records.specs.declared.results.CallResult.TheVariants as outcome
 use Rattle.tm_records.specs.declared.saved.SavedBlock.{SavedBlock}
-use Rattle.tm_output.specs.Counts.{saturating_increment, AppendsBeginning}
+use Rattle.tm_output.specs.Counts.{AppendsBeginning, NoFailure, OneFailure, Told}
 use Rattle.tm_parts.specs.declared.halt.Halt.{Halt}
 use Rattle.tm_parts.specs.declared.halt.Halt.TheVariants as halt
 use Rattle.tm_templates.specs.Templates.{Compiled, IsRefused}
@@ -109,17 +109,16 @@ abbrev pub IsRenderedText : Result (String Global) (List ErrorKind) → Outcome 
 IsRenderedText (Ok text) m = (string_bytes text ≡ m.text) × (w : World) × (answer_of m ≡ Ok w)
 IsRenderedText (Err answer) m = answer_of m ≡ Err answer
 
--- How a render into a writer ended. The writer was given what stood in `told` before and `now` after, and its count of failures was
--- `failures` and is `count`.
+-- How a render into a writer ended, which was `told` before and is `now`.
 pub data Rendered {O : Type 0} (t : TemplateValue O) (m : Outcome) (result : Result (CapturedValue (StateValue O)) (List ErrorKind))
-    (told now : Option (List ℕ)) (failures count : ℕ) : Type 0 where
+    (told now : Told) : Type 0 where
   -- as was meant: the answer is the end that was meant, and the writer got the whole text
-  as_meant : IsEnd t result m → Appends told now m.text → count ≡ failures → Rendered t m result told now failures count
+  as_meant : IsEnd t result m → Appends told.bytes now.bytes m.text → NoFailure told now → Rendered t m result told now
   -- the writer failed, after a beginning of the text
-  by_writer : result ≡ Err (WriteFailure ∷ []) → AppendsBeginning told now m.text → count ≡ saturating_increment failures →
-      Rendered t m result told now failures count
+  by_writer : result ≡ Err (WriteFailure ∷ []) → AppendsBeginning told.bytes now.bytes m.text → OneFailure told now →
+      Rendered t m result told now
   -- no memory was found, after a beginning of the text
-  by_memory : IsMemory result → AppendsBeginning told now m.text → count ≡ failures → Rendered t m result told now failures count
+  by_memory : IsMemory result → AppendsBeginning told.bytes now.bytes m.text → NoFailure told now → Rendered t m result told now
 
 -- How a render to a text ended: as was meant, or since no memory was found.
 pub data RenderedText (m : Outcome) (result : Result (String Global) (List ErrorKind)) : Type 0 where
@@ -203,14 +202,13 @@ IsRun (Err (halt.Fault chain)) left old m = (answer_of m ≡ Err chain) × (m.wo
 IsRun (Err _) left old m = ⊥
 
 -- How a run over captures ended, in the same three ways.
-pub data Ran (m : Outcome) (result : Result (List Capture) Halt) (left : World) (old : List Capture) (told now : Option (List ℕ))
-    (failures count : ℕ) : Type 0 where
-  run_as_meant : IsRun result left old m → Appends told now (put_out old m.text) → count ≡ failures →
-      Ran m result left old told now failures count
-  run_by_writer : result ≡ Err halt.Writer → AppendsBeginning told now (put_out old m.text) → count ≡ saturating_increment failures →
-      Ran m result left old told now failures count
+pub data Ran (m : Outcome) (result : Result (List Capture) Halt) (left : World) (old : List Capture) (told now : Told) : Type 0 where
+  run_as_meant : IsRun result left old m → Appends told.bytes now.bytes (put_out old m.text) → NoFailure told now →
+      Ran m result left old told now
+  run_by_writer : result ≡ Err halt.Writer → AppendsBeginning told.bytes now.bytes (put_out old m.text) → OneFailure told now →
+      Ran m result left old told now
   run_by_memory : (chain : List ErrorKind) → result ≡ Err (halt.Fault chain) → is_want_of_memory chain ≡ true →
-      AppendsBeginning told now (put_out old m.text) → count ≡ failures → Ran m result left old told now failures count
+      AppendsBeginning told.bytes now.bytes (put_out old m.text) → NoFailure told now → Ran m result left old told now
 
 -- ---------------------------------------------------------------- blocks
 -- what the block of a name means that a state is asked for, from its world
@@ -228,14 +226,13 @@ IsBlockEnd (Ok x) left m = answer_of m ≡ Ok left
 IsBlockEnd (Err chain) left m = (answer_of m ≡ Err chain) × (m.world ≡ left)
 
 -- How a block's render into a writer ended, as `Rendered`.
-pub data BlockWritten (m : Outcome) (result : Result (Unit {0}) (List ErrorKind)) (left : World) (told now : Option (List ℕ))
-    (failures count : ℕ) : Type 0 where
-  block_as_meant : IsBlockEnd result left m → Appends told now m.text → count ≡ failures →
-      BlockWritten m result left told now failures count
-  block_by_writer : result ≡ Err (WriteFailure ∷ []) → AppendsBeginning told now m.text → count ≡ saturating_increment failures →
-      BlockWritten m result left told now failures count
-  block_by_memory : IsMemory result → AppendsBeginning told now m.text → count ≡ failures →
-      BlockWritten m result left told now failures count
+pub data BlockWritten (m : Outcome) (result : Result (Unit {0}) (List ErrorKind)) (left : World) (told now : Told) : Type 0 where
+  block_as_meant : IsBlockEnd result left m → Appends told.bytes now.bytes m.text → NoFailure told now →
+      BlockWritten m result left told now
+  block_by_writer : result ≡ Err (WriteFailure ∷ []) → AppendsBeginning told.bytes now.bytes m.text → OneFailure told now →
+      BlockWritten m result left told now
+  block_by_memory : IsMemory result → AppendsBeginning told.bytes now.bytes m.text → NoFailure told now →
+      BlockWritten m result left told now
 
 -- ---------------------------------------------------------------- expressions
 -- What an expression means, evaluated as the state of this number over this context value.
@@ -302,13 +299,13 @@ IsStreamRun (Err _) left Ends = ⊥
 
 -- How the run of a stream over captures ended: as its steps do, or since the writer failed or no memory was found.
 pub data StreamRan {O : Type 0} (stated : O → StatedObjects) (t : TemplateValue O) (w : World) (result : Result (List Capture) Halt)
-    (left : World) (captures : List Capture) (told now : Option (List ℕ)) (failures count : ℕ) : Type 0 where
-  stream_ran : (text : List ℕ) → IsStreamRun result left (StreamEnds stated t captures w text) → Appends told now text → count ≡ failures →
-      StreamRan stated t w result left captures told now failures count
-  stream_by_writer : result ≡ Err halt.Writer → StreamBegins stated t captures w told now → count ≡ saturating_increment failures →
-      StreamRan stated t w result left captures told now failures count
+    (left : World) (captures : List Capture) (told now : Told) : Type 0 where
+  stream_ran : (text : List ℕ) → IsStreamRun result left (StreamEnds stated t captures w text) → Appends told.bytes now.bytes text → NoFailure told now →
+      StreamRan stated t w result left captures told now
+  stream_by_writer : result ≡ Err halt.Writer → StreamBegins stated t captures w told.bytes now.bytes → OneFailure told now →
+      StreamRan stated t w result left captures told now
   stream_by_memory : (chain : List ErrorKind) → result ≡ Err (halt.Fault chain) → is_want_of_memory chain ≡ true →
-      StreamBegins stated t captures w told now → count ≡ failures → StreamRan stated t w result left captures told now failures count
+      StreamBegins stated t captures w told.bytes now.bytes → NoFailure told now → StreamRan stated t w result left captures told now
 
 -- The answer is the text in the capture at the end, or its fault.
 abbrev pub IsStreamText : Result (String Global) (List ErrorKind) → World → (End → Type 0) → Type 0
@@ -361,13 +358,13 @@ IsStreamEnd t (Err chain) Ends = (left : World) × Ends (Failed chain left)
 
 -- How the run of a stream into a writer ended, whose answer says this of an end: so, or since the writer failed or no memory was found.
 pub data Streamed {O A : Type 0} (stated : O → StatedObjects) (t : TemplateValue O) (w : World) (result : Result A (List ErrorKind))
-    (Says : (End → Type 0) → Type 0) (told now : Option (List ℕ)) (failures count : ℕ) : Type 0 where
-  streamed : (text : List ℕ) → Says (StreamEnds stated t [] w text) → Appends told now text → count ≡ failures →
-      Streamed stated t w result Says told now failures count
-  streamed_by_writer : result ≡ Err (WriteFailure ∷ []) → StreamBegins stated t [] w told now → count ≡ saturating_increment failures →
-      Streamed stated t w result Says told now failures count
-  streamed_by_memory : IsMemory result → StreamBegins stated t [] w told now → count ≡ failures →
-      Streamed stated t w result Says told now failures count
+    (Says : (End → Type 0) → Type 0) (told now : Told) : Type 0 where
+  streamed : (text : List ℕ) → Says (StreamEnds stated t [] w text) → Appends told.bytes now.bytes text → NoFailure told now →
+      Streamed stated t w result Says told now
+  streamed_by_writer : result ≡ Err (WriteFailure ∷ []) → StreamBegins stated t [] w told.bytes now.bytes → OneFailure told now →
+      Streamed stated t w result Says told now
+  streamed_by_memory : IsMemory result → StreamBegins stated t [] w told.bytes now.bytes → NoFailure told now →
+      Streamed stated t w result Says told now
 
 -- the one operand that an expression's stream leaves; where it leaves none or several, InvalidOperation
 abbrev pub value_at : List Val → World → Res Val
@@ -421,11 +418,11 @@ pub data BlockEnded (asked : Asked) (old new : World) (Fails : List ErrorKind �
 
 -- into captures and a writer
 abbrev pub BlockRan : {O : Type 0} → (O → StatedObjects) → StateValue O → List ℕ → Result (List Capture) Halt → World → List Capture →
-    Option (List ℕ) → Option (List ℕ) → ℕ → ℕ → Type 0
-BlockRan stated s b result new captures told now failures count =
+    Told → Told → Type 0
+BlockRan stated s b result new captures told now =
     BlockEnded (block_asked stated s b) s.world new
-    (λ chain. (result ≡ Err (halt.Fault chain)) × (now ≡ told) × (count ≡ failures))
-    (λ w left. StreamRan stated s.template w result left captures told now failures count)
+    (λ chain. (result ≡ Err (halt.Fault chain)) × (now ≡ told))
+    (λ w left. StreamRan stated s.template w result left captures told now)
 
 -- to a text
 abbrev pub BlockText : {O : Type 0} → (O → StatedObjects) → StateValue O → List ℕ → Result (String Global) (List ErrorKind) → World → Type 0
@@ -439,10 +436,10 @@ IsBlockDone (Err chain) left Ends = Ends (Failed chain left)
 
 -- into a writer
 abbrev pub BlockStreamed : {O : Type 0} → (O → StatedObjects) → StateValue O → List ℕ → Result (Unit {0}) (List ErrorKind) → World →
-    Option (List ℕ) → Option (List ℕ) → ℕ → ℕ → Type 0
-BlockStreamed stated s b result new told now failures count =
-    BlockEnded (block_asked stated s b) s.world new (λ chain. (result ≡ Err chain) × (now ≡ told) × (count ≡ failures))
-    (λ w left. Streamed stated s.template w result (IsBlockDone result left) told now failures count)
+    Told → Told → Type 0
+BlockStreamed stated s b result new told now =
+    BlockEnded (block_asked stated s b) s.world new (λ chain. (result ≡ Err chain) × (now ≡ told))
+    (λ w left. Streamed stated s.template w result (IsBlockDone result left) told now)
 
 -- ---------------------------------------------------------------- runs that are cut short
 -- Its writer failed, or no memory was found.

@@ -210,10 +210,10 @@ impl<O: Parties> Rendering<'_, O> {
         requires { IsFresh captures }
         ensures ran { IsOfTrees self.now →
             Ran (meaning_from O.stated self.now state.old) result state.new captures
-            (W.written writer.old) (W.written writer.new) (W.failures writer.old) (W.failures writer.new) }
+            (W.told writer.old) (W.told writer.new) }
         ensures streams { SoundRecords self.now state.old →
             StreamRan O.stated self.now state.old result state.new captures
-            (W.written writer.old) (W.written writer.new) (W.failures writer.old) (W.failures writer.new) }
+            (W.told writer.old) (W.told writer.new) }
         ensures sound { SoundRecords self.now state.old → SoundRecords self.now state.new }
         ensures closed { IfOk result (λ new. length new ≡ length captures) }
         ensures no_fewer { NoFewer state.old state.new }

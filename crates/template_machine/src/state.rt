@@ -290,9 +290,9 @@ impl<'env, O: Parties> StateOf<'env, O> {
     ) -> Result<(), Error>
         ensures rendered { IsOfTrees self.old.template → BlockWritten
             (block_meaning O.stated self.old.template name.now self.old.world) result self.new.world
-            (W.written writer.old) (W.written writer.new) (W.failures writer.old) (W.failures writer.new) }
+            (W.told writer.old) (W.told writer.new) }
         ensures streams { BlockStreamed O.stated self.old name.now result self.new.world
-            (W.written writer.old) (W.written writer.new) (W.failures writer.old) (W.failures writer.new) }
+            (W.told writer.old) (W.told writer.new) }
         ensures template { self.new.template ≡ self.old.template }
         ensures stays { StaysInPlace self.old.world self.new.world }
         ensures kept { KeepsFixed self.old.world self.new.world }
@@ -314,9 +314,9 @@ impl<'env, O: Parties> StateOf<'env, O> {
         ensures ran { IsOfTrees self.old.template →
             Ran (block_meaning O.stated self.old.template name.now self.old.world)
             result self.new.world captures
-            (W.written writer.old) (W.written writer.new) (W.failures writer.old) (W.failures writer.new) }
+            (W.told writer.old) (W.told writer.new) }
         ensures streams { BlockRan O.stated self.old name.now result self.new.world captures
-            (W.written writer.old) (W.written writer.new) (W.failures writer.old) (W.failures writer.new) }
+            (W.told writer.old) (W.told writer.new) }
         ensures closed { IfOk result (λ new. length new ≡ length captures) }
         ensures template { self.new.template ≡ self.old.template }
         ensures stays { StaysInPlace self.old.world self.new.world }

@@ -198,16 +198,15 @@ impl<'env, 'source, O: Parties> TemplateOf<'env, 'source, O> {
     ) -> Result<CapturedOf<StateOf<'_, O>>, Error>
         ensures full { ids.old ≡ greatest →
             (result ≡ Err (ErrorKind.InvalidOperation ∷ [])) × (ids.new ≡ ids.old)
-            × (W.written writer.new ≡ W.written writer.old)
-            × (W.failures writer.new ≡ W.failures writer.old) }
+            × (W.told writer.new ≡ W.told writer.old) }
         ensures next { ids.old < greatest → ids.new ≡ ids.old + 1 }
         ensures rendered { ids.old < greatest → IsOfTrees self.now →
             Rendered self.now (meaning O.stated self.now ids.old context) result
-            (W.written writer.old) (W.written writer.new) (W.failures writer.old) (W.failures writer.new) }
+            (W.told writer.old) (W.told writer.new) }
         ensures streams { ids.old < greatest →
             Streamed O.stated self.now (first O.stated self.now ids.old context) result
             (IsStreamEnd self.now result)
-            (W.written writer.old) (W.written writer.new) (W.failures writer.old) (W.failures writer.new) }
+            (W.told writer.old) (W.told writer.new) }
     {
         let mut first = self.first_state(ids, context)?;
         let alloc = self.environment.allocator();
@@ -270,10 +269,10 @@ impl<'env, 'source, O: Parties> TemplateOf<'env, 'source, O> {
         requires { IsFresh captures }
         ensures ran { IsOfTrees self.now →
             Ran (meaning_from O.stated self.now state.old) result state.new captures
-            (W.written writer.old) (W.written writer.new) (W.failures writer.old) (W.failures writer.new) }
+            (W.told writer.old) (W.told writer.new) }
         ensures streams { SoundRecords self.now state.old →
             StreamRan O.stated self.now state.old result state.new captures
-            (W.written writer.old) (W.written writer.new) (W.failures writer.old) (W.failures writer.new) }
+            (W.told writer.old) (W.told writer.new) }
         ensures sound { SoundRecords self.now state.old → SoundRecords self.now state.new }
         ensures closed { IfOk result (λ new. length new ≡ length captures) }
     {

@@ -1,6 +1,11 @@
 -- What writers take and how often they fail.
-use Rattle.std.specs.Prelude.{ℕ, ◌+◌, ◌-◌, ◌^◌, min, List, take, Result, Ok, Err, Option, zero, suc}
+use Rattle.std.specs.Prelude.{◌≡◌, ℕ, ◌+◌, ◌-◌, ◌^◌, min, List, take, Result, Ok, Err, Option, zero, suc}
 use Rattle.std.specs.Io.KnownBytes.{Appends}
+
+-- What a writer was given, if that is known, and how many of its calls failed or took nothing.
+pub record Told : Type 0 where
+  pub bytes : Option (List ℕ)
+  pub failures : ℕ
 
 -- A writer, and how many of its calls failed or took nothing.
 pub record Tally (W : Type 0) : Type 0 where
@@ -16,6 +21,13 @@ pub record Bounded (S : Type 0) : Type 0 where
 -- one more, but never more than a u64 holds
 abbrev pub saturating_increment : ℕ → ℕ
 saturating_increment n = min (n + 1) (2 ^ 64 - 1)
+
+-- no call failed, or one did
+abbrev pub NoFailure : Told → Told → Type 0
+NoFailure told now = now.failures ≡ told.failures
+
+abbrev pub OneFailure : Told → Told → Type 0
+OneFailure told now = now.failures ≡ saturating_increment told.failures
 
 -- the count after a write: one more where it failed or took nothing
 abbrev pub failure_count : {E : Type 0} → Result ℕ E → ℕ → ℕ

@@ -1,6 +1,7 @@
 -- The laws of strings and of writers as targets.
-use Rattle.std.proofs.Common.{ℕ, List, Option, Some, refl, sym, ◌∙◌, append-nil}
+use Rattle.std.proofs.Common.{ℕ, List, Some, refl, sym, ◌∙◌, append-nil}
 use Rattle.tm_output.specs.Pieces.{appends_then, appends_nothing, beginning_longer, appends_then_beginning}
+use Rattle.tm_output.specs.Counts.{Told}
 use Rattle.tm_output.specs.Targets.{Laws, StringGrows, StringGrowsInPart, WriterTakes, WriterTakesInPart}
 
 pub string_laws :
@@ -13,17 +14,16 @@ string_laws bytes = record {
 }
 
 pub writer_laws :
-    {S : Type 0} (told : S → Option (List ℕ)) (failures : S → ℕ)
-    → Laws (WriterTakes told failures) (WriterTakesInPart told failures)
-writer_laws told failures = record {
-  nothing = λ a. (appends_nothing (told a), refl);
+    {S : Type 0} (told : S → Told) → Laws (WriterTakes told) (WriterTakesInPart told)
+writer_laws told = record {
+  nothing = λ a. (appends_nothing (told a).bytes, refl);
   then_took = λ a b c s t first second. (
-    appends_then (told a) (told b) (told c) s t first.0 second.0,
+    appends_then (told a).bytes (told b).bytes (told c).bytes s t first.0 second.0,
     second.1 ∙ first.1,
   );
   then_stopped = λ a b c s t first second. (
-    appends_then_beginning (told a) (told b) (told c) s t first.0 second.0,
+    appends_then_beginning (told a).bytes (told b).bytes (told c).bytes s t first.0 second.0,
     rw first.1 at second.1,
   );
-  longer = λ a b s t part. (beginning_longer (told a) (told b) s t part.0, part.1);
+  longer = λ a b s t part. (beginning_longer (told a).bytes (told b).bytes s t part.0, part.1);
 }

@@ -1,7 +1,7 @@
 -- What becomes of a target that is given a text.
-use Rattle.std.specs.Prelude.{◌≡◌, ℕ, List, [], ◌++◌, take, Option, Result, MatchResult}
+use Rattle.std.specs.Prelude.{◌≡◌, ℕ, List, [], ◌++◌, take, Result, MatchResult}
 use Rattle.std.specs.Io.KnownBytes.{Appends}
-use Rattle.tm_output.specs.Counts.{saturating_increment, AppendsBeginning}
+use Rattle.tm_output.specs.Counts.{AppendsBeginning, NoFailure, OneFailure, Told}
 
 -- a target took the whole text where it answered Ok, and a beginning of it where it failed
 abbrev pub Takes :
@@ -34,19 +34,17 @@ abbrev pub StringGrowsInPart : {S : Type 0} → (S → List ℕ) → S → List 
 StringGrowsInPart bytes old text new = GrowsInPart (bytes old) text (bytes new)
 
 -- a writer was given the text, and no call failed
-abbrev pub IsToldWhole : Option (List ℕ) → ℕ → List ℕ → Option (List ℕ) → ℕ → Type 0
-IsToldWhole old failures text new count = Appends old new text × (count ≡ failures)
+abbrev pub IsToldWhole : Told → List ℕ → Told → Type 0
+IsToldWhole old text new = Appends old.bytes new.bytes text × NoFailure old new
 
 -- a writer was given a beginning of the text, and a call failed
-abbrev pub IsToldInPart : Option (List ℕ) → ℕ → List ℕ → Option (List ℕ) → ℕ → Type 0
-IsToldInPart old failures text new count = AppendsBeginning old new text × (count ≡ saturating_increment failures)
+abbrev pub IsToldInPart : Told → List ℕ → Told → Type 0
+IsToldInPart old text new =
+    AppendsBeginning old.bytes new.bytes text × OneFailure old new
 
--- the same of a writer, before and after, seen by what it was given and by its failures
-abbrev pub WriterTakes :
-    {S : Type 0} → (S → Option (List ℕ)) → (S → ℕ) → S → List ℕ → S → Type 0
-WriterTakes told failures old text new = IsToldWhole (told old) (failures old) text (told new) (failures new)
+-- the same of a writer, before and after, seen by what it was told
+abbrev pub WriterTakes : {S : Type 0} → (S → Told) → S → List ℕ → S → Type 0
+WriterTakes told old text new = IsToldWhole (told old) text (told new)
 
-abbrev pub WriterTakesInPart :
-    {S : Type 0} → (S → Option (List ℕ)) → (S → ℕ) → S → List ℕ → S → Type 0
-WriterTakesInPart told failures old text new =
-    IsToldInPart (told old) (failures old) text (told new) (failures new)
+abbrev pub WriterTakesInPart : {S : Type 0} → (S → Told) → S → List ℕ → S → Type 0
+WriterTakesInPart told old text new = IsToldInPart (told old) text (told new)

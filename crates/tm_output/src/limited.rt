@@ -77,10 +77,12 @@ impl<S: Sink + Drop> Limited<S> {
         requires some { 0 < length bytes.now }
         requires room { 0 < self.old.left }
         ensures bound { WritesAtMost result bytes.now }
-        ensures bytes { WriteAppends (S.written self.old.sink) (S.written self.new.sink) result bytes.now }
+        ensures bytes { WriteAppends (S.told self.old.sink).bytes (S.told self.new.sink).bytes
+            result bytes.now }
         ensures left { self.new.left ≡ left_after result self.old.left }
         ensures fits { IfOk result (λ taken. taken ≤ self.old.left) }
-        ensures sink { S.failures self.new.sink ≡ failure_count result (S.failures self.old.sink) }
+        ensures sink { (S.told self.new.sink).failures
+            ≡ failure_count result (S.told self.old.sink).failures }
         ensures failures { self.new.failures ≡ self.old.failures }
     {
         let fits = min(bytes.len(), self.left);
@@ -94,21 +96,23 @@ impl<S: Sink + Drop> Limited<S> {
 }
 
 impl<S: Sink + Drop> Sink for Limited<S> {
-    ghost written = { λ limited. S.written limited.sink };
-
-    ghost failures = { λ limited. limited.failures };
+    ghost told = { λ limited. record {
+      bytes = (S.told limited.sink).bytes;
+      failures = limited.failures;
+    } };
 
     /// Takes what the sink takes of the bytes that fit; StorageFull where no byte is left, and the
     /// sink's error where it fails.
     fn write(&mut self, bytes: &[u8]) -> io::Result<usize>
         requires { 0 < length bytes.now }
         ensures bound { WritesAtMost result bytes.now }
-        ensures bytes { WriteAppends (S.written self.old.sink) (S.written self.new.sink) result bytes.now }
+        ensures bytes { WriteAppends (S.told self.old.sink).bytes (S.told self.new.sink).bytes
+            result bytes.now }
         ensures failures { self.new.failures ≡ failure_count result self.old.failures }
         ensures left { self.new.left ≡ left_after result self.old.left }
         ensures fits { IfOk result (λ taken. taken ≤ self.old.left) }
         ensures sink { 0 < self.old.left →
-            S.failures self.new.sink ≡ failure_count result (S.failures self.old.sink) }
+            (S.told self.new.sink).failures ≡ failure_count result (S.told self.old.sink).failures }
         ensures full { self.old.left ≡ 0 → IsErr result × (self.new.sink ≡ self.old.sink) }
     {
         let answer = if self.left == 0 {

@@ -2,7 +2,7 @@
 ghost use Rattle.std.specs.Prelude.{◌≡◌, ◌<◌, ℕ, List, [], length, Option, None, Ok, IsOk, OnOk, OnErr};
 ghost use Rattle.std.specs.Io.{WritesAtMost};
 ghost use Rattle.std.specs.Io.KnownBytes.{Keeps, WriteAppends, Appends};
-ghost use Rattle.tm_output.specs.Counts.{failure_count, saturating_increment, AppendsBeginning};
+ghost use Rattle.tm_output.specs.Counts.{failure_count, AppendsBeginning, NoFailure, OneFailure, Told};
 
 use crate::target::TargetFailed;
 use std::io::{self, Write};
@@ -11,19 +11,17 @@ use tm_values::Error;
 
 /// A writer that tells its bytes, and how many of its calls failed or took nothing.
 pub trait Sink {
-    // The bytes that it was given so far, where they are known.
-    ghost written: { Self → Option (List ℕ) };
-
-    // How many of its calls failed or took nothing.
-    ghost failures: { Self → ℕ };
+    // The bytes that it was given so far, if they are known, and how many of its calls failed or took nothing.
+    ghost told: { Self → Told };
 
     /// Takes a beginning of the bytes, of which there is one at least, and says how long it is; the
     /// writer's error where it fails.
     fn write(&mut self, bytes: &[u8]) -> io::Result<usize>
         requires { 0 < length bytes.now }
         ensures bound { WritesAtMost result bytes.now }
-        ensures bytes { WriteAppends (written self.old) (written self.new) result bytes.now }
-        ensures failures { failures self.new ≡ failure_count result (failures self.old) };
+        ensures bytes { WriteAppends (told self.old).bytes (told self.new).bytes result bytes.now }
+        ensures failures { (told self.new).failures
+            ≡ failure_count result (told self.old).failures };
 }
 
 /// Any writer, with a count of its calls that failed or took nothing.
@@ -82,9 +80,10 @@ impl<W: Write + Drop> Counted<W> {
 }
 
 impl<W: Write + Drop> Sink for Counted<W> {
-    ghost written = { λ counted. W.contents counted.writer };
-
-    ghost failures = { λ counted. counted.failures };
+    ghost told = { λ counted. record {
+      bytes = W.contents counted.writer;
+      failures = counted.failures;
+    } };
 
     fn write(&mut self, bytes: &[u8]) -> io::Result<usize> {
         let answer = self.inner.write(bytes);
@@ -101,9 +100,7 @@ impl<W: Write + Drop> Sink for Counted<W> {
 pub struct NullWriter;
 
 impl Sink for NullWriter {
-    ghost written = { λ _. None };
-
-    ghost failures = { λ _. 0 };
+    ghost told = { λ _. record { bytes = None; failures = 0 } };
 
     /// Takes all of the bytes.
     fn write(&mut self, bytes: &[u8]) -> io::Result<usize>
@@ -131,10 +128,10 @@ impl NullWriter {
 /// handed on, which is faster.
 #[inline(always)]
 pub fn put_text<W: Sink>(sink: &mut W, text: &[u8]) -> Result<(), TargetFailed>
-    ensures written { OnOk result (Appends (W.written sink.old) (W.written sink.new) text.now) }
-    ensures no_fault { OnOk result (W.failures sink.new ≡ W.failures sink.old) }
-    ensures beginning { AppendsBeginning (W.written sink.old) (W.written sink.new) text.now }
-    ensures fault { OnErr result (W.failures sink.new ≡ saturating_increment (W.failures sink.old)) }
+    ensures written { OnOk result (Appends (W.told sink.old).bytes (W.told sink.new).bytes text.now) }
+    ensures no_fault { OnOk result (NoFailure (W.told sink.old) (W.told sink.new)) }
+    ensures beginning { AppendsBeginning (W.told sink.old).bytes (W.told sink.new).bytes text.now }
+    ensures fault { OnErr result (OneFailure (W.told sink.old) (W.told sink.new)) }
     ensures empty { text.now ≡ [] → IsOk result }
 {
     let mut done = 0;
@@ -155,10 +152,10 @@ pub fn put_text<W: Sink>(sink: &mut W, text: &[u8]) -> Result<(), TargetFailed>
 /// Writes a whole text, each byte once; any error of the writer, or WriteZero where it takes
 /// nothing, ends it.
 pub fn write_text<W: Sink>(sink: &mut W, text: &[u8]) -> Result<(), io::Error>
-    ensures written { OnOk result (Appends (W.written sink.old) (W.written sink.new) text.now) }
-    ensures no_fault { OnOk result (W.failures sink.new ≡ W.failures sink.old) }
-    ensures beginning { AppendsBeginning (W.written sink.old) (W.written sink.new) text.now }
-    ensures fault { OnErr result (W.failures sink.new ≡ saturating_increment (W.failures sink.old)) }
+    ensures written { OnOk result (Appends (W.told sink.old).bytes (W.told sink.new).bytes text.now) }
+    ensures no_fault { OnOk result (NoFailure (W.told sink.old) (W.told sink.new)) }
+    ensures beginning { AppendsBeginning (W.told sink.old).bytes (W.told sink.new).bytes text.now }
+    ensures fault { OnErr result (OneFailure (W.told sink.old) (W.told sink.new)) }
     ensures empty { text.now ≡ [] → IsOk result }
 {
     let mut done = 0;

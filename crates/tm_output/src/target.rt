@@ -54,15 +54,15 @@ impl Target for SharedText {
 
 impl<S: Sink> Target for S {
     ghost took = { λ old text new.
-        IsToldWhole (S.written old) (S.failures old) text (S.written new) (S.failures new) };
+        IsToldWhole (S.told old) text (S.told new) };
 
     ghost stopped = { λ old text new.
-        IsToldInPart (S.written old) (S.failures old) text (S.written new) (S.failures new) };
+        IsToldInPart (S.told old) text (S.told new) };
 
     /// Fails where the writer does, or takes nothing; a text without bytes makes no call.
     fn take_text(&mut self, text: &str) -> Result<(), TargetFailed> {
         put_text(self, text.as_bytes())
     }
 
-    ghost laws = { writer_laws S.written S.failures };
+    ghost laws = { writer_laws S.told };
 }

@@ -6,7 +6,7 @@ ghost use Rattle.std.specs.Io.KnownBytes.{Appends};
 ghost use Rattle.tm_values.specs.declared.error.ErrorKind.TheVariants.{WriteFailure, OutOfMemory};
 ghost use Rattle.tm_meaning.specs.Instructions.{is_heard};
 ghost use Rattle.tm_meaning.specs.Machine.{first_heard, new_capture, put_in, put_out};
-ghost use Rattle.tm_output.specs.Counts.{saturating_increment, AppendsBeginning};
+ghost use Rattle.tm_output.specs.Counts.{AppendsBeginning, NoFailure, OneFailure};
 ghost use Rattle.tm_definitions.specs.Emitted.{emitted_text};
 ghost use Rattle.tm_parts.specs.Halts.{failures_after, EmitHalts, PutHalts};
 ghost use Rattle.tm_parts.specs.Outgoing.{ended_value, IsPut, IsPutInPart};
@@ -158,13 +158,14 @@ impl Captures {
     /// captures stay as they were.
     pub fn write_str<W: Sink>(&mut self, writer: &mut W, text: &str) -> Result<(), Halt>
         ensures captured { OnOk result (self.new ≡ put_in self.old text.now) }
-        ensures written { OnOk result (Appends (W.written writer.old) (W.written writer.new)
+        ensures written { OnOk result (Appends (W.told writer.old).bytes (W.told writer.new).bytes
             (put_out self.old text.now)) }
-        ensures beginning { AppendsBeginning (W.written writer.old) (W.written writer.new)
+        ensures beginning { AppendsBeginning (W.told writer.old).bytes (W.told writer.new).bytes
             (put_out self.old text.now) }
         ensures halts { IfErr result (λ halt.
-            PutHalts halt self.old (W.written writer.old) (W.written writer.new)) }
-        ensures failures { W.failures writer.new ≡ failures_after result (W.failures writer.old) }
+            PutHalts halt self.old (W.told writer.old).bytes (W.told writer.new).bytes) }
+        ensures failures { (W.told writer.new).failures
+            ≡ failures_after result (W.told writer.old).failures }
         ensures unchanged { OnErr result (self.new ≡ self.old) }
         ensures empty { text.now ≡ [] → IsOk result }
     {
@@ -199,12 +200,13 @@ impl Captures {
     ) -> Result<(), Halt>
         ensures captured { OnOk result (self.new ≡ put_in self.old
             (emitted_text escape (R.records records.now) value.now)) }
-        ensures written { OnOk result (Appends (W.written writer.old) (W.written writer.new)
+        ensures written { OnOk result (Appends (W.told writer.old).bytes (W.told writer.new).bytes
             (put_out self.old (emitted_text escape (R.records records.now) value.now))) }
-        ensures beginning { AppendsBeginning (W.written writer.old) (W.written writer.new)
+        ensures beginning { AppendsBeginning (W.told writer.old).bytes (W.told writer.new).bytes
             (put_out self.old (emitted_text escape (R.records records.now) value.now)) }
         ensures halts { IfErr result (λ halt. EmitHalts halt self.old) }
-        ensures failures { W.failures writer.new ≡ failures_after result (W.failures writer.old) }
+        ensures failures { (W.told writer.new).failures
+            ≡ failures_after result (W.told writer.old).failures }
         ensures part { OnErr result ((n : ℕ) × (self.new ≡ put_in self.old
             (take n (emitted_text escape (R.records records.now) value.now)))) }
     {
@@ -304,18 +306,18 @@ impl<W: Sink> Output<W> {
     /// the writer fails or takes nothing, OutOfMemory where a capture finds no memory.
     pub fn write_str(&mut self, text: &str) -> Result<(), Error>
         ensures captured { OnOk result (self.new.captures ≡ put_in self.old.captures text.now) }
-        ensures written { OnOk result (Appends (W.written self.old.writer) (W.written self.new.writer)
+        ensures written { OnOk result (Appends
+            (W.told self.old.writer).bytes (W.told self.new.writer).bytes
             (put_out self.old.captures text.now)) }
-        ensures no_fault { OnOk result (W.failures self.new.writer ≡ W.failures self.old.writer) }
-        ensures beginning { AppendsBeginning (W.written self.old.writer) (W.written self.new.writer)
+        ensures no_fault { OnOk result (NoFailure (W.told self.old.writer) (W.told self.new.writer)) }
+        ensures beginning { AppendsBeginning (W.told self.old.writer).bytes (W.told self.new.writer).bytes
             (put_out self.old.captures text.now) }
         ensures kind { IfErr result (λ e. (e ≡ WriteFailure ∷ []) ⊎ (e ≡ OutOfMemory ∷ [])) }
         ensures unchanged { OnErr result (self.new.captures ≡ self.old.captures) }
         ensures failed { result ≡ Err (WriteFailure ∷ []) → (self.old.captures ≡ [])
-            × (W.failures self.new.writer ≡ saturating_increment (W.failures self.old.writer)) }
+            × OneFailure (W.told self.old.writer) (W.told self.new.writer) }
         ensures memory { result ≡ Err (OutOfMemory ∷ []) → (self.old.captures ≢ [])
-            × (W.written self.new.writer ≡ W.written self.old.writer)
-            × (W.failures self.new.writer ≡ W.failures self.old.writer) }
+            × (W.told self.new.writer ≡ W.told self.old.writer) }
         ensures empty { text.now ≡ [] → IsOk result }
     {
         Ok(self.captures.write_str(&mut self.writer, text)?)
@@ -396,12 +398,13 @@ impl<W: Sink> WriteWrapper<W> {
     /// Writes a text; WriteFailure where the writer fails or takes nothing, and its error is kept
     /// in `err`.
     pub fn write_str(&mut self, text: &str) -> Result<(), Error>
-        ensures written { OnOk result (Appends (W.written self.old.w) (W.written self.new.w) text.now) }
-        ensures no_fault { OnOk result (W.failures self.new.w ≡ W.failures self.old.w) }
+        ensures written { OnOk result
+            (Appends (W.told self.old.w).bytes (W.told self.new.w).bytes text.now) }
+        ensures no_fault { OnOk result (NoFailure (W.told self.old.w) (W.told self.new.w)) }
         ensures same_error { OnOk result (self.new.err ≡ self.old.err) }
         ensures kind { IfErr result (λ e. e ≡ WriteFailure ∷ []) }
-        ensures beginning { AppendsBeginning (W.written self.old.w) (W.written self.new.w) text.now }
-        ensures fault { OnErr result (W.failures self.new.w ≡ saturating_increment (W.failures self.old.w)) }
+        ensures beginning { AppendsBeginning (W.told self.old.w).bytes (W.told self.new.w).bytes text.now }
+        ensures fault { OnErr result (OneFailure (W.told self.old.w) (W.told self.new.w)) }
         ensures kept { OnErr result (IsSome self.new.err) }
         ensures empty { text.now ≡ [] → IsOk result }
     {

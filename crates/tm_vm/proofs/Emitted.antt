@@ -49,7 +49,7 @@ kept_in : (old new : Config) → new ≡ record old { run = record old.run { ope
 kept_in old new moved = subst (λ (w : World). KeepsFixedAndNames old.world w) (sym (ap (λ (c : Config). c.world) moved))
     (record { same_id = refl; same_fuel_set = refl; no_more_fuel = omega arith; same_loaded = refl })
 
-pub emitted_at_once : (told now : Option (List ℕ)) (failures count : ℕ) (host : HostValue) (f : Base) (old new : Config) (v : Val)
+pub emitted_at_once : (told now : Told) (host : HostValue) (f : Base) (old new : Config) (v : Val)
     (rest : List Val) (answer : Result (Unit {0}) TargetFailed) → old.captures ≡ [] → audible f old ≡ true →
     old.run.operands ≡ v ∷ rest → host.formatter ≡ None → refusal_of host.undefined Emission v ≡ None →
     emission_verdict old.world.escape (records_of old.world) v ≡ Ok tt →
@@ -57,8 +57,8 @@ pub emitted_at_once : (told now : Option (List ℕ)) (failures count : ℕ) (hos
     MatchResult answer
     (λ _. IsToldWhole told failures (emitted_text old.world.escape (records_of old.world) v) now count)
     (λ _. IsToldInPart told failures (emitted_text old.world.escape (records_of old.world) v) now count) →
-    Attempted (written_of answer) (emit_of host f) old new told now failures count
-emitted_at_once told now failures count host f old new v rest (Ok u) none heard top unformatted defined fine moved taken =
+    Attempted (written_of answer) (emit_of host f) old new told now
+emitted_at_once told now host f old new v rest (Ok u) none heard top unformatted defined fine moved taken =
     let c = paid old in
     let text = emitted_text old.world.escape (records_of old.world) v in
     let at = goes_on host f c new v rest text none heard top (emitted_known host v c.world unformatted defined fine) moved in
@@ -69,7 +69,7 @@ emitted_at_once told now failures count host f old new v rest (Ok u) none heard 
       same_standing = subst (λ (w : World). SameStanding c.world w) (sym (ap (λ (c : Config). c.world) moved)) (standing_same c.world);
       same_stream = ap (λ (c : Config). c.run.stream) moved;
     }
-emitted_at_once told now failures count host f old new v rest (Err e) none heard top unformatted defined fine moved taken =
+emitted_at_once told now host f old new v rest (Err e) none heard top unformatted defined fine moved taken =
     let c = paid old in
     let text = emitted_text old.world.escape (records_of old.world) v in
     let at = goes_on host f c new v rest text none heard top (emitted_known host v c.world unformatted defined fine) moved in

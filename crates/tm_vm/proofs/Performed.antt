@@ -50,9 +50,9 @@ same_names host {old = old} {new = new} kept =
     let same : names_left host new ≡ names_left host old = ap (λ ns. names_left host (record old { loaded = ns })) kept.same_loaded in
     omega (arith, same)
 
-pub silent : {p : Program} {f : Base} {n : Next} {old new : Config} {told : Option (List ℕ)} {failures : ℕ} (result : Result Flow Halt) →
+pub silent : {p : Program} {f : Base} {n : Next} {old new : Config} {told : Told} (result : Result Flow Halt) →
     Silently n old new result
-    → Performs p f n old new told told failures failures result
+    → Performs p f n old new told told result
 silent {p = p} {f = f} {n = n} {old = old} {new = new} {told = told} (Ok flow.GoOn) s =
     record {
       did = nothing_written told s.did;
@@ -89,9 +89,9 @@ pub still : {n : Next} {old new : Config} (result : Result Flow Halt) → Silent
 still {old = old} {new = new} result s =
     record { did = s.did; kept = s.kept; no_fewer = same_as_no_fewer old.world new.world s.same_standing; same_stream = s.same_stream }
 
-pub opened : {p : Program} {f : Base} {n : Next} {old new : Config} {told : Option (List ℕ)} {failures : ℕ} (result : Result Flow Halt) →
+pub opened : {p : Program} {f : Base} {n : Next} {old new : Config} {told : Told} (result : Result Flow Halt) →
     Opens n old new result
-    → Performs p f n old new told told failures failures result
+    → Performs p f n old new told told result
 opened {p = p} {f = f} {n = n} {old = old} {new = new} {told = told} (Ok flow.GoOn) s =
     record {
       did = nothing_written told s.did;
@@ -123,9 +123,9 @@ opened {p = p} {f = f} {n = n} {old = old} {new = new} {told = told} (Err (halt.
   same_stream = s.same_stream;
 }
 
-pub shifted : {p : Program} {f : Base} {n : Next} {old new : Config} {told : Option (List ℕ)} {failures : ℕ} (result : Result Flow Halt) →
+pub shifted : {p : Program} {f : Base} {n : Next} {old new : Config} {told : Told} (result : Result Flow Halt) →
     Shifts f n old new result
-    → Performs p f n old new told told failures failures result
+    → Performs p f n old new told told result
 shifted {p = p} {n = n} {told = told} (Ok flow.GoOn) s =
     record {
       did = nothing_written told s.did;
@@ -159,8 +159,8 @@ shifted {p = p} {n = n} {told = told} (Err (halt.Fault chain)) s =
       same_stream = s.same_stream;
     }
 
-pub wrote : {p : Program} {f : Base} {n : Next} {old new : Config} {told now : Option (List ℕ)} {failures count : ℕ} (result : Result Flow Halt)
-    → WritesNext n old new told now failures count result → Performs p f n old new told now failures count result
+pub wrote : {p : Program} {f : Base} {n : Next} {old new : Config} {told now : Told} (result : Result Flow Halt)
+    → WritesNext n old new told now result → Performs p f n old new told now result
 wrote {p = p} {f = f} {old = old} {new = new}
     (Ok flow.GoOn) s = record {
       did = s.did;
@@ -184,9 +184,9 @@ wrote {p = p} {f = f} {old = old} {new = new}
       same_stream = s.same_stream;
     }
 
-pub needed : {p : Program} {f : Base} {n : Next} {old new : Config} {told : Option (List ℕ)} {failures : ℕ} (result : Result Flow Halt) →
+pub needed : {p : Program} {f : Base} {n : Next} {old new : Config} {told : Told} (result : Result Flow Halt) →
     Needs p n old new result
-    → Performs p f n old new told told failures failures result
+    → Performs p f n old new told told result
 needed {p = p} {f = f} {old = old} {new = new} {told = told} (Ok flow.GoOn) s =
     record {
       did = nothing_written told s.did;
@@ -229,9 +229,9 @@ needed {p = p} {f = f} {n = n} {old = old} {new = new} {told = told} (Err (halt.
     }
 
 -- one that may load a template
-pub loads : {p : Program} {f : Base} {n : Next} {old new : Config} {told : Option (List ℕ)} {failures : ℕ} (result : Result Flow Halt) →
+pub loads : {p : Program} {f : Base} {n : Next} {old new : Config} {told : Told} (result : Result Flow Halt) →
     Loads p.host n old new result
-    → Performs p f n old new told told failures failures result
+    → Performs p f n old new told told result
 loads {f = f} {n = n} {old = old} {new = new} {told = told} (Ok flow.GoOn) s = record {
   did = nothing_written told s.did;
   counted = refl;
@@ -310,8 +310,8 @@ block_entered p f old x s e new w waits heard enters moved is =
     same_entry p e d old.world new is refl (call_block_of p f x old) (goes ∙ ap (entered p d old.world) (sym moved))
 
 -- one that was done at once or left, and writes nothing
-pub at_once : (n : Config → Next) (old new : Config) (told : Option (List ℕ)) (failures : ℕ) (done : Bool) → IsAtOnce done n old new →
-    Attempted (attempt_of done) n old new told told failures failures
+pub at_once : (n : Config → Next) (old new : Config) (told : Told) (done : Bool) → IsAtOnce done n old new →
+    Attempted (attempt_of done) n old new told told
 at_once n old new told failures true s = record {
   did = nothing_written told s.did;
   counted = refl;
@@ -322,8 +322,8 @@ at_once n old new told failures true s = record {
 at_once n old new told failures false same = (same, refl, refl)
 
 -- one that is free was done at once or left
-pub free_at_once : (n : Config → Next) (old new : Config) (told : Option (List ℕ)) (failures : ℕ) (done : Bool) → IsFree done n old new →
-    Attempted (free_attempt_of done) n old new told told failures failures
+pub free_at_once : (n : Config → Next) (old new : Config) (told : Told) (done : Bool) → IsFree done n old new →
+    Attempted (free_attempt_of done) n old new told told
 free_at_once n old new told failures true s = record {
   did = nothing_written told s.did;
   counted = refl;
@@ -357,10 +357,10 @@ pub ruleset charged = (of_charged, written_charged, captured_charged)
 pub ruleset attempts = (at_once, free_at_once, is_paid, of_charged)
 
 -- one that ends the run, or restarts it
-pub finished : {p : Program} {f : Base} {n : Next} {old new : Config} {told : Option (List ℕ)} {failures : ℕ} (result : Result Flow Halt) →
-    Finishes result f old new n → Performs p f n old new told told failures failures result
-finished {p = p} {f = f} {n = n} {old = old} {new = new} {told = told} {failures = failures} (Ok flow.Done) s =
-    subst (λ (c : Config). Performs p f n c new told told failures failures (Ok flow.Done)) s.2 (record {
+pub finished : {p : Program} {f : Base} {n : Next} {old new : Config} {told : Told} (result : Result Flow Halt) →
+    Finishes result f old new n → Performs p f n old new told told result
+finished {p = p} {f = f} {n = n} {old = old} {new = new} {told = told} (Ok flow.Done) s =
+    subst (λ (c : Config). Performs p f n c new told told (Ok flow.Done)) s.2 (record {
       did = (s.0, refl);
       counted = refl;
       kept = fixed_same new.world;
@@ -382,8 +382,8 @@ finished (Ok flow.GoOn) s = absurd s
 finished (Ok flow.Called) s = absurd s
 finished (Ok (flow.Enter e)) s = absurd s
 finished (Err halt.Writer) s = absurd s
-finished {p = p} {f = f} {n = n} {old = old} {new = new} {told = told} {failures = failures} (Err halt.Stuck) s =
-    subst (λ (c : Config). Performs p f n c new told told failures failures (Err halt.Stuck)) s.1 (record {
+finished {p = p} {f = f} {n = n} {old = old} {new = new} {told = told} (Err halt.Stuck) s =
+    subst (λ (c : Config). Performs p f n c new told told (Err halt.Stuck)) s.1 (record {
       did = (s.0, beginning_nothing told (output n));
       counted = refl;
       kept = fixed_same new.world;
@@ -391,8 +391,8 @@ finished {p = p} {f = f} {n = n} {old = old} {new = new} {told = told} {failures
       depths = stays f new.world new.world (standing_same new.world);
       same_stream = refl;
     })
-finished {p = p} {f = f} {n = n} {old = old} {new = new} {told = told} {failures = failures} (Err (halt.Fault chain)) s =
-    subst (λ (c : Config). Performs p f n c new told told failures failures (Err (halt.Fault chain))) s.1 (record {
+finished {p = p} {f = f} {n = n} {old = old} {new = new} {told = told} (Err (halt.Fault chain)) s =
+    subst (λ (c : Config). Performs p f n c new told told (Err (halt.Fault chain))) s.1 (record {
       did = ((λ own. absurd (let w : true ≡ false = sym s.0 ∙ own in cc w)), beginning_nothing told (output n));
       counted = refl;
       kept = fixed_same new.world;
@@ -432,12 +432,12 @@ names_paid host (Err why) left old new h = h
 abbrev paid_for : Config → ℕ → Config
 paid_for c left = record c { world = record c.world { fuel = left } }
 
-step_paid : {told now : Option (List ℕ)} {failures count : ℕ} (p : Program) (f : Base) (x : Instruction) (old new : Config)
+step_paid : {told now : Told} (p : Program) (f : Base) (x : Instruction) (old new : Config)
     (result : Result Flow Halt) (left : ℕ)
     → slice_get (p.code old.run.stream) old.run.place ≡ Some x → pay x old.world ≡ Good tt (paid_for old left).world →
     KeepsFixedAndNames old.world (paid_for old left).world
-    → Performs p f (effect p f x (paid_for old left)) (paid_for old left) new told now failures count result →
-    Performs p f (step p f old) old new told now failures count result
+    → Performs p f (effect p f x (paid_for old left)) (paid_for old left) new told now result →
+    Performs p f (step p f old) old new told now result
 step_paid {told = told} {now = now} p f x old new result left found paid kept h =
     let same : step p f old ≡ effect p f x (paid_for old left) =
     ap (λ i. act p f i old) found ∙ ap (λ r. after r (λ _ w. effect p f x (with_world w old))) paid in
@@ -451,16 +451,16 @@ step_paid {told = told} {now = now} p f x old new result left found paid kept h 
     }
 
 -- an instruction did its part, after its charge
-pub step_done : {told now : Option (List ℕ)} {failures count : ℕ} (p : Program) (f : Base) (x : Instruction)
+pub step_done : {told now : Told} (p : Program) (f : Base) (x : Instruction)
     (old mid new : Config) (result : Result Flow Halt)
     → slice_get (p.code old.run.stream) old.run.place ≡ Some x → pay x old.world ≡ Good tt mid.world → KeepsFixedAndNames old.world mid.world →
     mid ≡ record old { world = record old.world { fuel = mid.world.fuel } }
-    → Performs p f (effect p f x mid) mid new told now failures count result →
-    Performs p f (step p f old) old new told now failures count result
-step_done {told = told} {now = now} {failures = failures} {count = count} p f x old mid new result found paid kept rest h =
+    → Performs p f (effect p f x mid) mid new told now result →
+    Performs p f (step p f old) old new told now result
+step_done {told = told} {now = now} p f x old mid new result found paid kept rest h =
     step_paid p f x old new result mid.world.fuel found (paid
     ∙ ap (λ (c : Config). Good tt c.world) rest) (subst (λ (c : Config). KeepsFixedAndNames old.world c.world) rest kept)
-    (subst (λ (c : Config). Performs p f (effect p f x c) c new told now failures count result) rest h)
+    (subst (λ (c : Config). Performs p f (effect p f x c) c new told now result) rest h)
 
 -- what stands at a place of a list
 pub read_at : {A : Type 0} (xs : List A) (n : ℕ) (x : A) → n < length xs → ((d : A) → x ≡ get_or xs n d) → slice_get xs n ≡ Some x
@@ -473,28 +473,28 @@ paid_keeps : (w : World) → KeepsFixedAndNames w (record w { fuel = w.fuel - 1 
 paid_keeps w = record { same_id = refl; same_fuel_set = refl; no_more_fuel = omega arith; same_loaded = refl }
 
 -- the instruction at the place was paid for and did its part at once
-pub done_at_once : {told now : Option (List ℕ)} {failures count : ℕ} (p : Program) (f : Base) (x : Instruction)
+pub done_at_once : {told now : Told} (p : Program) (f : Base) (x : Instruction)
     (old new : Config) (result : Result Flow Halt)
     → slice_get (p.code old.run.stream) old.run.place ≡ Some x → charge_of x ≡ 1 → CanPay 1 old.world.fuel →
-    Performs p f (effect p f x (paid old)) (paid old) new told now failures count result →
-    Performs p f (step p f old) old new told now failures count result
+    Performs p f (effect p f x (paid old)) (paid old) new told now result →
+    Performs p f (step p f old) old new told now result
 done_at_once p f x old new result found one more h =
     step_done p f x old (paid old) new result found (pays_one x old.world one more) (paid_keeps old.world) refl h
 
 -- the instruction at the place is free and did its part at once
-pub done_free : {told now : Option (List ℕ)} {failures count : ℕ} (p : Program) (f : Base) (x : Instruction)
+pub done_free : {told now : Told} (p : Program) (f : Base) (x : Instruction)
     (old new : Config) (result : Result Flow Halt)
     → slice_get (p.code old.run.stream) old.run.place ≡ Some x → charge_of x ≡ 0 →
-    Performs p f (effect p f x old) old new told now failures count result →
-    Performs p f (step p f old) old new told now failures count result
+    Performs p f (effect p f x old) old new told now result →
+    Performs p f (step p f old) old new told now result
 done_free p f x old new result found free h =
     step_done p f x old old new result found (pays_nothing x old.world free) (kept_same old.world) refl h
 
 -- a step that is done after an attempt that left all as it was
 pub left : {p : Program} {f : Base} {now : Option (List ℕ)} {count : ℕ} {result : Result Flow Halt} (n : Config → Next) (old mid new : Config)
     (told between : Option (List ℕ)) (failures many : ℕ) → (mid ≡ old) × (between ≡ told) × (many ≡ failures) →
-    Performs p f (n mid) mid new between now many count result → Performs p f (n old) old new told now failures count result
-left {p = p} {f = f} {now = now} {count = count} {result = result} n old mid new told between failures many same h =
+    Performs p f (n mid) mid new between now result → Performs p f (n old) old new told now result
+left {p = p} {f = f} {now = now} {result = result} n old mid new told between same h =
     subst (λ (k : ℕ). Performs p f (n old) old new told now k count result) same.2
     (subst (λ (t : Option (List ℕ)). Performs p f (n old) old new t now many count result) same.1
-    (subst (λ (c : Config). Performs p f (n c) c new between now many count result) same.0 h))
+    (subst (λ (c : Config). Performs p f (n c) c new between now result) same.0 h))

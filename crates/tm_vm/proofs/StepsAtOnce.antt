@@ -19,22 +19,21 @@ left_of charge fuel one more = omega (arith, one, more)
 free_of : (charge fuel : ℕ) → charge ≡ 0 → fuel + charge ≡ fuel
 free_of charge fuel free = omega (arith, free)
 
-pub step_attempted : (size : ℕ) (p : Program) (f : Base) (x : Instruction) (old new : Config) (told now : Option (List ℕ))
-    (failures count : ℕ) (attempt : Attempt) → slice_get (p.code old.run.stream) old.run.place ≡ Some x → old.run.place < size →
-    IsPaid attempt x old.world.fuel → Attempted attempt (effect p f x) old new told now failures count →
-    StepAttempted attempt f p size old new told now failures count
-step_attempted size p f x old new told now failures count Done found within is_paid did = (
+pub step_attempted : (size : ℕ) (p : Program) (f : Base) (x : Instruction) (old new : Config) (told now : Told) (attempt : Attempt) → slice_get (p.code old.run.stream) old.run.place ≡ Some x → old.run.place < size →
+    IsPaid attempt x old.world.fuel → Attempted attempt (effect p f x) old new told now →
+    StepAttempted attempt f p size old new told now
+step_attempted size p f x old new told now Done found within is_paid did = (
   done_at_once p f x old new (Ok flow.GoOn) found is_paid.0 is_paid.1 (wrote (Ok flow.GoOn) did),
-  paid_for {f = f} {told = told} {now = now} {failures = failures} {count = count} size p x old (paid old) new
+  paid_for {f = f} {told = told} {now = now} size p x old (paid old) new
       (Ok flow.GoOn) (left_of (charge_of x) old.world.fuel is_paid.0 is_paid.1) refl refl within (wrote (Ok flow.GoOn) did),
 )
-step_attempted size p f x old new told now failures count DoneFree found within is_paid did = (
+step_attempted size p f x old new told now DoneFree found within is_paid did = (
   done_free p f x old new (Ok flow.GoOn) found is_paid (wrote (Ok flow.GoOn) did),
-  paid_for {f = f} {told = told} {now = now} {failures = failures} {count = count} size p x old old new
+  paid_for {f = f} {told = told} {now = now} size p x old old new
       (Ok flow.GoOn) (free_of (charge_of x) old.world.fuel is_paid) refl refl within (wrote (Ok flow.GoOn) did),
 )
-step_attempted size p f x old new told now failures count NoMemory found within is_paid did =
+step_attempted size p f x old new told now NoMemory found within is_paid did =
     done_at_once p f x old new (Err no_memory) found is_paid.0 is_paid.1 (wrote (Err no_memory) did)
-step_attempted size p f x old new told now failures count WriterFailed found within is_paid did =
+step_attempted size p f x old new told now WriterFailed found within is_paid did =
     done_at_once p f x old new (Err halt.Writer) found is_paid.0 is_paid.1 (wrote (Err halt.Writer) did)
-step_attempted size p f x old new told now failures count Left found within is_paid did = did
+step_attempted size p f x old new told now Left found within is_paid did = did

@@ -549,10 +549,10 @@ back_runs back (Finished vs ks w) new e = back_as back.value back.call.text back
 back_runs back (Failed chain w) new e = absurd (cc e)
 back_runs back (Stuck w) new e = absurd (cc e)
 
-pub paid_for : {f : Base} {told now : Option (List ℕ)} {failures count : ℕ} (size : ℕ) (p : Program) (x : Instruction)
+pub paid_for : {f : Base} {told now : Told} (size : ℕ) (p : Program) (x : Instruction)
     (old mid new : Config) (result : Result Flow Halt) →
     mid.world.fuel + charge_of x ≡ old.world.fuel → mid.run ≡ old.run → mid.world.loaded ≡ old.world.loaded → old.run.place < size →
-    Performs p f (effect p f x mid) mid new told now failures count result → Paid p size result old new
+    Performs p f (effect p f x mid) mid new told now result → Paid p size result old new
 paid_for {f = f} size p x old mid new (Ok flow.GoOn) paid same names within did = (
   went_on size (charge_of x) p f x old mid new _ refl paid same within did.kept.no_more_fuel did.did.0,
   no_more_parents p.host old mid new same names did.names (subst (λ n. Adds p.host (charge_of x) mid n) did.did.0 (adds p f x mid)).1,

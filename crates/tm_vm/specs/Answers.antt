@@ -3,7 +3,6 @@ use Rattle.std.specs.Prelude.{◌≡◌, ◌+◌, ◌<◌, ◌≤◌, ◌-◌, �
 use Rattle.std.specs.Prelude.{false, drop}
 use Rattle.std.specs.Io.KnownBytes.{Appends}
 use Rattle.tm_meaning.specs.Memory.{is_want_of_memory}
-use Rattle.tm_trees.specs.Instructions.{Instruction}
 use Rattle.tm_meaning.specs.World.{World, HostValue, Named, Scopes}
 use Rattle.tm_meaning.specs.Calls.{Asked, outermost}
 use Rattle.tm_meaning.specs.Machine.{Return, Activation, Capture, Config, End, Failed, Stuck, Next, More, Over, Restart, Nest, Program}
@@ -12,8 +11,7 @@ use Rattle.tm_records.specs.declared.results.Recursion.{Recursion}
 use Rattle.tm_meaning.specs.Instructions.{jump_if_true_or_pop_of, jump_if_false_or_pop_of}
 use Rattle.tm_meaning.specs.Steps.{Leads, final, step}
 use Rattle.tm_meaning.specs.declared.base.Base.{Base}
-use Rattle.tm_meaning.specs.declared.stream.StreamId.{StreamId}
-use Rattle.tm_output.specs.Counts.{AppendsBeginning}
+use Rattle.tm_output.specs.Counts.{AppendsBeginning, Told}
 use Rattle.tm_parts.specs.Halts.{failures_after}
 use Rattle.tm_parts.specs.declared.halt.Halt.{Halt}
 use Rattle.tm_parts.specs.declared.halt.Halt.TheVariants as halt
@@ -129,12 +127,11 @@ StaysIn _ old new = new.stream ≡ old.stream
 abbrev pub StaysRun : Activation → Activation → Type 0
 StaysRun old new = (new.stream ≡ old.stream) × (new.loops ≡ old.loops) × (new.parent ≡ old.parent)
 
--- An instruction, or a step, did what its definition says: by its answer, with the writer that had got `told` and has got `now`, and whose
--- count of failures was `failures` and is `count`.
-pub record Performs (p : Program) (f : Base) (n : Next) (old new : Config) (told now : Option (List ℕ)) (failures count : ℕ)
+-- An instruction, or a step, did what its definition says: by its answer, with the writer that was `told` before and is `now`.
+pub record Performs (p : Program) (f : Base) (n : Next) (old new : Config) (told now : Told)
     (result : Result Flow Halt) : Type 0 where
-  pub did : Did p result told now new n
-  pub counted : count ≡ failures_after result failures
+  pub did : Did p result told.bytes now.bytes new n
+  pub counted : now.failures ≡ failures_after result told.failures
   pub kept : KeepsFixed old.world new.world
   pub names : Names p.host result old.world new.world
   pub depths : Depths p.host.limit f result old.world new.world
@@ -188,9 +185,9 @@ Wrote (Ok flow.Restart) told now c n = ⊥
 Wrote (Ok (flow.Enter e)) told now c n = ⊥
 Wrote (Err why) told now c n = HaltsAs why c.world (λ e. n ≡ Over e) × AppendsBeginning told now (output n)
 
-pub record WritesNext (n : Next) (old new : Config) (told now : Option (List ℕ)) (failures count : ℕ) (result : Result Flow Halt) : Type 0 where
-  pub did : Wrote result told now new n
-  pub counted : count ≡ failures_after result failures
+pub record WritesNext (n : Next) (old new : Config) (told now : Told) (result : Result Flow Halt) : Type 0 where
+  pub did : Wrote result told.bytes now.bytes new n
+  pub counted : now.failures ≡ failures_after result told.failures
   pub kept : KeepsFixedAndNames old.world new.world
   pub same_standing : SameStanding old.world new.world
   pub same_stream : new.run.stream ≡ old.run.stream

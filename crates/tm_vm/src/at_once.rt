@@ -222,8 +222,7 @@ impl Machine {
         requires in_place { CanGoOn self.old.run }
         requires can_pay { CanPay 1 self.old.world.fuel }
         ensures done { Attempted result (emit_raw_of base.now text.now) self.old self.new
-            (W.written writer.old) (W.written writer.new)
-            (W.failures writer.old) (W.failures writer.new) }
+            (W.told writer.old) (W.told writer.new) }
         ensures charged { IsCharged result }
     {
         if !self.captures.is_empty() || !self.is_audible(base) {
@@ -267,8 +266,7 @@ impl Machine {
         requires in_place { CanGoOn self.old.run }
         requires can_pay { CanPay 1 self.old.world.fuel }
         ensures done { Attempted result (emit_of (H.program host.now).host base.now) self.old self.new
-            (W.written writer.old) (W.written writer.new)
-            (W.failures writer.old) (W.failures writer.new) }
+            (W.told writer.old) (W.told writer.new) }
         ensures charged { IsCharged result }
     {
         if host.objects().has_formatter() {
@@ -305,8 +303,7 @@ impl Machine {
         ensures done { Attempted result
             (effect (H.program host.now) base.now instruction.now)
             self.old self.new
-            (W.written writer.old) (W.written writer.new)
-            (W.failures writer.old) (W.failures writer.new) }
+            (W.told writer.old) (W.told writer.new) }
         ensures paid { IsPaid result instruction.now self.old.world.fuel }
     {
         if !self.state.can_pay() {

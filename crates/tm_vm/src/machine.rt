@@ -173,12 +173,13 @@ impl Machine {
     ) -> Result<(), Halt>
         requires { StandsOn entry.value.saved self.old.world }
         ensures ran { RanNested (H.program host.now) entry.value
-            self.old self.new (W.written writer.old) (W.written writer.new) result }
+            self.old self.new (W.told writer.old).bytes (W.told writer.new).bytes result }
         ensures beginning { WroteBeginning (H.program host.now)
             (base_in entry.value self.old)
             (begins_in (H.program host.now) entry.value self.old)
-            (W.written writer.old) (W.written writer.new) }
-        ensures failures { W.failures writer.new ≡ failures_after result (W.failures writer.old) }
+            (W.told writer.old).bytes (W.told writer.new).bytes }
+        ensures failures { (W.told writer.new).failures
+            ≡ failures_after result (W.told writer.old).failures }
         ensures kept { KeepsFixed self.old.world self.new.world }
         ensures names { names_left (H.program host.now).host self.new.world
             ≤ names_left (H.program host.now).host self.old.world }
@@ -297,13 +298,14 @@ impl Machine {
         ensures ended { EndsAs result self.new
             (ReachesEnd (H.program host.now)
             (base_of heard self.old.captures self.old.world) self.old
-            (W.written writer.old) (W.written writer.new)) }
+            (W.told writer.old).bytes (W.told writer.new).bytes) }
         ensures beginning { WroteBeginning (H.program host.now)
             (base_of heard self.old.captures self.old.world)
             (step (H.program host.now)
             (base_of heard self.old.captures self.old.world) self.old)
-            (W.written writer.old) (W.written writer.new) }
-        ensures failures { W.failures writer.new ≡ failures_after result (W.failures writer.old) }
+            (W.told writer.old).bytes (W.told writer.new).bytes }
+        ensures failures { (W.told writer.new).failures
+            ≡ failures_after result (W.told writer.old).failures }
         ensures kept { KeepsFixed self.old.world self.new.world }
         ensures names { names_left (H.program host.now).host self.new.world
             ≤ names_left (H.program host.now).host self.old.world }

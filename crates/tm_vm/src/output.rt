@@ -24,8 +24,7 @@ impl Machine {
         writer: &mut W,
     ) -> Result<Flow, Halt>
         ensures { WritesNext (writes base.now text.now self.old) self.old self.new
-            (W.written writer.old) (W.written writer.new)
-            (W.failures writer.old) (W.failures writer.new) result }
+            (W.told writer.old) (W.told writer.new) result }
     {
         if !self.is_audible(base) {
             return Ok(Flow::GoOn);
@@ -43,8 +42,7 @@ impl Machine {
     ) -> Result<Flow, Halt>
         ensures { WritesNext (writes base.now (emitted_text self.old.world.escape
             (records_of self.old.world) value.now) self.old) self.old self.new
-            (W.written writer.old) (W.written writer.new)
-            (W.failures writer.old) (W.failures writer.new) result }
+            (W.told writer.old) (W.told writer.new) result }
     {
         if !self.is_audible(base) {
             return Ok(Flow::GoOn);
@@ -63,8 +61,7 @@ impl Machine {
     ) -> Result<Flow, Halt>
         requires { CanGoOn self.old.run }
         ensures { WritesNext (emit_raw_of base.now text.now self.old) self.old self.new
-            (W.written writer.old) (W.written writer.new)
-            (W.failures writer.old) (W.failures writer.new) result }
+            (W.told writer.old) (W.told writer.new) result }
     {
         self.run.advance();
         self.write_text(base, text.as_str(), writer)
@@ -80,8 +77,7 @@ impl Machine {
     ) -> Result<Flow, Halt>
         requires { CanGoOn self.old.run }
         ensures { WritesNext (emit_of (H.program host.now).host base.now self.old) self.old self.new
-            (W.written writer.old) (W.written writer.new)
-            (W.failures writer.old) (W.failures writer.new) result }
+            (W.told writer.old) (W.told writer.new) result }
     {
         if host.objects().has_formatter() {
             return self.emit_formatted(alloc, host, base, writer);
@@ -105,8 +101,7 @@ impl Machine {
     ) -> Result<Flow, Halt>
         requires { CanGoOn self.old.run }
         ensures { WritesNext (emit_of (H.program host.now).host base.now self.old) self.old self.new
-            (W.written writer.old) (W.written writer.new)
-            (W.failures writer.old) (W.failures writer.new) result }
+            (W.told writer.old) (W.told writer.new) result }
     {
         let Some(value) = self.run.pop() else {
             return Err(Halt::Stuck);

@@ -38,8 +38,7 @@ impl Machine {
             (effect (H.program host.now) base.now instruction.now
             self.old)
             self.old self.new
-            (W.written writer.old) (W.written writer.new)
-            (W.failures writer.old) (W.failures writer.new) result }
+            (W.told writer.old) (W.told writer.new) result }
     {
         match instruction {
             Instruction::EmitRaw(text) => self.do_emit_raw(base, text, writer),
@@ -218,8 +217,7 @@ impl Machine {
         requires { code.now ≡ (H.program host.now).code self.old.run.stream }
         ensures performs { Performs (H.program host.now) base.now
             (step (H.program host.now) base.now self.old)
-            self.old self.new (W.written writer.old) (W.written writer.new)
-            (W.failures writer.old) (W.failures writer.new) result }
+            self.old self.new (W.told writer.old) (W.told writer.new) result }
         ensures paid { Paid (H.program host.now)
             (length code.now) result self.old self.new }
     {
@@ -245,8 +243,7 @@ impl Machine {
         requires { code.now ≡ (H.program host.now).code self.old.run.stream }
         ensures { StepAttempted result base.now (H.program host.now)
             (length code.now) self.old self.new
-            (W.written writer.old) (W.written writer.new)
-            (W.failures writer.old) (W.failures writer.new) }
+            (W.told writer.old) (W.told writer.new) }
     {
         match code.as_slice().get(self.place()) {
             Some(instruction) => self.attempt(host, base, instruction, writer),
@@ -267,8 +264,7 @@ impl Machine {
         requires { code.now ≡ (H.program host.now).code self.old.run.stream }
         ensures performs { Performs (H.program host.now) base.now
             (step (H.program host.now) base.now self.old)
-            self.old self.new (W.written writer.old) (W.written writer.new)
-            (W.failures writer.old) (W.failures writer.new) result }
+            self.old self.new (W.told writer.old) (W.told writer.new) result }
         ensures paid { Paid (H.program host.now)
             (length code.now) result self.old self.new }
     {

@@ -5,8 +5,8 @@ use Rattle.tm_output.proofs.sink.put_text.Given as goal
 abbrev pub invariant-loop-done : goal.invariant-loop-done
 invariant-loop-done g l =
     (l.done ≤ length l.text)
-    × Appends (g.W.Sink.written l.initial.sink) (g.W.Sink.written l.sink) (take l.done l.text)
-    × (g.W.Sink.failures l.sink ≡ g.W.Sink.failures l.initial.sink)
+    × Appends (g.W.Sink.told l.initial.sink).bytes (g.W.Sink.told l.sink).bytes (take l.done l.text)
+    × ((g.W.Sink.told l.sink).failures ≡ (g.W.Sink.told l.initial.sink).failures)
 
 abbrev pub decreases-loop-done : goal.decreases-loop-done
 decreases-loop-done g l = length l.text - l.done

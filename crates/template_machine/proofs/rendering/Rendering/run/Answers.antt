@@ -20,8 +20,7 @@ returns-in-Ok-result-clause-ran g c = λ of.
     c.new-machine.ensures ∙ ap (λ s. running (run_from s (length ks)) ks c.take.result) (c.in-Ok.ensures ∙ c.stream.ensures)
     ∙ ap (λ w. running (run_from old.stream (length ks)) ks w) c.take.ensures.taken in
     let left : Config = c.run-result.new.self in
-    over_done g.O.Parties.stated c.args.self.now ks left.captures old left.world (g.W.Sink.written c.args.writer.now)
-    (g.W.Sink.written c.run-result.new.writer) (g.W.Sink.failures c.args.writer.now) (g.W.Sink.failures c.run-result.new.writer)
+    over_done g.O.Parties.stated c.args.self.now ks left.captures old left.world (g.W.Sink.told c.args.writer.now) (g.W.Sink.told c.run-result.new.writer)
     c.new-machine.result begins c.requires of left.run.operands c.into_parts-captures.result.0 c.into_parts-captures.result.1
     (sym c.into_parts-captures.ensures.captures) (sym c.into_parts-captures.ensures.state) c.in-Ok-result.ensures.ended
     c.in-Ok-result.ensures.failures
@@ -38,11 +37,9 @@ returns-in-Err-result-clause-ran g c = λ of.
     let put = c.halted.new.state in
     let is : put ≡ forgetting (is_cut why) left.world =
     c.halted.ensures.state ∙ ap (forgetting (is_cut why)) c.into_parts-captures.ensures.state in
-    subst (λ x. Ran (meaning_from g.O.Parties.stated c.args.self.now old) (Err x) put ks (g.W.Sink.written c.args.writer.now)
-    (g.W.Sink.written c.run-result.new.writer) (g.W.Sink.failures c.args.writer.now) (g.W.Sink.failures c.run-result.new.writer))
+    subst (λ x. Ran (meaning_from g.O.Parties.stated c.args.self.now old) (Err x) put ks (g.W.Sink.told c.args.writer.now) (g.W.Sink.told c.run-result.new.writer))
     (sym c.halted.ensures.same)
-    (over_halted g.O.Parties.stated c.args.self.now ks left.captures old left.world (g.W.Sink.written c.args.writer.now)
-    (g.W.Sink.written c.run-result.new.writer) (g.W.Sink.failures c.args.writer.now) (g.W.Sink.failures c.run-result.new.writer)
+    (over_halted g.O.Parties.stated c.args.self.now ks left.captures old left.world (g.W.Sink.told c.args.writer.now) (g.W.Sink.told c.run-result.new.writer)
     c.new-machine.result begins c.requires of why put (left_as (is_cut why) left.world put is)
     c.in-Err-result.ensures.ended c.in-Err-result.ensures.beginning c.in-Err-result.ensures.failures)
 
@@ -55,8 +52,7 @@ returns-in-Ok-result-clause-closed g c =
     ∙ ap (λ w. running (run_from old.stream (length ks)) ks w) c.take.ensures.taken in
     let left : Config = c.run-result.new.self in
     ap length c.into_parts-captures.ensures.captures
-    ∙ over_closed g.O.Parties.stated c.args.self.now ks left.captures old left.world (g.W.Sink.written c.args.writer.now)
-    (g.W.Sink.written c.run-result.new.writer) (g.W.Sink.failures c.args.writer.now) (g.W.Sink.failures c.run-result.new.writer)
+    ∙ over_closed g.O.Parties.stated c.args.self.now ks left.captures old left.world (g.W.Sink.told c.args.writer.now) (g.W.Sink.told c.run-result.new.writer)
     c.new-machine.result begins c.requires left.run.operands c.in-Ok-result.ensures.ended
 
 -- ---------------------------------------------------------------- of streams
@@ -72,8 +68,7 @@ returns-in-Ok-result-clause-streams g c = λ sound.
     c.new-machine.ensures ∙ ap (λ s. running (run_from s (length ks)) ks c.take.result) (c.in-Ok.ensures ∙ c.stream.ensures)
     ∙ ap (λ w. running (run_from old.stream (length ks)) ks w) c.take.ensures.taken in
     let left : Config = c.run-result.new.self in
-    streams_done g.O.Parties.stated c.args.self.now c.accepted.ensures ks old left.world sound (g.W.Sink.written c.args.writer.now)
-    (g.W.Sink.written c.run-result.new.writer) (g.W.Sink.failures c.args.writer.now) (g.W.Sink.failures c.run-result.new.writer)
+    streams_done g.O.Parties.stated c.args.self.now c.accepted.ensures ks old left.world sound (g.W.Sink.told c.args.writer.now) (g.W.Sink.told c.run-result.new.writer)
     c.new-machine.result begins left.run.operands left.captures c.into_parts-captures.result.0 c.into_parts-captures.result.1
     (sym c.into_parts-captures.ensures.captures) (sym c.into_parts-captures.ensures.state) c.in-Ok-result.ensures.ended
     c.in-Ok-result.ensures.failures
@@ -90,11 +85,9 @@ returns-in-Err-result-clause-streams g c = λ sound.
     let put = c.halted.new.state in
     let is : put ≡ forgetting (is_cut why) left.world =
     c.halted.ensures.state ∙ ap (forgetting (is_cut why)) c.into_parts-captures.ensures.state in
-    subst (λ x. StreamRan g.O.Parties.stated c.args.self.now old (Err x) put ks (g.W.Sink.written c.args.writer.now)
-    (g.W.Sink.written c.run-result.new.writer) (g.W.Sink.failures c.args.writer.now) (g.W.Sink.failures c.run-result.new.writer))
+    subst (λ x. StreamRan g.O.Parties.stated c.args.self.now old (Err x) put ks (g.W.Sink.told c.args.writer.now) (g.W.Sink.told c.run-result.new.writer))
     (sym c.halted.ensures.same)
-    (streams_halted g.O.Parties.stated c.args.self.now c.accepted.ensures ks old left.world sound (g.W.Sink.written c.args.writer.now)
-    (g.W.Sink.written c.run-result.new.writer) (g.W.Sink.failures c.args.writer.now) (g.W.Sink.failures c.run-result.new.writer)
+    (streams_halted g.O.Parties.stated c.args.self.now c.accepted.ensures ks old left.world sound (g.W.Sink.told c.args.writer.now) (g.W.Sink.told c.run-result.new.writer)
     c.new-machine.result begins put why (left_as (is_cut why) left.world put is)
     c.in-Err-result.ensures.ended c.in-Err-result.ensures.beginning c.in-Err-result.ensures.failures)
 
@@ -107,8 +100,7 @@ returns-in-Ok-result-clause-sound g c = λ sound.
     c.new-machine.ensures ∙ ap (λ s. running (run_from s (length ks)) ks c.take.result) (c.in-Ok.ensures ∙ c.stream.ensures)
     ∙ ap (λ w. running (run_from old.stream (length ks)) ks w) c.take.ensures.taken in
     let left : Config = c.run-result.new.self in
-    sound_done g.O.Parties.stated c.args.self.now c.accepted.ensures ks old left.world sound (g.W.Sink.written c.args.writer.now)
-    (g.W.Sink.written c.run-result.new.writer) (g.W.Sink.failures c.args.writer.now) (g.W.Sink.failures c.run-result.new.writer)
+    sound_done g.O.Parties.stated c.args.self.now c.accepted.ensures ks old left.world sound (g.W.Sink.told c.args.writer.now) (g.W.Sink.told c.run-result.new.writer)
     c.new-machine.result begins left.run.operands left.captures c.into_parts-captures.result.1 (sym c.into_parts-captures.ensures.state)
     c.in-Ok-result.ensures.ended
 
@@ -121,7 +113,6 @@ returns-in-Err-result-clause-sound g c = λ sound.
     ∙ ap (λ w. running (run_from old.stream (length ks)) ks w) c.take.ensures.taken in
     let left : Config = c.run-result.new.self in
     let why = c.in-Err-result.halt in
-    sound_halted g.O.Parties.stated c.args.self.now c.accepted.ensures ks old left.world sound (g.W.Sink.written c.args.writer.now)
-    (g.W.Sink.written c.run-result.new.writer) (g.W.Sink.failures c.args.writer.now) (g.W.Sink.failures c.run-result.new.writer)
+    sound_halted g.O.Parties.stated c.args.self.now c.accepted.ensures ks old left.world sound (g.W.Sink.told c.args.writer.now) (g.W.Sink.told c.run-result.new.writer)
     c.new-machine.result begins why c.halted.new.state
     (c.halted.ensures.state ∙ ap (forgetting (is_cut why)) c.into_parts-captures.ensures.state) c.in-Err-result.ensures.ended

@@ -12,49 +12,47 @@ pub returns-in_err-_captures-clause-rendered : goal.returns-in_err-_captures-cla
 returns-in_err-_captures-clause-rendered g c = λ h of.
     let t = c.args.self.now in
     let why = c.in_err-_captures.field-0.0 in
-    let told = g.W.Sink.written c.args.writer.now in
-    let now = g.W.Sink.written c.run_over.new.writer in
-    let failures = g.W.Sink.failures c.args.writer.now in
-    let count = g.W.Sink.failures c.run_over.new.writer in
+    let told = (g.W.Sink.told c.args.writer.now).bytes in
+    let now = (g.W.Sink.told c.run_over.new.writer).bytes in
+    let failures = (g.W.Sink.told c.args.writer.now).failures in
+    let count = (g.W.Sink.told c.run_over.new.writer).failures in
     let Came : Result (CapturedValue (StateValue g.row.O.Denot)) (List ErrorKind) → World → Type 0 =
-    λ r w. Rendered t (meaning_from g.O.Parties.stated t w) r told now failures count in
+    λ r w. Rendered t (meaning_from g.O.Parties.stated t w) r told now in
     let came : Came c.from_residual-in_err-_captures.result c.in_ok-first.first =
     passed c.from_residual-in_err-_captures.result (λ r. Came r c.in_ok-first.first) (error_of why) c.from_residual-in_err-_captures.ensures.1
-    (rendered_failed (meaning_from g.O.Parties.stated t c.in_ok-first.first) c.run_over.new.state c.new.result c.new.ensures told now failures
-    count t why (c.in_err-_captures.ensures.ran of)) in
+    (rendered_failed (meaning_from g.O.Parties.stated t c.in_ok-first.first) c.run_over.new.state c.new.result c.new.ensures told now t why (c.in_err-_captures.ensures.ran of)) in
     subst (Came c.from_residual-in_err-_captures.result) c.in_ok-first.ensures.state came
 
 pub returns-in_err-_captures-clause-streams : goal.returns-in_err-_captures-clause-streams
 returns-in_err-_captures-clause-streams g c = λ h.
     let t = c.args.self.now in
     let why = c.in_err-_captures.field-0.0 in
-    let told = g.W.Sink.written c.args.writer.now in
-    let now = g.W.Sink.written c.run_over.new.writer in
-    let failures = g.W.Sink.failures c.args.writer.now in
-    let count = g.W.Sink.failures c.run_over.new.writer in
+    let told = (g.W.Sink.told c.args.writer.now).bytes in
+    let now = (g.W.Sink.told c.run_over.new.writer).bytes in
+    let failures = (g.W.Sink.told c.args.writer.now).failures in
+    let count = (g.W.Sink.told c.run_over.new.writer).failures in
     let Came : Result (CapturedValue (StateValue g.row.O.Denot)) (List ErrorKind) → World → Type 0 =
-    λ r w. Streamed g.O.Parties.stated t w r (IsStreamEnd t r) told now failures count in
+    λ r w. Streamed g.O.Parties.stated t w r (IsStreamEnd t r) told now in
     let sound : SoundRecords t c.in_ok-first.first =
     subst (λ (w : World). SoundRecords t w) (sym c.in_ok-first.ensures.state) (λ shapes all. tt) in
     let came : Came c.from_residual-in_err-_captures.result c.in_ok-first.first =
     passed c.from_residual-in_err-_captures.result (λ r. Came r c.in_ok-first.first) (error_of why) c.from_residual-in_err-_captures.ensures.1
-    (into_failed g.O.Parties.stated t c.in_ok-first.first c.run_over.new.state c.new.result c.new.ensures told now failures count
+    (into_failed g.O.Parties.stated t c.in_ok-first.first c.run_over.new.state c.new.result c.new.ensures told now
     (IsStreamEnd t) (λ chain Ends ends. (c.run_over.new.state, ends)) why (c.in_err-_captures.ensures.streams sound)) in
     subst (Came c.from_residual-in_err-_captures.result) c.in_ok-first.ensures.state came
 
 pub returns-clause-streams : goal.returns-clause-streams
 returns-clause-streams g c = λ h.
     let t = c.args.self.now in
-    let told = g.W.Sink.written c.args.writer.now in
-    let now = g.W.Sink.written c.run_over.new.writer in
-    let failures = g.W.Sink.failures c.args.writer.now in
-    let count = g.W.Sink.failures c.run_over.new.writer in
+    let told = (g.W.Sink.told c.args.writer.now).bytes in
+    let now = (g.W.Sink.told c.run_over.new.writer).bytes in
+    let failures = (g.W.Sink.told c.args.writer.now).failures in
+    let count = (g.W.Sink.told c.run_over.new.writer).failures in
     let Captured : Type 0 = CapturedValue (StateValue g.row.O.Denot) in
     let sound : SoundRecords t c.in_ok-first.first =
     subst (λ (w : World). SoundRecords t w) (sym c.in_ok-first.ensures.state) (λ shapes all. tt) in
-    subst (λ (w : World). Streamed g.O.Parties.stated t w (Ok c.new-4.result) (IsStreamEnd t (Ok c.new-4.result)) told now failures
-    count) c.in_ok-first.ensures.state
-    (into_done g.O.Parties.stated t c.in_ok-first.first c.run_over.new.state c.new.result c.new.ensures told now failures count (IsStreamEnd t)
+    subst (λ (w : World). Streamed g.O.Parties.stated t w (Ok c.new-4.result) (IsStreamEnd t (Ok c.new-4.result)) told now) c.in_ok-first.ensures.state
+    (into_done g.O.Parties.stated t c.in_ok-first.first c.run_over.new.state c.new.result c.new.ensures told now (IsStreamEnd t)
     c.in_ok-_captures._captures c.new-4.result
     (state_ended t c.rendering.result c.run_over.new.state c.in_ok-_captures._captures c.new-3.result c.new-4.result c.rendering.ensures.same
     c.new-3.ensures (ap (λ (x : Captured). x.output) c.new-4.ensures ∙ c.new-2.ensures.bytes) (ap (λ (x : Captured). x.state) c.new-4.ensures))

@@ -3,7 +3,7 @@ use Rattle.std.proofs.lemmas.List.{append-nil, reverse-append}
 use Rattle.std.specs.Io.KnownBytes.{Appends}
 use Rattle.tm_meaning.specs.Instructions.{is_heard}
 use Rattle.tm_meaning.specs.Machine.{Capture, put_in, put_out}
-use Rattle.tm_output.specs.Counts.{AppendsBeginning}
+use Rattle.tm_output.specs.Counts.{AppendsBeginning, Told}
 use Rattle.tm_output.specs.Pieces.{appends_beginning}
 use Rattle.tm_output.specs.Targets.{StringGrows, StringGrowsInPart, WriterTakes, WriterTakesInPart}
 use Rattle.tm_printing.specs.Left.{Writes}
@@ -22,11 +22,11 @@ outside : (captures : List Capture) (told now : Option (List ℕ)) (text : List 
 outside captures told now text is h = subst (λ (c : List Capture). AppendsBeginning told now (put_out c text)) (sym is) h
 
 -- a writer that wasn't given the text to its end was given a beginning, whatever the reason
-told_part : {S : Type 0} (told : S → Option (List ℕ)) (failures : S → ℕ) (e : Unwritten) (before after : S) (text : List ℕ)
-    → Writes {U = Unit {0}} (WriterTakes told failures) (WriterTakesInPart told failures) (Err e) before text after
-    → AppendsBeginning (told before) (told after) text
-told_part told failures unwritten.Target before after text h = h.0
-told_part told failures unwritten.Memory before after text h = (h.0, h.1.0)
+told_part : {S : Type 0} (told : S → Told) (e : Unwritten) (before after : S) (text : List ℕ)
+    → Writes {U = Unit {0}} (WriterTakes told) (WriterTakesInPart told) (Err e) before text after
+    → AppendsBeginning (told before).bytes (told after).bytes text
+told_part told unwritten.Target before after text h = h.0
+told_part told unwritten.Memory before after text h = (h.0, h.1.0)
 
 pub returns-in_default-clause-beginning : goal.returns-in_default-clause-beginning
 returns-in_default-clause-beginning g c =
@@ -34,9 +34,9 @@ returns-in_default-clause-beginning g c =
     elim c.match-emit.branch [
       | in-Ok w ↦ outside c.args.self.now _ _ _ none (whole _ _ _ w.in-Ok.ensures.0)
       | in-Err-Target w ↦ outside c.args.self.now _ _ _ none
-          (told_part g.W.Sink.written g.W.Sink.failures w.in-Err-Target.field-0 _ _ _ w.in-Err-Target.ensures)
+          (told_part g.W.Sink.told w.in-Err-Target.field-0 _ _ _ w.in-Err-Target.ensures)
       | in-Err-Memory w ↦ outside c.args.self.now _ _ _ none
-          (told_part g.W.Sink.written g.W.Sink.failures w.in-Err-Memory.field-0 _ _ _ w.in-Err-Memory.ensures)
+          (told_part g.W.Sink.told w.in-Err-Memory.field-0 _ _ _ w.in-Err-Memory.ensures)
     ]
 
 -- a capture whose text grew, above the others as they were

@@ -26,7 +26,7 @@ run-streams-init g t c =
       kept = fixed_same a.world;
       names = omega arith;
       no_fewer = no_fewer_same a.world;
-      stands = stands_first p (base_of c.args.heard a.captures a.world) a (g.W.Sink.written c.args.writer.now);
+      stands = stands_first p (base_of c.args.heard a.captures a.world) a (g.W.Sink.told c.args.writer.now).bytes;
     }
 
 pub run-steps-init : goal.run-steps-init
@@ -47,8 +47,8 @@ pub run-steps-preserved-in-Ok-GoOn : goal.run-steps-preserved-in-Ok-GoOn
 run-steps-preserved-in-Ok-GoOn g t c =
     let p = g.H.Host.program c.args.host.now in
     let a = c.args.self.now in
-    let now = g.W.Sink.written c.steps.writer in
-    let new = g.W.Sink.written c.step.new.writer in
+    let now = (g.W.Sink.told c.steps.writer).bytes in
+    let new = (g.W.Sink.told c.step.new.writer).bytes in
     let step = rw c.in-Ok-GoOn.field-0-is at c.in-Ok-GoOn.ensures.performs in
     let paid = rw c.in-Ok-GoOn.field-0-is at c.in-Ok-GoOn.ensures.paid in
     let did = at_base p c.steps.self c.step.new.self now new (Ok flow.GoOn) c.base-base.result
@@ -70,8 +70,8 @@ pub run-steps-preserved-in-Ok-Called : goal.run-steps-preserved-in-Ok-Called
 run-steps-preserved-in-Ok-Called g t c =
     let p = g.H.Host.program c.args.host.now in
     let a = c.args.self.now in
-    let now = g.W.Sink.written c.steps.writer in
-    let new = g.W.Sink.written c.step.new.writer in
+    let now = (g.W.Sink.told c.steps.writer).bytes in
+    let new = (g.W.Sink.told c.step.new.writer).bytes in
     let step = rw c.in-Ok-Called.field-0-is at c.in-Ok-Called.ensures.performs in
     let paid = rw c.in-Ok-Called.field-0-is at c.in-Ok-Called.ensures.paid in
     let did = at_base p c.steps.self c.step.new.self now new (Ok flow.Called) c.base-base.result
@@ -106,9 +106,9 @@ pub run-returns-in-Err-run_nested-clause-ended : goal.run-returns-in-Err-run_nes
 run-returns-in-Err-run_nested-clause-ended g t c =
     let p = g.H.Host.program c.args.host.now in
     let a = c.args.self.now in
-    let now = g.W.Sink.written c.steps.writer in
-    let at = g.W.Sink.written c.step.new.writer in
-    let new = g.W.Sink.written c.run_nested.new.writer in
+    let now = (g.W.Sink.told c.steps.writer).bytes in
+    let at = (g.W.Sink.told c.step.new.writer).bytes in
+    let new = (g.W.Sink.told c.run_nested.new.writer).bytes in
     let e = c.in-Ok-Enter.entry.value in
     let step = rw c.in-Ok-Enter.field-0-is at c.in-Ok-Enter.ensures.performs in
     let did = at_base p c.steps.self c.step.new.self now at (Ok (flow.Enter c.in-Ok-Enter.entry)) c.base-base.result
@@ -121,9 +121,9 @@ pub run-returns-in-Err-run_nested-clause-beginning : goal.run-returns-in-Err-run
 run-returns-in-Err-run_nested-clause-beginning g t c =
     let p = g.H.Host.program c.args.host.now in
     let a = c.args.self.now in
-    let now = g.W.Sink.written c.steps.writer in
-    let at = g.W.Sink.written c.step.new.writer in
-    let new = g.W.Sink.written c.run_nested.new.writer in
+    let now = (g.W.Sink.told c.steps.writer).bytes in
+    let at = (g.W.Sink.told c.step.new.writer).bytes in
+    let new = (g.W.Sink.told c.run_nested.new.writer).bytes in
     let e = c.in-Ok-Enter.entry.value in
     let step = rw c.in-Ok-Enter.field-0-is at c.in-Ok-Enter.ensures.performs in
     let did = at_base p c.steps.self c.step.new.self now at (Ok (flow.Enter c.in-Ok-Enter.entry)) c.base-base.result
@@ -174,9 +174,9 @@ run-steps-preserved g t c =
     let p = g.H.Host.program c.args.host.now in
     let a = c.args.self.now in
     let limit = host.limit in
-    let now = g.W.Sink.written c.steps.writer in
-    let at = g.W.Sink.written c.step.new.writer in
-    let new = g.W.Sink.written c.run_nested.new.writer in
+    let now = (g.W.Sink.told c.steps.writer).bytes in
+    let at = (g.W.Sink.told c.step.new.writer).bytes in
+    let new = (g.W.Sink.told c.run_nested.new.writer).bytes in
     let e = c.in-Ok-Enter.entry.value in
     let mid = c.step.new.self in
     let step = rw c.in-Ok-Enter.field-0-is at c.in-Ok-Enter.ensures.performs in
@@ -214,8 +214,8 @@ pub run-streams-preserved : goal.run-streams-preserved
 run-streams-preserved g t c =
     let p = g.H.Host.program c.args.host.now in
     let a = c.args.self.now in
-    let now = g.W.Sink.written c.steps.writer in
-    let new = g.W.Sink.written c.step.new.writer in
+    let now = (g.W.Sink.told c.steps.writer).bytes in
+    let new = (g.W.Sink.told c.step.new.writer).bytes in
     let step = rw c.in-Ok-Restart.field-0-is at c.in-Ok-Restart.ensures.performs in
     let did = at_base p c.steps.self c.step.new.self now new (Ok flow.Restart) c.base-base.result
     (base_of c.args.heard a.captures a.world) c.base-base.ensures step.did in
@@ -233,8 +233,8 @@ pub run-returns-in-Ok-Done-clause-ended : goal.run-returns-in-Ok-Done-clause-end
 run-returns-in-Ok-Done-clause-ended g t c =
     let p = g.H.Host.program c.args.host.now in
     let a = c.args.self.now in
-    let now = g.W.Sink.written c.steps.writer in
-    let new = g.W.Sink.written c.step.new.writer in
+    let now = (g.W.Sink.told c.steps.writer).bytes in
+    let new = (g.W.Sink.told c.step.new.writer).bytes in
     let step = rw c.in-Ok-Done.field-0-is at c.in-Ok-Done.ensures.performs in
     let did = at_base p c.steps.self c.step.new.self now new (Ok flow.Done) c.base-base.result
     (base_of c.args.heard a.captures a.world) c.base-base.ensures step.did in
@@ -243,7 +243,7 @@ run-returns-in-Ok-Done-clause-ended g t c =
 pub run-returns-in-Ok-Done-clause-beginning : goal.run-returns-in-Ok-Done-clause-beginning
 run-returns-in-Ok-Done-clause-beginning g t c =
     let step = rw c.in-Ok-Done.field-0-is at c.in-Ok-Done.ensures.performs in
-    whole_at (g.W.Sink.written c.step.new.writer) c.steps.invariant.stands step.did.1
+    whole_at (g.W.Sink.told c.step.new.writer).bytes c.steps.invariant.stands step.did.1
 
 pub run-returns-in-Ok-Done-clause-failures : goal.run-returns-in-Ok-Done-clause-failures
 run-returns-in-Ok-Done-clause-failures g t c =
@@ -279,8 +279,8 @@ pub run-returns-in-Err-clause-ended : goal.run-returns-in-Err-clause-ended
 run-returns-in-Err-clause-ended g t c =
     let p = g.H.Host.program c.args.host.now in
     let a = c.args.self.now in
-    let now = g.W.Sink.written c.steps.writer in
-    let new = g.W.Sink.written c.step.new.writer in
+    let now = (g.W.Sink.told c.steps.writer).bytes in
+    let new = (g.W.Sink.told c.step.new.writer).bytes in
     let did = at_base p c.steps.self c.step.new.self now new (Err c.in-Err.halt) c.base-base.result
     (base_of c.args.heard a.captures a.world) c.base-base.ensures c.in-Err.ensures.performs.did in
     ended_at new c.in-Err.halt c.step.new.self.world c.steps.invariant.stands did.0 did.1
@@ -289,8 +289,8 @@ pub run-returns-in-Err-clause-beginning : goal.run-returns-in-Err-clause-beginni
 run-returns-in-Err-clause-beginning g t c =
     let p = g.H.Host.program c.args.host.now in
     let a = c.args.self.now in
-    let now = g.W.Sink.written c.steps.writer in
-    let new = g.W.Sink.written c.step.new.writer in
+    let now = (g.W.Sink.told c.steps.writer).bytes in
+    let new = (g.W.Sink.told c.step.new.writer).bytes in
     let did = at_base p c.steps.self c.step.new.self now new (Err c.in-Err.halt) c.base-base.result
     (base_of c.args.heard a.captures a.world) c.base-base.ensures c.in-Err.ensures.performs.did in
     beginning_at new c.steps.invariant.stands did.1
@@ -324,7 +324,7 @@ run_nested-returns-in_default-clause-ran g t c =
     let e : NestedRun = record c.take_run-run.new.self { run = c.take_run-run.result } in
     let whole = retaken c.take_run-run.new.self c.deref_mut-nested.result.now c.args.entry.value c.take_run-run.result
     c.take_run-run.ensures.run c.take_run-run.ensures.rest c.deref_mut-nested.ensures.value in
-    let now = g.W.Sink.written c.args.writer.now in
+    let now = (g.W.Sink.told c.args.writer.now).bytes in
     let same = ap (λ (x : Config). x.world) c.put_back.ensures ∙ ap (λ (x : Config). put_back e.saved x.world) c.in_default.ensures.1 in
     let is = subst (λ k. IsWrapped e.wrap (halt.Fault k) c.wrapped.result) c.from.ensures c.wrapped.ensures in
     subst (λ (x : NestedRun). HaltsAs c.wrapped.result c.put_back.new.self.world (EndsNested p x c.args.self.now now now)) whole
@@ -336,8 +336,8 @@ run_nested-returns-in-Err-clause-ran g t c =
     let e : NestedRun = record c.take_run-run.new.self { run = c.take_run-run.result } in
     let whole = retaken c.take_run-run.new.self c.deref_mut-nested.result.now c.args.entry.value c.take_run-run.result
     c.take_run-run.ensures.run c.take_run-run.ensures.rest c.deref_mut-nested.ensures.value in
-    let now = g.W.Sink.written c.args.writer.now in
-    let new = g.W.Sink.written c.run-result.new.writer in
+    let now = (g.W.Sink.told c.args.writer.now).bytes in
+    let new = (g.W.Sink.told c.run-result.new.writer).bytes in
     let same = ap (λ (x : Config). x.world) c.put_back_of.ensures ∙ ap (λ (x : Config). put_back e.saved x.world) c.resume.ensures in
     subst (λ (x : NestedRun). HaltsAs c.wrapped-in-Err.result c.put_back_of.new.self.world (EndsNested p x c.args.self.now now new)) whole
     (wrapped_ends p e c.in-Some.waiting c.args.self.now c.begin.new.self c.run-result.new.self now new c.in-Some.ensures
@@ -359,8 +359,8 @@ run_nested-returns-then-value-clause-ran g t c =
     let e : NestedRun = record c.take_run-run.new.self { run = c.take_run-run.result } in
     let whole = retaken c.take_run-run.new.self c.deref_mut-nested.result.now c.args.entry.value c.take_run-run.result
     c.take_run-run.ensures.run c.take_run-run.ensures.rest c.deref_mut-nested.ensures.value in
-    let now = g.W.Sink.written c.args.writer.now in
-    let new = g.W.Sink.written c.run-result.new.writer in
+    let now = (g.W.Sink.told c.args.writer.now).bytes in
+    let new = (g.W.Sink.told c.run-result.new.writer).bytes in
     let at = c.put_back_of.ensures ∙ ap (λ (x : Config). record x { world = put_back e.saved x.world }) c.resume.ensures in
     subst (λ (x : NestedRun). RanNested p x c.args.self.now c.push_captured.new.self now new c.push_captured.result) whole
     (as_value p e c.in-Some.waiting c.args.self.now c.begin.new.self c.run-result.new.self now new c.in-Some.ensures
@@ -384,8 +384,8 @@ run_nested-returns-clause-ran g t c =
     let e : NestedRun = record c.take_run-run.new.self { run = c.take_run-run.result } in
     let whole = retaken c.take_run-run.new.self c.deref_mut-nested.result.now c.args.entry.value c.take_run-run.result
     c.take_run-run.ensures.run c.take_run-run.ensures.rest c.deref_mut-nested.ensures.value in
-    let now = g.W.Sink.written c.args.writer.now in
-    let new = g.W.Sink.written c.run-result.new.writer in
+    let now = (g.W.Sink.told c.args.writer.now).bytes in
+    let new = (g.W.Sink.told c.run-result.new.writer).bytes in
     let at = c.put_back_of.ensures ∙ ap (λ (x : Config). record x { world = put_back e.saved x.world }) c.resume.ensures in
     subst (λ (x : NestedRun). Went p x c.args.self.now c.put_back_of.new.self now new) whole
     (in_place p e c.in-Some.waiting c.args.self.now c.begin.new.self c.run-result.new.self now new c.in-Some.ensures
@@ -417,8 +417,8 @@ run_nested-returns-in-Err-clause-beginning g t c =
     let e : NestedRun = record c.take_run-run.new.self { run = c.take_run-run.result } in
     let whole = retaken c.take_run-run.new.self c.deref_mut-nested.result.now c.args.entry.value c.take_run-run.result
     c.take_run-run.ensures.run c.take_run-run.ensures.rest c.deref_mut-nested.ensures.value in
-    let now = g.W.Sink.written c.args.writer.now in
-    let new = g.W.Sink.written c.run-result.new.writer in
+    let now = (g.W.Sink.told c.args.writer.now).bytes in
+    let new = (g.W.Sink.told c.run-result.new.writer).bytes in
     subst (λ (x : NestedRun). WroteBeginning p (base_in x c.args.self.now) (begins_in p x c.args.self.now) now new) whole
     (began p e c.in-Some.waiting c.args.self.now c.begin.new.self c.run-result.new.self now new c.in-Some.ensures
     c.in-Err.ensures.beginning)

@@ -15,13 +15,13 @@ decreases-run g l = ((g.H.Host.program l.host.now).host.limit + 1 - depth l.self
 
 abbrev pub invariant-run-streams : goal.invariant-run-streams
 invariant-run-streams g l = record {
-  failures : g.W.Sink.failures l.writer ≡ g.W.Sink.failures l.initial.writer;
+  failures : (g.W.Sink.told l.writer).failures ≡ (g.W.Sink.told l.initial.writer).failures;
   kept : KeepsFixed l.initial.self.world l.self.world;
   names : names_left (g.H.Host.program l.host).host l.self.world ≤ names_left (g.H.Host.program l.host).host l.initial.self.world;
   no_fewer : NoFewer l.initial.self.world l.self.world;
   stands : RunsUpTo (g.H.Host.program l.host)
-      (base_of l.heard l.initial.self.captures l.initial.self.world) l.initial.self (g.W.Sink.written l.initial.writer)
-      (g.W.Sink.written l.writer) l.self;
+      (base_of l.heard l.initial.self.captures l.initial.self.world) l.initial.self (g.W.Sink.told l.initial.writer).bytes
+      (g.W.Sink.told l.writer).bytes l.self;
 }
 
 abbrev pub decreases-run-streams : goal.decreases-run-streams
@@ -29,15 +29,15 @@ decreases-run-streams g l = parents_left (g.H.Host.program l.host).host l.self
 
 abbrev pub invariant-run-steps : goal.invariant-run-steps
 invariant-run-steps g l = record {
-  failures : g.W.Sink.failures l.writer ≡ g.W.Sink.failures l.fn.writer;
+  failures : (g.W.Sink.told l.writer).failures ≡ (g.W.Sink.told l.fn.writer).failures;
   kept : KeepsFixed l.fn.self.world l.self.world;
   names : names_left (g.H.Host.program l.host).host l.self.world ≤ names_left (g.H.Host.program l.host).host l.fn.self.world;
   no_fewer : NoFewer l.fn.self.world l.self.world;
   same_stream : l.self.run.stream ≡ l.initial.self.run.stream;
   parents : parents_left (g.H.Host.program l.host).host l.self ≤ parents_left (g.H.Host.program l.host).host l.initial.self;
   stands : RunsUpTo (g.H.Host.program l.host)
-      (base_of l.heard l.fn.self.captures l.fn.self.world) l.fn.self (g.W.Sink.written l.fn.writer)
-      (g.W.Sink.written l.writer) l.self;
+      (base_of l.heard l.fn.self.captures l.fn.self.world) l.fn.self (g.W.Sink.told l.fn.writer).bytes
+      (g.W.Sink.told l.writer).bytes l.self;
 }
 
 abbrev pub decreases-run-steps : goal.decreases-run-steps

@@ -17,6 +17,5 @@ returns-in-Some g c =
     let stands = ap (λ is. slice_get is a.run.place) (sym (c.as_slice.ensures ∙ c.requires))
     ∙ ap (λ n. slice_get xs n) (sym c.place.ensures) ∙ there in
     step_attempted (length c.args.code.now) p c.args.base.now c.in-Some.instruction.now a c.attempt.new.self
-    (g.W.Sink.written c.args.writer.now) (g.W.Sink.written c.attempt.new.writer)
-    (g.W.Sink.failures c.args.writer.now) (g.W.Sink.failures c.attempt.new.writer) c.attempt.result
+    (g.W.Sink.told c.args.writer.now) (g.W.Sink.told c.attempt.new.writer) c.attempt.result
     stands within c.attempt.ensures.paid c.attempt.ensures.done

@@ -13,8 +13,7 @@ pub returns-in-Left-clause-performs : goal.returns-in-Left-clause-performs
 returns-in-Left-clause-performs g c =
     let p = g.H.Host.program c.args.host.now in
     left (λ (m : Config). step p c.args.base.now m) c.args.self.now c.attempt_next.new.self c.step_by_method.new.self
-    (g.W.Sink.written c.args.writer.now) (g.W.Sink.written c.attempt_next.new.writer)
-    (g.W.Sink.failures c.args.writer.now) (g.W.Sink.failures c.attempt_next.new.writer) c.in-Left.ensures c.step_by_method.ensures.performs
+    (g.W.Sink.told c.args.writer.now) (g.W.Sink.told c.attempt_next.new.writer) c.in-Left.ensures c.step_by_method.ensures.performs
 
 pub returns-in-Left-clause-paid : goal.returns-in-Left-clause-paid
 returns-in-Left-clause-paid g c =
