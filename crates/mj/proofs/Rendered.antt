@@ -13,7 +13,7 @@ use Rattle.tm_values.specs.Answer.{Refused}
 use Rattle.tm_meaning.specs.World.{Object, Fallback, Format, World}
 use Rattle.tm_meaning.specs.Meaning.{Ending, done, leave, next, fault, Outcome}
 use Rattle.tm_meaning.specs.Runs.{chain_in}
-use Rattle.tm_output.specs.Counts.{Tally}
+use Rattle.tm_output.specs.Counts.{Tally, Told, told_of}
 use Rattle.tm_templates.specs.Defaults.{escape_by_name, escape_of}
 use Rattle.tm_templates.specs.declared.defaults.EscapeSetting.{EscapeSetting}
 use Rattle.tm_templates.specs.declared.defaults.EscapeSetting.TheVariants as setting
@@ -175,7 +175,7 @@ module _ {W : Type 0} (contents : W → Option Text) where
   -- What was answered of a template is what was answered of the input.
   module _ {O : Type 0} (t : TemplateValue O) (i : Input) (m : Outcome) (old new : Tally W) (means : Means i m) where
     abbrev Ended : Result (CapturedValue (StateValue O)) (List ErrorKind) → Type 0
-    Ended r = Rendered t m r (contents old.writer) (contents new.writer) old.failures new.failures
+    Ended r = Rendered t m r (told_of contents old) (told_of contents new)
 
     pub is_done : (c : CapturedValue (StateValue O)) → Ended (Ok c) → IsRendered contents i old new
     is_done c (as_meant is appended same) = (m, means, done_chain m.ending m.world c.state.world is.2, appended, same)

@@ -14,7 +14,7 @@ use Rattle.tm_meaning.specs.Machine.{Capture, End, Finished, Failed, Stuck, Prog
 use Rattle.tm_meaning.specs.Steps.{Final, final, step, Reaches}
 use Rattle.tm_meaning.specs.Compiled.{IsCompiled}
 use Rattle.tm_meaning.proofs.Ends.{one_end}
-use Rattle.tm_output.specs.Counts.{AppendsBeginning}
+use Rattle.tm_output.specs.Counts.{AppendsBeginning, NoFailure, Told, untold}
 use Rattle.tm_parts.specs.Halts.{error_of, failures_after}
 use Rattle.tm_parts.specs.declared.halt.Halt.{Halt}
 use Rattle.tm_parts.specs.declared.halt.Halt.TheVariants as halt
@@ -134,12 +134,12 @@ module _ (p : Program) (trees : Trees) (compiled : IsCompiled trees p) (captures
       (render_runs p trees compiled (inside true [] []) w))
 
   abbrev ComesTo : End → Type 0
-  ComesTo e = ReachesEnd p (base_of true captures w) (running (run_from w.stream (length captures)) captures w) told now e
+  ComesTo e = ReachesEnd p (base_of true captures w) (running (run_from w.stream (length captures)) captures w) told.bytes now.bytes e
 
-  written : (text : List ℕ) → text ≡ put_out captures m.text → Appends told now text → Appends told now (put_out captures m.text)
-  written text same appended = subst (λ t. Appends told now t) same appended
+  written : (text : List ℕ) → text ≡ put_out captures m.text → Appends told.bytes now.bytes text → Appends told.bytes now.bytes (put_out captures m.text)
+  written text same appended = subst (λ t. Appends told.bytes now.bytes t) same appended
 
-  pub run_done : (us : List Val) → IsFresh captures → ComesTo (Finished us new left) → count ≡ failures →
+  pub run_done : (us : List Val) → IsFresh captures → ComesTo (Finished us new left) → NoFailure told now →
       Ran m (Ok new) left captures told now
   run_done us fresh (text, appended, reaches) counted =
       let same = finished_is m.ending us captures new text m.text left m.world (one_end reaches (reached fresh)) in
@@ -158,15 +158,15 @@ module _ (p : Program) (trees : Trees) (compiled : IsCompiled trees p) (captures
   -- a run that was cut short may leave any world
   pub run_halted : (why : Halt) (put : World) → (is_cut why ≡ false → left ≡ put) → IsFresh captures → HaltsAs why left ComesTo →
       WroteBeginning p (base_of true captures w)
-      (step p (base_of true captures w) (running (run_from w.stream (length captures)) captures w)) told now →
-      count ≡ failures_after {A = Unit {0}} (Err why) failures → Ran m (Err why) put captures told now
+      (step p (base_of true captures w) (running (run_from w.stream (length captures)) captures w)) told.bytes now.bytes →
+      now.failures ≡ failures_after {A = Unit {0}} (Err why) told.failures → Ran m (Err why) put captures told now
   run_halted why put there fresh ends begun counted = by_halt why there ends counted
     where
-      part : AppendsBeginning told now (put_out captures m.text)
+      part : AppendsBeginning told.bytes now.bytes (put_out captures m.text)
       part = begun _ (reached fresh)
 
       by_chain : (b : Bool) (chain : List ErrorKind) → is_want_of_memory chain ≡ b → (is_want_of_memory chain ≡ false → left ≡ put) →
-          (is_want_of_memory chain ≡ false → ComesTo (Failed chain left)) → count ≡ failures →
+          (is_want_of_memory chain ≡ false → ComesTo (Failed chain left)) → NoFailure told now →
           Ran m (Err (halt.Fault chain)) put captures told now
       by_chain true chain memory there ends counted = run_by_memory chain refl memory part counted
       by_chain false chain own there ends counted =
@@ -176,7 +176,7 @@ module _ (p : Program) (trees : Trees) (compiled : IsCompiled trees p) (captures
           (run_as_meant same.1 (written came.0 same.0 came.1) counted)
 
       by_halt : (why : Halt) → (is_cut why ≡ false → left ≡ put) → HaltsAs why left ComesTo →
-          count ≡ failures_after {A = Unit {0}} (Err why) failures → Ran m (Err why) put captures told now
+          now.failures ≡ failures_after {A = Unit {0}} (Err why) told.failures → Ran m (Err why) put captures told now
       by_halt halt.Writer there ends counted = run_by_writer refl part counted
       by_halt halt.Stuck there (text, appended, reaches) counted = absurd
           (not_stuck m.ending captures text m.text left m.world (one_end reaches (reached fresh)))
@@ -188,11 +188,11 @@ module _ (m : Outcome) (left : World) (old : List Capture) (none : old ≡ []) (
   abbrev Came : Halt → Type 0
   Came why = Ran m (Err why) left old told now
 
-  all_of_it : Appends told now (put_out old m.text) → Appends told now m.text
-  all_of_it appended = subst (λ ks. Appends told now (put_out ks m.text)) none appended
+  all_of_it : Appends told.bytes now.bytes (put_out old m.text) → Appends told.bytes now.bytes m.text
+  all_of_it appended = subst (λ ks. Appends told.bytes now.bytes (put_out ks m.text)) none appended
 
-  part_of_it : AppendsBeginning told now (put_out old m.text) → AppendsBeginning told now m.text
-  part_of_it part = subst (λ ks. AppendsBeginning told now (put_out ks m.text)) none part
+  part_of_it : AppendsBeginning told.bytes now.bytes (put_out old m.text) → AppendsBeginning told.bytes now.bytes m.text
+  part_of_it part = subst (λ ks. AppendsBeginning told.bytes now.bytes (put_out ks m.text)) none part
 
   pub rendered_failed : {O : Type 0} (t : TemplateValue O) (why : Halt) → Came why → Rendered t m (Err (error_of why)) told now
   rendered_failed t halt.Writer (run_as_meant is appended counted) = absurd is
@@ -225,17 +225,17 @@ module _ (m : Outcome) (left : World) (old : List Capture) (none : old ≡ []) (
   written_done new (run_by_memory chain is memory part counted) = absurd (cc is)
 
 -- over a capture, with no writer that could fail
-pub text_failed : (m : Outcome) (left : World) (old : List Capture) (told now : Option (List ℕ)) (why : Halt) →
-    Ran m (Err why) left old told now 0 0 → RenderedText m (Err (error_of why))
-text_failed m left old told now halt.Writer (run_as_meant is appended counted) = absurd is
-text_failed m left old told now halt.Writer (run_by_writer is part counted) = absurd (cc counted)
-text_failed m left old told now halt.Writer (run_by_memory chain is memory part counted) = absurd (cc is)
-text_failed m left old told now halt.Stuck (run_as_meant is appended counted) = absurd is
-text_failed m left old told now halt.Stuck (run_by_writer is part counted) = absurd (cc is)
-text_failed m left old told now halt.Stuck (run_by_memory chain is memory part counted) = absurd (cc is)
-text_failed m left old told now (halt.Fault kinds) (run_as_meant is appended counted) = text_as_meant is.0
-text_failed m left old told now (halt.Fault kinds) (run_by_writer is part counted) = absurd (cc is)
-text_failed m left old told now (halt.Fault kinds) (run_by_memory chain is memory part counted) =
+pub text_failed : (m : Outcome) (left : World) (old : List Capture) (why : Halt) →
+    Ran m (Err why) left old untold untold → RenderedText m (Err (error_of why))
+text_failed m left old halt.Writer (run_as_meant is appended counted) = absurd is
+text_failed m left old halt.Writer (run_by_writer is part counted) = absurd (cc counted)
+text_failed m left old halt.Writer (run_by_memory chain is memory part counted) = absurd (cc is)
+text_failed m left old halt.Stuck (run_as_meant is appended counted) = absurd is
+text_failed m left old halt.Stuck (run_by_writer is part counted) = absurd (cc is)
+text_failed m left old halt.Stuck (run_by_memory chain is memory part counted) = absurd (cc is)
+text_failed m left old (halt.Fault kinds) (run_as_meant is appended counted) = text_as_meant is.0
+text_failed m left old (halt.Fault kinds) (run_by_writer is part counted) = absurd (cc is)
+text_failed m left old (halt.Fault kinds) (run_by_memory chain is memory part counted) =
     let kind : kinds ≡ chain = cc is in text_by_memory (ap is_want_of_memory kind ∙ memory)
 
 -- an error that was passed on

@@ -3,7 +3,7 @@ use Rattle.std.proofs.Common.{◌≡◌, ◌∙◌, ◌+◌, ℕ, List, [], ◌�
 use Rattle.std.proofs.Common.{refl, sym, ap, subst}
 use Rattle.std.specs.Io.KnownBytes.{Appends}
 use Rattle.tm_values.specs.declared.error.ErrorKind.{ErrorKind}
-use Rattle.tm_output.specs.Counts.{AppendsBeginning}
+use Rattle.tm_output.specs.Counts.{AppendsBeginning, Told}
 use Rattle.tm_output.specs.Pieces.{appends_nothing, beginning_nothing}
 use Rattle.tm_meaning.specs.Memory.{is_want_of_memory}
 use Rattle.tm_meaning.specs.World.{World, HostValue}
@@ -107,11 +107,11 @@ module _ (s : StreamId) (w : World) (run : Run) (o : Outcome) where
       Ran o result left old told now → Ran q result (undone c.undo left) old told now
   ran_after result left old told now (run_as_meant is appended counted) =
       run_as_meant (is_after result left old is)
-      (subst (λ t. Appends told now (put_out old t)) (sym (text_after o.ending)) appended) counted
+      (subst (λ t. Appends told.bytes now.bytes (put_out old t)) (sym (text_after o.ending)) appended) counted
   ran_after result left old told now (run_by_writer is part counted) =
-      run_by_writer is (subst (λ t. AppendsBeginning told now (put_out old t)) (sym (text_after o.ending)) part) counted
+      run_by_writer is (subst (λ t. AppendsBeginning told.bytes now.bytes (put_out old t)) (sym (text_after o.ending)) part) counted
   ran_after result left old told now (run_by_memory chain is memory part counted) =
-      run_by_memory chain is memory (subst (λ t. AppendsBeginning told now (put_out old t)) (sym (text_after o.ending)) part) counted
+      run_by_memory chain is memory (subst (λ t. AppendsBeginning told.bytes now.bytes (put_out old t)) (sym (text_after o.ending)) part) counted
 
 -- ---------------------------------------------------------------- of a state
 module _ {O : Type 0} (stated : O → StatedObjects) (t : TemplateValue O) (b : List ℕ) (w left : World) (old : List Capture)
@@ -136,38 +136,38 @@ module _ {O : Type 0} (stated : O → StatedObjects) (t : TemplateValue O) (b : 
 refused_ran : {O : Type 0} (stated : O → StatedObjects) (t : TemplateValue O) (b : List ℕ) (w : World) (old : List Capture)
     (told : Told) (chain : List ErrorKind) → enter_block (host_of stated t) b w ≡ refused chain w →
     Ran (block_meaning stated t b w) (Err (halt.Fault chain)) w old told told
-refused_ran stated t b w old told failures chain is =
+refused_ran stated t b w old told chain is =
     subst (λ m. Ran m (Err (halt.Fault chain)) w old told told)
     (sym (refused_is (host_of stated t) (trees t) b w chain is))
     (run_as_meant (refl, refl) (nothing old) refl)
   where
-    nothing : (ks : List Capture) → Appends told told (put_out ks [])
-    nothing [] = appends_nothing told
-    nothing (k ∷ ks) = appends_nothing told
+    nothing : (ks : List Capture) → Appends told.bytes told.bytes (put_out ks [])
+    nothing [] = appends_nothing told.bytes
+    nothing (k ∷ ks) = appends_nothing told.bytes
 
 pub block_refused : {O : Type 0} (stated : O → StatedObjects) (t : TemplateValue O) (b : List ℕ) (w left : World) (old : List Capture)
     (told : Told) (chain : List ErrorKind) → left ≡ w →
     (is_want_of_memory chain ≡ false → enter_block (host_of stated t) b w ≡ refused chain w) →
     Ran (block_meaning stated t b w) (Err (halt.Fault chain)) left old told told
-block_refused stated t b w left old told failures chain same is =
+block_refused stated t b w left old told chain same is =
     subst (λ x. Ran (block_meaning stated t b w) (Err (halt.Fault chain)) x old told told) (sym same)
     (by_kind (is_want_of_memory chain) refl)
   where
     by_kind : (memory : Bool) → is_want_of_memory chain ≡ memory →
         Ran (block_meaning stated t b w) (Err (halt.Fault chain)) w old told told
     by_kind true e = run_by_memory chain refl e (beginning_nothing _ _) refl
-    by_kind false e = refused_ran stated t b w old told failures chain (is e)
+    by_kind false e = refused_ran stated t b w old told chain (is e)
 
 -- ---------------------------------------------------------------- its text in a capture
 abbrev text_of : List Capture → List ℕ
 text_of [] = []
 text_of (k ∷ ks) = k.text
 
-module _ (m : Outcome) (left : World) (told now : Option (List ℕ)) where
-  pub text_done : (old new rest : List Capture) (heard : Bool) (text : List ℕ) (failures count : ℕ) → old ≡ new_capture true ∷ [] →
+module _ (m : Outcome) (left : World) (told now : Told) where
+  pub text_done : (old new rest : List Capture) (heard : Bool) (text : List ℕ) → old ≡ new_capture true ∷ [] →
       Ran m (Ok new) left old told now →
       new ≡ record { heard = heard; text = text } ∷ rest → (text ≡ m.text) × (answer_of m ≡ Ok left)
-  text_done old new rest heard text failures count one (run_as_meant is appended counted) there =
+  text_done old new rest heard text one (run_as_meant is appended counted) there =
       (ap text_of (sym there ∙ is.1 ∙ ap (λ ks. put_in ks m.text) one), is.0)
-  text_done old new rest heard text failures count one (run_by_writer is part counted) there = absurd (cc is)
-  text_done old new rest heard text failures count one (run_by_memory chain is memory part counted) there = absurd (cc is)
+  text_done old new rest heard text one (run_by_writer is part counted) there = absurd (cc is)
+  text_done old new rest heard text one (run_by_memory chain is memory part counted) there = absurd (cc is)

@@ -10,6 +10,7 @@ use Rattle.tm_meaning.specs.World.{World, Good, Bad, answered, records_of}
 use Rattle.tm_meaning.specs.Meaning.{Ending, done, leave, next, fault, left_by, Outcome}
 use Rattle.tm_meaning.specs.Runs.{left_of, value_left}
 use Rattle.tm_meaning.specs.Machine.{Capture}
+use Rattle.tm_output.specs.Counts.{untold}
 use Rattle.tm_parts.specs.Halts.{error_of}
 use Rattle.tm_parts.specs.declared.halt.Halt.{Halt}
 use Rattle.tm_parts.specs.declared.halt.Halt.TheVariants as halt
@@ -70,16 +71,16 @@ module _ (m : Outcome) (left : World) where
       value_as_meant (m.world, ap maps_in (value_none m.ending m.world left us is us_is many))
 
   -- of one that failed, with no writer that could
-  pub evaluated_failed : (old : List Capture) (told now : Option (List ℕ)) (why : Halt) → Ran m (Err why) left old told now 0 0 →
+  pub evaluated_failed : (old : List Capture) (why : Halt) → Ran m (Err why) left old untold untold →
       Answers (Err (error_of why))
-  evaluated_failed old told now halt.Writer (run_as_meant is appended counted) = absurd is
-  evaluated_failed old told now halt.Writer (run_by_writer is part counted) = absurd (cc counted)
-  evaluated_failed old told now halt.Writer (run_by_memory chain is memory part counted) = absurd (cc is)
-  evaluated_failed old told now halt.Stuck (run_as_meant is appended counted) = absurd is
-  evaluated_failed old told now halt.Stuck (run_by_writer is part counted) = absurd (cc is)
-  evaluated_failed old told now halt.Stuck (run_by_memory chain is memory part counted) = absurd (cc is)
-  evaluated_failed old told now (halt.Fault kinds) (run_as_meant is appended counted) =
+  evaluated_failed old halt.Writer (run_as_meant is appended counted) = absurd is
+  evaluated_failed old halt.Writer (run_by_writer is part counted) = absurd (cc counted)
+  evaluated_failed old halt.Writer (run_by_memory chain is memory part counted) = absurd (cc is)
+  evaluated_failed old halt.Stuck (run_as_meant is appended counted) = absurd is
+  evaluated_failed old halt.Stuck (run_by_writer is part counted) = absurd (cc is)
+  evaluated_failed old halt.Stuck (run_by_memory chain is memory part counted) = absurd (cc is)
+  evaluated_failed old (halt.Fault kinds) (run_as_meant is appended counted) =
       value_as_meant (m.world, ap maps_in (value_fault m.ending m.world kinds is.0))
-  evaluated_failed old told now (halt.Fault kinds) (run_by_writer is part counted) = absurd (cc is)
-  evaluated_failed old told now (halt.Fault kinds) (run_by_memory chain is memory part counted) =
+  evaluated_failed old (halt.Fault kinds) (run_by_writer is part counted) = absurd (cc is)
+  evaluated_failed old (halt.Fault kinds) (run_by_memory chain is memory part counted) =
       let kind : kinds ≡ chain = cc is in value_by_memory (ap is_want_of_memory kind ∙ memory)

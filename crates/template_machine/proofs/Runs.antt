@@ -7,6 +7,7 @@ use Rattle.tm_values.specs.declared.error.ErrorKind.TheVariants.{InvalidOperatio
 use Rattle.tm_meaning.specs.World.{World}
 use Rattle.tm_objects.specs.Stated.{StatedObjects}
 use Rattle.tm_meaning.specs.Machine.{Capture, Config, Finished, Program, base_of, run_from, running}
+use Rattle.tm_output.specs.Counts.{NoFailure, Told}
 use Rattle.tm_parts.specs.Halts.{failures_after}
 use Rattle.tm_parts.specs.declared.halt.Halt.{Halt}
 use Rattle.tm_meaning.specs.Steps.{step}
@@ -34,43 +35,43 @@ module _ {O : Type 0} (stated : O → StatedObjects) (t : TemplateValue O) (capt
   m = meaning_from stated t w
 
   pub over_done : IsOfTrees t → (us : List Val) (kept : List Capture) (put : World) → new ≡ kept → left ≡ put →
-      ReachesEnd p (base_of true config.captures config.world) config told now (Finished us new left) → count ≡ failures →
+      ReachesEnd p (base_of true config.captures config.world) config told.bytes now.bytes (Finished us new left) → NoFailure told now →
       Ran m (Ok kept) put captures told now
   over_done of us kept put is there comes counted =
       subst (λ ks. Ran m (Ok ks) put captures told now) is
       (subst (λ x. Ran m (Ok new) x captures told now) there
       (run_done p (trees t) (trees_code t of) captures new w left told now us fresh
-      (subst (λ (c : Config). ReachesEnd p (base_of true c.captures c.world) c told now (Finished us new left)) begins comes) counted))
+      (subst (λ (c : Config). ReachesEnd p (base_of true c.captures c.world) c told.bytes now.bytes (Finished us new left)) begins comes) counted))
 
   pub over_leaves : IsOfTrees t → (us : List Val) →
-      ReachesEnd p (base_of true config.captures config.world) config told now (Finished us new left) → us ≡ left_of m
+      ReachesEnd p (base_of true config.captures config.world) config told.bytes now.bytes (Finished us new left) → us ≡ left_of m
   over_leaves of us comes =
       run_leaves p (trees t) (trees_code t of) captures new w left told now us fresh
-      (subst (λ (c : Config). ReachesEnd p (base_of true c.captures c.world) c told now (Finished us new left)) begins comes)
+      (subst (λ (c : Config). ReachesEnd p (base_of true c.captures c.world) c told.bytes now.bytes (Finished us new left)) begins comes)
 
   pub over_answers : IsOfTrees t → (us : List Val) →
-      ReachesEnd p (base_of true config.captures config.world) config told now (Finished us new left) → answer_of m ≡ Ok left
+      ReachesEnd p (base_of true config.captures config.world) config told.bytes now.bytes (Finished us new left) → answer_of m ≡ Ok left
   over_answers of us comes =
       run_answers p (trees t) (trees_code t of) captures new w left told now us fresh
-      (subst (λ (c : Config). ReachesEnd p (base_of true c.captures c.world) c told now (Finished us new left)) begins comes)
+      (subst (λ (c : Config). ReachesEnd p (base_of true c.captures c.world) c told.bytes now.bytes (Finished us new left)) begins comes)
 
   pub over_halted : IsOfTrees t → (why : Halt) (put : World) → (is_cut why ≡ false → left ≡ put) →
-      HaltsAs why left (ReachesEnd p (base_of true config.captures config.world) config told now) →
-      WroteBeginning p (base_of true config.captures config.world) (step p (base_of true config.captures config.world) config) told now →
-      count ≡ failures_after {A = Unit {0}} (Err why) failures → Ran m (Err why) put captures told now
+      HaltsAs why left (ReachesEnd p (base_of true config.captures config.world) config told.bytes now.bytes) →
+      WroteBeginning p (base_of true config.captures config.world) (step p (base_of true config.captures config.world) config) told.bytes now.bytes →
+      now.failures ≡ failures_after {A = Unit {0}} (Err why) told.failures → Ran m (Err why) put captures told now
   over_halted of why put there ends begun counted =
       run_halted p (trees t) (trees_code t of) captures new w left told now why put there fresh
-      (subst (λ (c : Config). HaltsAs why left (ReachesEnd p (base_of true c.captures c.world) c told now)) begins ends)
-      (subst (λ (c : Config). WroteBeginning p (base_of true c.captures c.world) (step p (base_of true c.captures c.world) c) told now)
+      (subst (λ (c : Config). HaltsAs why left (ReachesEnd p (base_of true c.captures c.world) c told.bytes now.bytes)) begins ends)
+      (subst (λ (c : Config). WroteBeginning p (base_of true c.captures c.world) (step p (base_of true c.captures c.world) c) told.bytes now.bytes)
       begins begun) counted
 
   -- it closed the captures that it opened
   pub over_closed : (us : List Val) →
-      ReachesEnd p (base_of true config.captures config.world) config told now (Finished us new left) → length new ≡ length captures
+      ReachesEnd p (base_of true config.captures config.world) config told.bytes now.bytes (Finished us new left) → length new ≡ length captures
   over_closed us comes =
-      let (text, appended, leads) : ReachesEnd p (base_of true captures w) (running (run_from w.stream (length captures)) captures w) told now
+      let (text, appended, leads) : ReachesEnd p (base_of true captures w) (running (run_from w.stream (length captures)) captures w) told.bytes now.bytes
       (Finished us new left) =
-      subst (λ (c : Config). ReachesEnd p (base_of true c.captures c.world) c told now (Finished us new left)) begins comes in
+      subst (λ (c : Config). ReachesEnd p (base_of true c.captures c.world) c told.bytes now.bytes (Finished us new left)) begins comes in
       run_ends_well p (whole w.stream) true captures [] w (final text (Finished us new left)) leads
 
 -- a source that was rendered

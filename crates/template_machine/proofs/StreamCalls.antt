@@ -14,6 +14,7 @@ use Rattle.tm_meaning.specs.Steps.{begins, begun, over}
 use Rattle.tm_meaning.specs.World.{World, Res, Good, Bad}
 use Rattle.tm_meaning.specs.declared.stream.StreamId.{StreamId}
 use Rattle.tm_output.specs.Pieces.{appends_nothing}
+use Rattle.tm_output.specs.Counts.{Told, untold}
 use Rattle.tm_parts.specs.Halts.{error_of, failures_after}
 use Rattle.tm_parts.specs.declared.halt.Halt.{Halt}
 use Rattle.tm_parts.specs.declared.halt.Halt.TheVariants as halt
@@ -206,19 +207,19 @@ module _ {O : Type 0} (stated : O → StatedObjects) (s : StateValue O) (b : Lis
       block_ran (block_call stream s.world) mid left asked ran (is ∙ sym (undone_is (saved.Block kept) s.world left same))
 
   -- to a text
-  pub block_text_done : (old : List Capture) → old ≡ one → (told now : Option (List ℕ)) (captures rest : List Capture) (heard : Bool)
+  pub block_text_done : (old : List Capture) → old ≡ one → (captures rest : List Capture) (heard : Bool)
       (text : String Global) → length captures ≡ 1 → captures ≡ record { heard = heard; text = string_bytes text } ∷ rest →
-      BlockRan stated s b (Ok captures) new old told now 0 0 → BlockText stated s b (Ok text) new
-  block_text_done old is told now captures rest heard text single top (block_refused chain failed own same) = absurd (cc failed.0)
-  block_text_done old is told now captures rest heard text single top (block_ran c w left asked ran undo) =
-      block_ran c w left asked (captured_done stated s.template w left old is told now captures rest heard text single top ran) undo
+      BlockRan stated s b (Ok captures) new old untold untold → BlockText stated s b (Ok text) new
+  block_text_done old is captures rest heard text single top (block_refused chain failed own same) = absurd (cc failed.0)
+  block_text_done old is captures rest heard text single top (block_ran c w left asked ran undo) =
+      block_ran c w left asked (captured_done stated s.template w left old is captures rest heard text single top ran) undo
 
-  pub block_text_failed : (old : List Capture) → old ≡ one → (told now : Option (List ℕ)) (why : Halt) →
-      BlockRan stated s b (Err why) new old told now 0 0 → BlockText stated s b (Err (error_of why)) new
-  block_text_failed old is told now why (block_refused chain failed own same) =
+  pub block_text_failed : (old : List Capture) → old ≡ one → (why : Halt) →
+      BlockRan stated s b (Err why) new old untold untold → BlockText stated s b (Err (error_of why)) new
+  block_text_failed old is why (block_refused chain failed own same) =
       let e : why ≡ halt.Fault chain = cc failed.0 in block_refused chain (ap (λ x. Err (error_of x)) e) own same
-  block_text_failed old is told now why (block_ran c w left asked ran undo) =
-      block_ran c w left asked (captured_failed stated s.template w left old is told now why ran) undo
+  block_text_failed old is why (block_ran c w left asked ran undo) =
+      block_ran c w left asked (captured_failed stated s.template w left old is why ran) undo
 
   -- where there is no memory for its capture
   pub block_text_none : (chain : List ErrorKind) → is_want_of_memory chain ≡ true → new ≡ s.world → BlockText stated s b (Err chain) new

@@ -12,6 +12,7 @@ use Rattle.tm_meaning.specs.World.{World, or_is}
 use Rattle.tm_meaning.specs.declared.stream.StreamId.{StreamId}
 use Rattle.tm_meaning.specs.declared.stream.TemplateId.{TemplateId}
 use Rattle.tm_meaning.specs.declared.stream.TemplateId.TheVariants.{Own, Entry}
+use Rattle.tm_output.specs.Counts.{NoFailure, Told, untold}
 use Rattle.tm_parts.specs.Halts.{error_of, failures_after}
 use Rattle.tm_parts.specs.declared.halt.Halt.{Halt}
 use Rattle.tm_parts.specs.declared.halt.Halt.TheVariants as halt
@@ -51,7 +52,7 @@ module _ {O : Type 0} (stated : O → StatedObjects) (t : TemplateValue O) (acce
   p = program_of stated t
 
   abbrev From : Config → End → Type 0
-  From c e = ReachesEnd p (base_of true c.captures c.world) c told now e
+  From c e = ReachesEnd p (base_of true c.captures c.world) c told.bytes now.bytes e
 
   from_start : (e : End) → From config e → From (running (run_from w.stream (length captures)) captures w) e
   from_start e comes = subst (λ c. From c e) at comes
@@ -60,21 +61,21 @@ module _ {O : Type 0} (stated : O → StatedObjects) (t : TemplateValue O) (acce
   Came result = StreamRan stated t w result left captures told now
 
   done_from : (us : List Val) (new : List Capture) → From (running (run_from w.stream (length captures)) captures w) (Finished us new left) →
-      count ≡ failures → Came (Ok new)
+      NoFailure told now → Came (Ok new)
   done_from us new (text, appended, leads) counted = stream_ran text (us, leads) appended counted
 
-  run_done : (us : List Val) (new : List Capture) → From config (Finished us new left) → count ≡ failures → Came (Ok new)
+  run_done : (us : List Val) (new : List Capture) → From config (Finished us new left) → NoFailure told now → Came (Ok new)
   run_done us new comes counted = done_from us new (from_start (Finished us new left) comes) counted
 
   failed_from : (chain : List ErrorKind) → From (running (run_from w.stream (length captures)) captures w) (Failed chain left) →
-      count ≡ failures → Came (Err (halt.Fault chain))
+      NoFailure told now → Came (Err (halt.Fault chain))
   failed_from chain (text, appended, leads) counted = stream_ran text leads appended counted
 
   stuck_from : {A : Type 0} → From (running (run_from w.stream (length captures)) captures w) (Stuck left) → A
   stuck_from (text, appended, leads) = never stated t (whole w.stream) captures w refl sound accepted text left leads
 
   pub streams_done : (us : List Val) (new kept : List Capture) (put : World) → new ≡ kept → left ≡ put → From config (Finished us new left) →
-      count ≡ failures → StreamRan stated t w (Ok kept) put captures told now
+      NoFailure told now → StreamRan stated t w (Ok kept) put captures told now
   streams_done us new kept put is there comes counted =
       subst (λ ks. StreamRan stated t w (Ok ks) put captures told now) is
       (subst (λ x. StreamRan stated t w (Ok new) x captures told now) there (run_done us new comes counted))
@@ -87,10 +88,10 @@ module _ {O : Type 0} (stated : O → StatedObjects) (t : TemplateValue O) (acce
       (text : List ℕ) × StreamEnds stated t captures w text (Finished us new left)
   streams_end us new comes = ended_from us new (from_start (Finished us new left) comes)
 
-  begun_from : WroteBeginning p (base_of true config.captures config.world) (step p (base_of true config.captures config.world) config) told now →
-      StreamBegins stated t captures w told now
+  begun_from : WroteBeginning p (base_of true config.captures config.world) (step p (base_of true config.captures config.world) config) told.bytes now.bytes →
+      StreamBegins stated t captures w told.bytes now.bytes
   begun_from begun =
-      subst (λ (c : Config). WroteBeginning p (base_of true c.captures c.world) (step p (base_of true c.captures c.world) c) told now) at begun
+      subst (λ (c : Config). WroteBeginning p (base_of true c.captures c.world) (step p (base_of true c.captures c.world) c) told.bytes now.bytes) at begun
 
   -- a run that was cut short may leave any world
   module _ (put : World) where
@@ -98,22 +99,22 @@ module _ {O : Type 0} (stated : O → StatedObjects) (t : TemplateValue O) (acce
     Put result = StreamRan stated t w result put captures told now
 
     by_chain : (b : Bool) (chain : List ErrorKind) → is_want_of_memory chain ≡ b → (is_want_of_memory chain ≡ false → left ≡ put) →
-        StreamBegins stated t captures w told now → (is_want_of_memory chain ≡ false → From config (Failed chain left)) → count ≡ failures →
+        StreamBegins stated t captures w told.bytes now.bytes → (is_want_of_memory chain ≡ false → From config (Failed chain left)) → NoFailure told now →
         Put (Err (halt.Fault chain))
     by_chain true chain memory there part ends counted = stream_by_memory chain refl memory part counted
     by_chain false chain own there part ends counted =
         subst (λ x. StreamRan stated t w (Err (halt.Fault chain)) x captures told now) (there own)
         (failed_from chain (from_start (Failed chain left) (ends own)) counted)
 
-    halted : (why : Halt) → (is_cut why ≡ false → left ≡ put) → HaltsAs why left (From config) → StreamBegins stated t captures w told now →
-        count ≡ failures_after {A = Unit {0}} (Err why) failures → Put (Err why)
+    halted : (why : Halt) → (is_cut why ≡ false → left ≡ put) → HaltsAs why left (From config) → StreamBegins stated t captures w told.bytes now.bytes →
+        now.failures ≡ failures_after {A = Unit {0}} (Err why) told.failures → Put (Err why)
     halted halt.Writer there ends part counted = stream_by_writer refl part counted
     halted halt.Stuck there ends part counted = stuck_from (from_start (Stuck left) ends)
     halted (halt.Fault chain) there ends part counted = by_chain (is_want_of_memory chain) chain refl there part ends counted
 
     pub streams_halted : (why : Halt) → (is_cut why ≡ false → left ≡ put) → HaltsAs why left (From config) →
-        WroteBeginning p (base_of true config.captures config.world) (step p (base_of true config.captures config.world) config) told now →
-        count ≡ failures_after {A = Unit {0}} (Err why) failures → Put (Err why)
+        WroteBeginning p (base_of true config.captures config.world) (step p (base_of true config.captures config.world) config) told.bytes now.bytes →
+        now.failures ≡ failures_after {A = Unit {0}} (Err why) told.failures → Put (Err why)
     streams_halted why there ends begun counted = halted why there ends (begun_from begun) counted
 
   -- ---------------------------------------------------------------- its records
@@ -139,34 +140,34 @@ only (j ∷ []) rest k one is = let same : j ≡ k = cc is in ap (λ x. x ∷ []
 only (j ∷ i ∷ js) rest k one is = absurd (cc one)
 
 module _ {O : Type 0} (stated : O → StatedObjects) (t : TemplateValue O) (w left : World) where
-  abbrev In : Result (List Capture) Halt → List Capture → Option (List ℕ) → Option (List ℕ) → Type 0
-  In result captures told now = StreamRan stated t w result left captures told now 0 0
+  abbrev In : Result (List Capture) Halt → List Capture → Type 0
+  In result captures = StreamRan stated t w result left captures untold untold
 
   -- in a capture, with no writer that could fail
-  pub captured_failed : (old : List Capture) → old ≡ new_capture true ∷ [] → (told now : Option (List ℕ)) (why : Halt) → In (Err why) old told now →
+  pub captured_failed : (old : List Capture) → old ≡ new_capture true ∷ [] → (why : Halt) → In (Err why) old →
       StreamCaptured stated t w (Err (error_of why)) left
-  captured_failed old is told now halt.Writer (stream_ran text ends appended counted) = absurd ends
-  captured_failed old is told now halt.Writer (stream_by_writer e part counted) = absurd (cc counted)
-  captured_failed old is told now halt.Writer (stream_by_memory chain e memory part counted) = absurd (cc e)
-  captured_failed old is told now halt.Stuck (stream_ran text ends appended counted) = absurd ends
-  captured_failed old is told now halt.Stuck (stream_by_writer e part counted) = absurd (cc e)
-  captured_failed old is told now halt.Stuck (stream_by_memory chain e memory part counted) = absurd (cc e)
-  captured_failed old is told now (halt.Fault kinds) (stream_ran text ends appended counted) =
+  captured_failed old is halt.Writer (stream_ran text ends appended counted) = absurd ends
+  captured_failed old is halt.Writer (stream_by_writer e part counted) = absurd (cc counted)
+  captured_failed old is halt.Writer (stream_by_memory chain e memory part counted) = absurd (cc e)
+  captured_failed old is halt.Stuck (stream_ran text ends appended counted) = absurd ends
+  captured_failed old is halt.Stuck (stream_by_writer e part counted) = absurd (cc e)
+  captured_failed old is halt.Stuck (stream_by_memory chain e memory part counted) = absurd (cc e)
+  captured_failed old is (halt.Fault kinds) (stream_ran text ends appended counted) =
       inr (text, subst (λ ks. StreamEnds stated t ks w text (Failed kinds left)) is ends)
-  captured_failed old is told now (halt.Fault kinds) (stream_by_writer e part counted) = absurd (cc e)
-  captured_failed old is told now (halt.Fault kinds) (stream_by_memory chain e memory part counted) =
+  captured_failed old is (halt.Fault kinds) (stream_by_writer e part counted) = absurd (cc e)
+  captured_failed old is (halt.Fault kinds) (stream_by_memory chain e memory part counted) =
       let kind : kinds ≡ chain = cc e in inl (ap is_want_of_memory kind ∙ memory)
 
-  pub captured_done : (old : List Capture) → old ≡ new_capture true ∷ [] → (told now : Option (List ℕ)) (new rest : List Capture) (heard : Bool)
-      (text : String Global) → length new ≡ 1 → new ≡ record { heard = heard; text = string_bytes text } ∷ rest → In (Ok new) old told now →
+  pub captured_done : (old : List Capture) → old ≡ new_capture true ∷ [] → (new rest : List Capture) (heard : Bool)
+      (text : String Global) → length new ≡ 1 → new ≡ record { heard = heard; text = string_bytes text } ∷ rest → In (Ok new) old →
       StreamCaptured stated t w (Ok text) left
-  captured_done old is told now new rest heard text one top (stream_ran out (us, ends) appended counted) =
+  captured_done old is new rest heard text one top (stream_ran out (us, ends) appended counted) =
       let k : Capture = record { heard = heard; text = string_bytes text } in
       let there = subst (λ ks. StreamEnds stated t (new_capture true ∷ []) w out (Finished us ks left)) (only new rest k one top)
       (subst (λ ks. StreamEnds stated t ks w out (Finished us new left)) is ends) in
       inr (out, (us, heard, there))
-  captured_done old is told now new rest heard text one top (stream_by_writer e part counted) = absurd (cc e)
-  captured_done old is told now new rest heard text one top (stream_by_memory chain e memory part counted) = absurd (cc e)
+  captured_done old is new rest heard text one top (stream_by_writer e part counted) = absurd (cc e)
+  captured_done old is new rest heard text one top (stream_by_memory chain e memory part counted) = absurd (cc e)
 
   -- and with its state
   pub state_done : (r : TemplateValue O) (text : String Global) (s : StateValue O) (c : CapturedValue (StateValue O)) → r ≡ t →
@@ -196,8 +197,8 @@ module _ {O A : Type 0} (stated : O → StatedObjects) (t : TemplateValue O) (w 
   abbrev Answers : Result A (List ErrorKind) → Type 0
   Answers result = Streamed stated t w result (Says result) told now
 
-  part_of : StreamBegins stated t old w told now → StreamBegins stated t [] w told now
-  part_of part = subst (λ ks. StreamBegins stated t ks w told now) none part
+  part_of : StreamBegins stated t old w told.bytes now.bytes → StreamBegins stated t [] w told.bytes now.bytes
+  part_of part = subst (λ ks. StreamBegins stated t ks w told.bytes now.bytes) none part
 
   pub into_failed : ((chain : List ErrorKind) (Ends : End → Type 0) → Ends (Failed chain left) → Says (Err chain) Ends) → (why : Halt) →
       Comes (Err why) → Answers (Err (error_of why))

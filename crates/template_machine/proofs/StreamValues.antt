@@ -8,6 +8,7 @@ use Rattle.tm_definitions.specs.Mapped.{with_maps}
 use Rattle.tm_meaning.specs.Memory.{is_want_of_memory}
 use Rattle.tm_meaning.specs.Machine.{Capture, Finished, Failed}
 use Rattle.tm_meaning.specs.World.{World, Bad, answered, records_of}
+use Rattle.tm_output.specs.Counts.{untold}
 use Rattle.tm_parts.specs.Halts.{error_of}
 use Rattle.tm_parts.specs.declared.halt.Halt.{Halt}
 use Rattle.tm_parts.specs.declared.halt.Halt.TheVariants as halt
@@ -20,20 +21,20 @@ use Rattle.template_machine.proofs.Evaluations.{mapped}
 
 module _ {O : Type 0} (stated : O → StatedObjects) (t : TemplateValue O) (w left : World) (old : List Capture) (none : old ≡ []) where
   abbrev Came : Result (List Capture) Halt → Option (List ℕ) → Option (List ℕ) → Type 0
-  Came result told now = StreamRan stated t w result left old told now 0 0
+  Came result = StreamRan stated t w result left old untold untold
 
   -- of a run that failed, with no writer that could
-  pub value_failed : (told now : Option (List ℕ)) (why : Halt) → Came (Err why) told now → StreamValue stated t w (Err (error_of why))
-  value_failed told now halt.Writer (stream_ran text ends appended counted) = absurd ends
-  value_failed told now halt.Writer (stream_by_writer e part counted) = absurd (cc counted)
-  value_failed told now halt.Writer (stream_by_memory chain e memory part counted) = absurd (cc e)
-  value_failed told now halt.Stuck (stream_ran text ends appended counted) = absurd ends
-  value_failed told now halt.Stuck (stream_by_writer e part counted) = absurd (cc e)
-  value_failed told now halt.Stuck (stream_by_memory chain e memory part counted) = absurd (cc e)
-  value_failed told now (halt.Fault kinds) (stream_ran text ends appended counted) =
+  pub value_failed : (why : Halt) → Came (Err why) → StreamValue stated t w (Err (error_of why))
+  value_failed halt.Writer (stream_ran text ends appended counted) = absurd ends
+  value_failed halt.Writer (stream_by_writer e part counted) = absurd (cc counted)
+  value_failed halt.Writer (stream_by_memory chain e memory part counted) = absurd (cc e)
+  value_failed halt.Stuck (stream_ran text ends appended counted) = absurd ends
+  value_failed halt.Stuck (stream_by_writer e part counted) = absurd (cc e)
+  value_failed halt.Stuck (stream_by_memory chain e memory part counted) = absurd (cc e)
+  value_failed (halt.Fault kinds) (stream_ran text ends appended counted) =
       value_streamed text (inr (kinds, left, subst (λ ks. StreamEnds stated t ks w text (Failed kinds left)) none ends, refl))
-  value_failed told now (halt.Fault kinds) (stream_by_writer e part counted) = absurd (cc e)
-  value_failed told now (halt.Fault kinds) (stream_by_memory chain e memory part counted) =
+  value_failed (halt.Fault kinds) (stream_by_writer e part counted) = absurd (cc e)
+  value_failed (halt.Fault kinds) (stream_by_memory chain e memory part counted) =
       let kind : kinds ≡ chain = cc e in value_without_memory (ap is_want_of_memory kind ∙ memory)
 
   -- of one that left one value

@@ -1,5 +1,5 @@
 -- What writers take and how often they fail.
-use Rattle.std.specs.Prelude.{◌≡◌, ℕ, ◌+◌, ◌-◌, ◌^◌, min, List, take, Result, Ok, Err, Option, zero, suc}
+use Rattle.std.specs.Prelude.{◌≡◌, ℕ, ◌+◌, ◌-◌, ◌^◌, min, List, take, Result, Ok, Err, Option, None, zero, suc}
 use Rattle.std.specs.Io.KnownBytes.{Appends}
 
 -- What a writer was given, if that is known, and how many of its calls failed or took nothing.
@@ -7,10 +7,18 @@ pub record Told : Type 0 where
   pub bytes : Option (List ℕ)
   pub failures : ℕ
 
+-- a writer that keeps nothing, and never fails
+abbrev pub untold : Told
+untold = record { bytes = None; failures = 0 }
+
 -- A writer, and how many of its calls failed or took nothing.
 pub record Tally (W : Type 0) : Type 0 where
   pub writer : W
   pub failures : ℕ
+
+-- what it was told, by what of its bytes is known
+abbrev pub told_of : {W : Type 0} → (W → Option (List ℕ)) → Tally W → Told
+told_of contents tally = record { bytes = contents tally.writer; failures = tally.failures }
 
 -- a sink after a limit, how many bytes it may still take, and how many calls failed or took nothing
 pub record Bounded (S : Type 0) : Type 0 where

@@ -2,7 +2,7 @@
 ghost use Rattle.std.specs.Prelude.{◌≡◌, ◌<◌, ℕ, List, [], length, Option, None, Ok, IsOk, OnOk, OnErr};
 ghost use Rattle.std.specs.Io.{WritesAtMost};
 ghost use Rattle.std.specs.Io.KnownBytes.{Keeps, WriteAppends, Appends};
-ghost use Rattle.tm_output.specs.Counts.{failure_count, AppendsBeginning, NoFailure, OneFailure, Told};
+ghost use Rattle.tm_output.specs.Counts.{failure_count, told_of, untold, AppendsBeginning, NoFailure, OneFailure, Told};
 
 use crate::target::TargetFailed;
 use std::io::{self, Write};
@@ -80,10 +80,7 @@ impl<W: Write + Drop> Counted<W> {
 }
 
 impl<W: Write + Drop> Sink for Counted<W> {
-    ghost told = { λ counted. record {
-      bytes = W.contents counted.writer;
-      failures = counted.failures;
-    } };
+    ghost told = { told_of W.contents };
 
     fn write(&mut self, bytes: &[u8]) -> io::Result<usize> {
         let answer = self.inner.write(bytes);
@@ -100,7 +97,7 @@ impl<W: Write + Drop> Sink for Counted<W> {
 pub struct NullWriter;
 
 impl Sink for NullWriter {
-    ghost told = { λ _. record { bytes = None; failures = 0 } };
+    ghost told = { λ _. untold };
 
     /// Takes all of the bytes.
     fn write(&mut self, bytes: &[u8]) -> io::Result<usize>
@@ -128,7 +125,8 @@ impl NullWriter {
 /// handed on, which is faster.
 #[inline(always)]
 pub fn put_text<W: Sink>(sink: &mut W, text: &[u8]) -> Result<(), TargetFailed>
-    ensures written { OnOk result (Appends (W.told sink.old).bytes (W.told sink.new).bytes text.now) }
+    ensures written { OnOk result
+        (Appends (W.told sink.old).bytes (W.told sink.new).bytes text.now) }
     ensures no_fault { OnOk result (NoFailure (W.told sink.old) (W.told sink.new)) }
     ensures beginning { AppendsBeginning (W.told sink.old).bytes (W.told sink.new).bytes text.now }
     ensures fault { OnErr result (OneFailure (W.told sink.old) (W.told sink.new)) }
@@ -152,7 +150,8 @@ pub fn put_text<W: Sink>(sink: &mut W, text: &[u8]) -> Result<(), TargetFailed>
 /// Writes a whole text, each byte once; any error of the writer, or WriteZero where it takes
 /// nothing, ends it.
 pub fn write_text<W: Sink>(sink: &mut W, text: &[u8]) -> Result<(), io::Error>
-    ensures written { OnOk result (Appends (W.told sink.old).bytes (W.told sink.new).bytes text.now) }
+    ensures written { OnOk result
+        (Appends (W.told sink.old).bytes (W.told sink.new).bytes text.now) }
     ensures no_fault { OnOk result (NoFailure (W.told sink.old) (W.told sink.new)) }
     ensures beginning { AppendsBeginning (W.told sink.old).bytes (W.told sink.new).bytes text.now }
     ensures fault { OnErr result (OneFailure (W.told sink.old) (W.told sink.new)) }

@@ -309,8 +309,10 @@ impl<W: Sink> Output<W> {
         ensures written { OnOk result (Appends
             (W.told self.old.writer).bytes (W.told self.new.writer).bytes
             (put_out self.old.captures text.now)) }
-        ensures no_fault { OnOk result (NoFailure (W.told self.old.writer) (W.told self.new.writer)) }
-        ensures beginning { AppendsBeginning (W.told self.old.writer).bytes (W.told self.new.writer).bytes
+        ensures no_fault { OnOk result
+            (NoFailure (W.told self.old.writer) (W.told self.new.writer)) }
+        ensures beginning { AppendsBeginning
+            (W.told self.old.writer).bytes (W.told self.new.writer).bytes
             (put_out self.old.captures text.now) }
         ensures kind { IfErr result (λ e. (e ≡ WriteFailure ∷ []) ⊎ (e ≡ OutOfMemory ∷ [])) }
         ensures unchanged { OnErr result (self.new.captures ≡ self.old.captures) }

@@ -13,7 +13,7 @@ use Rattle.tm_meaning.specs.Machine.{Capture, Config, Next, More, after, audible
 use Rattle.tm_meaning.specs.declared.base.Base.{Base}
 use Rattle.tm_output.specs.Targets.{IsToldInPart, IsToldWhole}
 use Rattle.tm_output.specs.declared.target.TargetFailed.{TargetFailed}
-use Rattle.tm_output.specs.Counts.{AppendsBeginning}
+use Rattle.tm_output.specs.Counts.{AppendsBeginning, Told}
 use Rattle.tm_state.specs.Answers.{KeepsFixedAndNames}
 use Rattle.tm_vm.specs.Answers.{SameStanding, output}
 use Rattle.tm_vm.proofs.Ground.{standing_same}
@@ -55,15 +55,15 @@ pub emitted_at_once : (told now : Told) (host : HostValue) (f : Base) (old new :
     emission_verdict old.world.escape (records_of old.world) v ≡ Ok tt →
     new ≡ record (paid old) { run = record old.run { operands = drop 1 old.run.operands; place = old.run.place + 1 } } →
     MatchResult answer
-    (λ _. IsToldWhole told failures (emitted_text old.world.escape (records_of old.world) v) now count)
-    (λ _. IsToldInPart told failures (emitted_text old.world.escape (records_of old.world) v) now count) →
+    (λ _. IsToldWhole told (emitted_text old.world.escape (records_of old.world) v) now)
+    (λ _. IsToldInPart told (emitted_text old.world.escape (records_of old.world) v) now) →
     Attempted (written_of answer) (emit_of host f) old new told now
 emitted_at_once told now host f old new v rest (Ok u) none heard top unformatted defined fine moved taken =
     let c = paid old in
     let text = emitted_text old.world.escape (records_of old.world) v in
     let at = goes_on host f c new v rest text none heard top (emitted_known host v c.world unformatted defined fine) moved in
     record {
-      did = (at ∙ ap (λ t. More t new) (sym (ap output at)), subst (λ t. Appends told now t) (sym (ap output at)) taken.0);
+      did = (at ∙ ap (λ t. More t new) (sym (ap output at)), subst (λ t. Appends told.bytes now.bytes t) (sym (ap output at)) taken.0);
       counted = taken.1;
       kept = kept_in c new moved;
       same_standing = subst (λ (w : World). SameStanding c.world w) (sym (ap (λ (c : Config). c.world) moved)) (standing_same c.world);
@@ -74,7 +74,7 @@ emitted_at_once told now host f old new v rest (Err e) none heard top unformatte
     let text = emitted_text old.world.escape (records_of old.world) v in
     let at = goes_on host f c new v rest text none heard top (emitted_known host v c.world unformatted defined fine) moved in
     record {
-      did = (tt, subst (λ t. AppendsBeginning told now t) (sym (ap output at)) taken.0);
+      did = (tt, subst (λ t. AppendsBeginning told.bytes now.bytes t) (sym (ap output at)) taken.0);
       counted = taken.1;
       kept = kept_in c new moved;
       same_standing = subst (λ (w : World). SameStanding c.world w) (sym (ap (λ (c : Config). c.world) moved)) (standing_same c.world);
@@ -113,23 +113,23 @@ pub captured_at_once : (host : HostValue) (f : Base) (old new : Config) (v : Val
     MatchResult answer (λ _. IsPut old.captures (emitted_text old.world.escape (records_of old.world) v) ks)
     (λ _. IsPutInPart old.captures (emitted_text old.world.escape (records_of old.world) v) ks) →
     AttemptedUntold (captured_of answer) (emit_of host f) old new
-captured_at_once host f old new v rest (Ok u) some heard top unformatted defined fine ks moved put told failures =
+captured_at_once host f old new v rest (Ok u) some heard top unformatted defined fine ks moved put told =
     let c = paid old in
     let text = emitted_text old.world.escape (records_of old.world) v in
     let at : emit_of host f c ≡ More [] new =
     goes_in host f c v rest text some heard top (emitted_known host v c.world unformatted defined fine)
     ∙ ap (λ (ls : List Capture). More [] (following ls c)) (sym put) ∙ ap (λ (d : Config). More [] d) (sym moved) in
     record {
-      did = nothing_written told at;
+      did = nothing_written told.bytes at;
       counted = refl;
       kept = kept_after ks c new moved;
       same_standing = subst (λ (w : World). SameStanding c.world w) (sym (ap (λ (d : Config). d.world) moved)) (standing_same c.world);
       same_stream = ap (λ (d : Config). d.run.stream) moved;
     }
-captured_at_once host f old new v rest (Err e) some heard top unformatted defined fine ks moved put told failures =
+captured_at_once host f old new v rest (Err e) some heard top unformatted defined fine ks moved put told =
     let c = paid old in
     record {
-      did = (λ other. absurd (cc other), beginning_nothing told (output (emit_of host f c)));
+      did = (λ other. absurd (cc other), beginning_nothing told.bytes (output (emit_of host f c)));
       counted = refl;
       kept = kept_after ks c new moved;
       same_standing = subst (λ (w : World). SameStanding c.world w) (sym (ap (λ (d : Config). d.world) moved)) (standing_same c.world);

@@ -20,6 +20,7 @@ use Rattle.std.proofs.Common.{◌≤◌}
 use Rattle.tm_meaning.specs.Inheritance.{names_left}
 use Rattle.tm_meaning.specs.World.{HostValue}
 use Rattle.tm_meaning.specs.declared.base.Base.{Base}
+use Rattle.tm_output.specs.Counts.{Told}
 use Rattle.tm_output.specs.Pieces.{appends_nothing, beginning_nothing}
 use Rattle.tm_parts.specs.declared.halt.Halt.{Halt}
 use Rattle.tm_parts.specs.declared.halt.Halt.TheVariants as halt
@@ -55,7 +56,7 @@ pub silent : {p : Program} {f : Base} {n : Next} {old new : Config} {told : Told
     → Performs p f n old new told told result
 silent {p = p} {f = f} {n = n} {old = old} {new = new} {told = told} (Ok flow.GoOn) s =
     record {
-      did = nothing_written told s.did;
+      did = nothing_written told.bytes s.did;
       counted = refl;
       kept = fixed_of s.kept;
       names = same_names p.host s.kept;
@@ -68,7 +69,7 @@ silent {p = p} (Ok flow.Restart) s = absurd s.did
 silent {p = p} (Ok (flow.Enter e)) s = absurd s.did
 silent {p = p} (Err halt.Writer) s = absurd s.did
 silent {p = p} {f = f} {n = n} {old = old} {new = new} {told = told} (Err halt.Stuck) s = record {
-  did = (s.did, beginning_nothing told (output n));
+  did = (s.did, beginning_nothing told.bytes (output n));
   counted = refl;
   kept = fixed_of s.kept;
   names = same_names p.host s.kept;
@@ -76,7 +77,7 @@ silent {p = p} {f = f} {n = n} {old = old} {new = new} {told = told} (Err halt.S
   same_stream = s.same_stream;
 }
 silent {p = p} {f = f} {n = n} {old = old} {new = new} {told = told} (Err (halt.Fault chain)) s = record {
-  did = (s.did, beginning_nothing told (output n));
+  did = (s.did, beginning_nothing told.bytes (output n));
   counted = refl;
   kept = fixed_of s.kept;
   names = same_names p.host s.kept;
@@ -94,7 +95,7 @@ pub opened : {p : Program} {f : Base} {n : Next} {old new : Config} {told : Told
     → Performs p f n old new told told result
 opened {p = p} {f = f} {n = n} {old = old} {new = new} {told = told} (Ok flow.GoOn) s =
     record {
-      did = nothing_written told s.did;
+      did = nothing_written told.bytes s.did;
       counted = refl;
       kept = fixed_of s.kept;
       names = same_names p.host s.kept;
@@ -107,7 +108,7 @@ opened {p = p} (Ok flow.Restart) s = absurd s.did
 opened {p = p} (Ok (flow.Enter e)) s = absurd s.did
 opened {p = p} (Err halt.Writer) s = absurd s.did
 opened {p = p} {f = f} {n = n} {old = old} {new = new} {told = told} (Err halt.Stuck) s = record {
-  did = (s.did, beginning_nothing told (output n));
+  did = (s.did, beginning_nothing told.bytes (output n));
   counted = refl;
   kept = fixed_of s.kept;
   names = same_names p.host s.kept;
@@ -115,7 +116,7 @@ opened {p = p} {f = f} {n = n} {old = old} {new = new} {told = told} (Err halt.S
   same_stream = s.same_stream;
 }
 opened {p = p} {f = f} {n = n} {old = old} {new = new} {told = told} (Err (halt.Fault chain)) s = record {
-  did = (s.did, beginning_nothing told (output n));
+  did = (s.did, beginning_nothing told.bytes (output n));
   counted = refl;
   kept = fixed_of s.kept;
   names = same_names p.host s.kept;
@@ -128,7 +129,7 @@ pub shifted : {p : Program} {f : Base} {n : Next} {old new : Config} {told : Tol
     → Performs p f n old new told told result
 shifted {p = p} {n = n} {told = told} (Ok flow.GoOn) s =
     record {
-      did = nothing_written told s.did;
+      did = nothing_written told.bytes s.did;
       counted = refl;
       kept = fixed_of s.kept;
       names = same_names p.host s.kept;
@@ -142,7 +143,7 @@ shifted {p = p} (Ok (flow.Enter e)) s = absurd s.did
 shifted {p = p} (Err halt.Writer) s = absurd s.did
 shifted {p = p} {n = n} {told = told} (Err halt.Stuck) s =
     record {
-      did = (s.did, beginning_nothing told (output n));
+      did = (s.did, beginning_nothing told.bytes (output n));
       counted = refl;
       kept = fixed_of s.kept;
       names = same_names p.host s.kept;
@@ -151,7 +152,7 @@ shifted {p = p} {n = n} {told = told} (Err halt.Stuck) s =
     }
 shifted {p = p} {n = n} {told = told} (Err (halt.Fault chain)) s =
     record {
-      did = (s.did, beginning_nothing told (output n));
+      did = (s.did, beginning_nothing told.bytes (output n));
       counted = refl;
       kept = fixed_of s.kept;
       names = same_names p.host s.kept;
@@ -189,7 +190,7 @@ pub needed : {p : Program} {f : Base} {n : Next} {old new : Config} {told : Told
     → Performs p f n old new told told result
 needed {p = p} {f = f} {old = old} {new = new} {told = told} (Ok flow.GoOn) s =
     record {
-      did = nothing_written told s.did;
+      did = nothing_written told.bytes s.did;
       counted = refl;
       kept = fixed_of s.kept;
       names = same_names p.host s.kept;
@@ -211,7 +212,7 @@ needed {p = p} {f = f} {old = old} {new = new}
 needed {p = p} (Err halt.Writer) s = absurd s.did
 needed {p = p} {f = f} {n = n} {old = old} {new = new} {told = told} (Err halt.Stuck) s =
     record {
-      did = (s.did, beginning_nothing told (output n));
+      did = (s.did, beginning_nothing told.bytes (output n));
       counted = refl;
       kept = fixed_of s.kept;
       names = same_names p.host s.kept;
@@ -220,7 +221,7 @@ needed {p = p} {f = f} {n = n} {old = old} {new = new} {told = told} (Err halt.S
     }
 needed {p = p} {f = f} {n = n} {old = old} {new = new} {told = told} (Err (halt.Fault chain)) s =
     record {
-      did = (s.did, beginning_nothing told (output n));
+      did = (s.did, beginning_nothing told.bytes (output n));
       counted = refl;
       kept = fixed_of s.kept;
       names = same_names p.host s.kept;
@@ -233,7 +234,7 @@ pub loads : {p : Program} {f : Base} {n : Next} {old new : Config} {told : Told}
     Loads p.host n old new result
     → Performs p f n old new told told result
 loads {f = f} {n = n} {old = old} {new = new} {told = told} (Ok flow.GoOn) s = record {
-  did = nothing_written told s.did;
+  did = nothing_written told.bytes s.did;
   counted = refl;
   kept = s.kept;
   names = s.names;
@@ -246,7 +247,7 @@ loads (Ok flow.Restart) s = absurd s.did
 loads (Ok (flow.Enter e)) s = absurd s.did
 loads (Err halt.Writer) s = absurd s.did
 loads {f = f} {n = n} {old = old} {new = new} {told = told} (Err halt.Stuck) s = record {
-  did = (s.did, beginning_nothing told (output n));
+  did = (s.did, beginning_nothing told.bytes (output n));
   counted = refl;
   kept = s.kept;
   names = s.names;
@@ -254,7 +255,7 @@ loads {f = f} {n = n} {old = old} {new = new} {told = told} (Err halt.Stuck) s =
   same_stream = s.same_stream;
 }
 loads {f = f} {n = n} {old = old} {new = new} {told = told} (Err (halt.Fault chain)) s = record {
-  did = (s.did, beginning_nothing told (output n));
+  did = (s.did, beginning_nothing told.bytes (output n));
   counted = refl;
   kept = s.kept;
   names = s.names;
@@ -312,26 +313,26 @@ block_entered p f old x s e new w waits heard enters moved is =
 -- one that was done at once or left, and writes nothing
 pub at_once : (n : Config → Next) (old new : Config) (told : Told) (done : Bool) → IsAtOnce done n old new →
     Attempted (attempt_of done) n old new told told
-at_once n old new told failures true s = record {
-  did = nothing_written told s.did;
+at_once n old new told true s = record {
+  did = nothing_written told.bytes s.did;
   counted = refl;
   kept = s.kept;
   same_standing = s.same_standing;
   same_stream = s.same_stream;
 }
-at_once n old new told failures false same = (same, refl, refl)
+at_once n old new told false same = (same, refl)
 
 -- one that is free was done at once or left
 pub free_at_once : (n : Config → Next) (old new : Config) (told : Told) (done : Bool) → IsFree done n old new →
     Attempted (free_attempt_of done) n old new told told
-free_at_once n old new told failures true s = record {
-  did = nothing_written told s.did;
+free_at_once n old new told true s = record {
+  did = nothing_written told.bytes s.did;
   counted = refl;
   kept = s.kept;
   same_standing = s.same_standing;
   same_stream = s.same_stream;
 }
-free_at_once n old new told failures false same = (same, refl, refl)
+free_at_once n old new told false same = (same, refl)
 
 pub of_charged : (done : Bool) → IsCharged (attempt_of done)
 of_charged true = tt
@@ -384,7 +385,7 @@ finished (Ok (flow.Enter e)) s = absurd s
 finished (Err halt.Writer) s = absurd s
 finished {p = p} {f = f} {n = n} {old = old} {new = new} {told = told} (Err halt.Stuck) s =
     subst (λ (c : Config). Performs p f n c new told told (Err halt.Stuck)) s.1 (record {
-      did = (s.0, beginning_nothing told (output n));
+      did = (s.0, beginning_nothing told.bytes (output n));
       counted = refl;
       kept = fixed_same new.world;
       names = omega arith;
@@ -393,7 +394,7 @@ finished {p = p} {f = f} {n = n} {old = old} {new = new} {told = told} (Err halt
     })
 finished {p = p} {f = f} {n = n} {old = old} {new = new} {told = told} (Err (halt.Fault chain)) s =
     subst (λ (c : Config). Performs p f n c new told told (Err (halt.Fault chain))) s.1 (record {
-      did = ((λ own. absurd (let w : true ≡ false = sym s.0 ∙ own in cc w)), beginning_nothing told (output n));
+      did = ((λ own. absurd (let w : true ≡ false = sym s.0 ∙ own in cc w)), beginning_nothing told.bytes (output n));
       counted = refl;
       kept = fixed_same new.world;
       names = omega arith;
@@ -442,7 +443,7 @@ step_paid {told = told} {now = now} p f x old new result left found paid kept h 
     let same : step p f old ≡ effect p f x (paid_for old left) =
     ap (λ i. act p f i old) found ∙ ap (λ r. after r (λ _ w. effect p f x (with_world w old))) paid in
     record {
-      did = subst (λ n. Did p result told now new n) (sym same) h.did;
+      did = subst (λ n. Did p result told.bytes now.bytes new n) (sym same) h.did;
       counted = h.counted;
       kept = fixed_then (fixed_of kept) h.kept;
       names = names_paid p.host result left old.world new.world h.names;
@@ -491,10 +492,9 @@ done_free p f x old new result found free h =
     step_done p f x old old new result found (pays_nothing x old.world free) (kept_same old.world) refl h
 
 -- a step that is done after an attempt that left all as it was
-pub left : {p : Program} {f : Base} {now : Option (List ℕ)} {count : ℕ} {result : Result Flow Halt} (n : Config → Next) (old mid new : Config)
-    (told between : Option (List ℕ)) (failures many : ℕ) → (mid ≡ old) × (between ≡ told) × (many ≡ failures) →
+pub left : {p : Program} {f : Base} {now : Told} {result : Result Flow Halt} (n : Config → Next) (old mid new : Config)
+    (told between : Told) → (mid ≡ old) × (between ≡ told) →
     Performs p f (n mid) mid new between now result → Performs p f (n old) old new told now result
 left {p = p} {f = f} {now = now} {result = result} n old mid new told between same h =
-    subst (λ (k : ℕ). Performs p f (n old) old new told now k count result) same.2
-    (subst (λ (t : Option (List ℕ)). Performs p f (n old) old new t now many count result) same.1
-    (subst (λ (c : Config). Performs p f (n c) c new between now result) same.0 h))
+    subst (λ (t : Told). Performs p f (n old) old new t now result) same.1
+    (subst (λ (c : Config). Performs p f (n c) c new between now result) same.0 h)

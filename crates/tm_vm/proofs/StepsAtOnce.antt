@@ -6,6 +6,7 @@ use Rattle.tm_meaning.specs.Machine.{Config, Program}
 use Rattle.tm_meaning.specs.Steps.{charge_of, effect}
 use Rattle.tm_meaning.specs.declared.base.Base.{Base}
 use Rattle.tm_parts.specs.declared.halt.Halt.TheVariants as halt
+use Rattle.tm_output.specs.Counts.{Told}
 use Rattle.tm_vm.specs.AtOnce.{Attempted, IsPaid, StepAttempted, no_memory, paid}
 use Rattle.tm_runs.specs.declared.attempt.Attempt.{Attempt}
 use Rattle.tm_runs.specs.declared.attempt.Attempt.TheVariants.{Done, DoneFree, Left, WriterFailed, NoMemory}
@@ -19,7 +20,8 @@ left_of charge fuel one more = omega (arith, one, more)
 free_of : (charge fuel : ℕ) → charge ≡ 0 → fuel + charge ≡ fuel
 free_of charge fuel free = omega (arith, free)
 
-pub step_attempted : (size : ℕ) (p : Program) (f : Base) (x : Instruction) (old new : Config) (told now : Told) (attempt : Attempt) → slice_get (p.code old.run.stream) old.run.place ≡ Some x → old.run.place < size →
+pub step_attempted : (size : ℕ) (p : Program) (f : Base) (x : Instruction) (old new : Config) (told now : Told)
+    (attempt : Attempt) → slice_get (p.code old.run.stream) old.run.place ≡ Some x → old.run.place < size →
     IsPaid attempt x old.world.fuel → Attempted attempt (effect p f x) old new told now →
     StepAttempted attempt f p size old new told now
 step_attempted size p f x old new told now Done found within is_paid did = (

@@ -29,6 +29,7 @@ use Rattle.tm_syntax.specs.Entries.{entry_number}
 use Rattle.tm_meaning.specs.declared.base.Base.{Base}
 use Rattle.tm_meaning.specs.declared.stream.TemplateId.{TemplateId}
 use Rattle.tm_parts.specs.declared.halt.Halt.{Halt}
+use Rattle.tm_output.specs.Counts.{Told}
 use Rattle.tm_vm.specs.Answers.{Finishes, Performs, Paid, StaysRun, parents_left, pending, returns_left, waits, waits_in, weight}
 use Rattle.std.specs.Prelude.{not, is_none}
 use Rattle.tm_values.specs.Answer.{Answer}

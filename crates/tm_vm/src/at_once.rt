@@ -265,8 +265,8 @@ impl Machine {
     fn emit_at_once<H: Host, W: Sink>(&mut self, host: &H, base: &Base, writer: &mut W) -> Attempt
         requires in_place { CanGoOn self.old.run }
         requires can_pay { CanPay 1 self.old.world.fuel }
-        ensures done { Attempted result (emit_of (H.program host.now).host base.now) self.old self.new
-            (W.told writer.old) (W.told writer.new) }
+        ensures done { Attempted result (emit_of (H.program host.now).host base.now)
+            self.old self.new (W.told writer.old) (W.told writer.new) }
         ensures charged { IsCharged result }
     {
         if host.objects().has_formatter() {

@@ -158,7 +158,8 @@ impl Machine {
     /// Replaces a value and a key by the value's item there.
     pub(crate) fn do_get_item<H: Host>(&mut self, alloc: Global, host: &H) -> Result<Flow, Halt>
         requires { CanGoOn self.old.run }
-        ensures { Silently (get_item_of (H.program host.now).host self.old) self.old self.new result }
+        ensures { Silently (get_item_of (H.program host.now).host self.old)
+            self.old self.new result }
     {
         let key = self.run.popped()?;
         let value = self.run.popped()?;

@@ -1,5 +1,6 @@
-use Rattle.std.proofs.Common.{◌≡◌, ◌∙◌, [], ◌∷◌, None, Ok, Err, MatchOption, inl, ap, length, refl, rules, subst, sym}
+use Rattle.std.proofs.Common.{◌≡◌, ◌∙◌, [], ◌∷◌, Ok, Err, MatchOption, inl, ap, length, refl, rules, subst, sym}
 use Rattle.tm_meaning.specs.Machine.{Config, Finished, run_from, running}
+use Rattle.tm_output.specs.Counts.{untold}
 use Rattle.tm_parts.specs.Halts.{error_of}
 use Rattle.template_machine.specs.Renders.{meaning_from, value_meant, Evaluated, StreamEnds, StreamValue}
 use Rattle.template_machine.proofs.Answered.{passed}
@@ -23,8 +24,8 @@ returns-in_err-result-clause-evaluated g c = λ of.
     c.new-machine.ensures ∙ ap (λ s. running (run_from s (length ks)) ks c.take.result) stream_is
     ∙ ap (λ w. running (run_from old.stream (length ks)) ks w) world_is in
     passed c.from_residual-in_err-result.result (Evaluated (value_meant stated t old)) (error_of why) c.from_residual-in_err-result.ensures.1
-    (evaluated_failed (meaning_from stated t old) left.world ks None None why
-    (over_halted stated t ks left.captures old left.world None None 0 0 c.new-machine.result begins (inl c.new.ensures) of why left.world (λ own. refl)
+    (evaluated_failed (meaning_from stated t old) left.world ks why
+    (over_halted stated t ks left.captures old left.world untold untold c.new-machine.result begins (inl c.new.ensures) of why left.world (λ own. refl)
     c.in_err-result.ensures.ended c.in_err-result.ensures.beginning c.in_err-result.ensures.failures))
 
 pub returns-in-Some-clause-evaluated : goal.returns-in-Some-clause-evaluated
@@ -47,9 +48,9 @@ returns-in-Some-clause-evaluated g c = λ of.
     let ended = c.in_ok-result.ensures.ended in
     let m = meaning_from stated t old in
     evaluated_one m put us v c.with_maps.result
-    (over_answers stated t ks left.captures old left.world None None 0 0 c.new-machine.result begins (inl c.new.ensures) of us ended
+    (over_answers stated t ks left.captures old left.world untold untold c.new-machine.result begins (inl c.new.ensures) of us ended
     ∙ ap (λ w. Ok w) (sym c.into_value-value.ensures.state))
-    (over_leaves stated t ks left.captures old left.world None None 0 0 c.new-machine.result begins (inl c.new.ensures) of us ended)
+    (over_leaves stated t ks left.captures old left.world untold untold c.new-machine.result begins (inl c.new.ensures) of us ended)
     one c.with_maps.ensures
 
 pub returns-in-None-clause-evaluated : goal.returns-in-None-clause-evaluated
@@ -70,8 +71,8 @@ returns-in-None-clause-evaluated g c = λ of.
     let ended = c.in_ok-result.ensures.ended in
     subst (λ chain. Evaluated (value_meant stated t old) (Err chain)) (sym c.from.ensures)
     (evaluated_none (meaning_from stated t old) left.world us
-    (over_answers stated t ks left.captures old left.world None None 0 0 c.new-machine.result begins (inl c.new.ensures) of us ended)
-    (over_leaves stated t ks left.captures old left.world None None 0 0 c.new-machine.result begins (inl c.new.ensures) of us ended) many)
+    (over_answers stated t ks left.captures old left.world untold untold c.new-machine.result begins (inl c.new.ensures) of us ended)
+    (over_leaves stated t ks left.captures old left.world untold untold c.new-machine.result begins (inl c.new.ensures) of us ended) many)
 
 -- ---------------------------------------------------------------- of streams
 pub returns-in_err-result-clause-streams : goal.returns-in_err-result-clause-streams
@@ -88,8 +89,8 @@ returns-in_err-result-clause-streams g c = λ sound.
     c.new-machine.ensures ∙ ap (λ s. running (run_from s (length ks)) ks c.take.result) stream_is
     ∙ ap (λ w. running (run_from old.stream (length ks)) ks w) world_is in
     passed c.from_residual-in_err-result.result (StreamValue stated t old) (error_of why) c.from_residual-in_err-result.ensures.1
-    (value_failed stated t old left.world ks c.new.ensures None None why
-    (streams_halted stated t c.accepted.ensures ks old left.world sound None None 0 0 c.new-machine.result begins left.world why (λ own. refl)
+    (value_failed stated t old left.world ks c.new.ensures why
+    (streams_halted stated t c.accepted.ensures ks old left.world sound untold untold c.new-machine.result begins left.world why (λ own. refl)
     c.in_err-result.ensures.ended c.in_err-result.ensures.beginning c.in_err-result.ensures.failures))
 
 pub returns-in-Some-clause-streams : goal.returns-in-Some-clause-streams
@@ -109,7 +110,7 @@ returns-in-Some-clause-streams g c = λ sound.
     ∙ ap (λ w. running (run_from old.stream (length ks)) ks w) world_is in
     let one : us ≡ v ∷ [] =
     subst (λ o. MatchOption o (length us ≡ 1 → ⊥) (λ x. us ≡ x ∷ [])) c.in-Some.is c.into_value-value.ensures.value in
-    let end = streams_end stated t c.accepted.ensures ks old left.world sound None None 0 0 c.new-machine.result begins us left.captures
+    let end = streams_end stated t c.accepted.ensures ks old left.world sound untold untold c.new-machine.result begins us left.captures
     c.in_ok-result.ensures.ended in
     value_one stated t old put ks c.new.ensures us left.captures v c.with_maps.result one c.with_maps.ensures
     (end.0, subst (λ x. StreamEnds stated t ks old end.0 (Finished us left.captures x)) (sym c.into_value-value.ensures.state) end.1)
@@ -131,5 +132,5 @@ returns-in-None-clause-streams g c = λ sound.
     subst (λ o. MatchOption o (length us ≡ 1 → ⊥) (λ x. us ≡ x ∷ [])) c.in-None.is c.into_value-value.ensures.value in
     subst (λ chain. StreamValue stated t old (Err chain)) (sym c.from.ensures)
     (value_none stated t old left.world ks c.new.ensures us left.captures many
-    (streams_end stated t c.accepted.ensures ks old left.world sound None None 0 0 c.new-machine.result begins us left.captures
+    (streams_end stated t c.accepted.ensures ks old left.world sound untold untold c.new-machine.result begins us left.captures
     c.in_ok-result.ensures.ended))

@@ -1,9 +1,10 @@
-use Rattle.std.proofs.Common.{rules, None, string_bytes, ◌≡◌, ◌∙◌, [], ◌∷◌, ap, length, refl, true}
+use Rattle.std.proofs.Common.{rules, string_bytes, ◌≡◌, ◌∙◌, [], ◌∷◌, ap, length, refl, true}
 use Rattle.tm_meaning.specs.Instructions.{is_heard}
 use Rattle.template_machine.specs.Renders.{block_meaning, BlockText}
 use Rattle.template_machine.proofs.BlockCalls.{text_done}
 use Rattle.tm_meaning.specs.Machine.{new_capture}
 use Rattle.tm_meaning.specs.Memory.{is_want_of_memory}
+use Rattle.tm_output.specs.Counts.{untold}
 use Rattle.tm_parts.specs.Halts.{error_of}
 use Rattle.template_machine.proofs.Answered.{passed}
 use Rattle.template_machine.proofs.StreamCalls.{block_text_done, block_text_failed, block_text_none}
@@ -12,8 +13,8 @@ use Rattle.template_machine.proofs.state.StateOf.render_block.Goals as goal
 pub returns-clause-called : goal.returns-clause-called
 returns-clause-called g c = λ of.
     let s = c.args.self.now in
-    text_done (block_meaning g.O.Parties.stated s.template c.args.name.now s.world) c.run_block.new.self.world None None _
-    c.in_ok-captures.captures c.end.new.self (is_heard c.in-Some._mode) (string_bytes c.in-Some.text) 0 0 (search rules)
+    text_done (block_meaning g.O.Parties.stated s.template c.args.name.now s.world) c.run_block.new.self.world untold untold _
+    c.in_ok-captures.captures c.end.new.self (is_heard c.in-Some._mode) (string_bytes c.in-Some.text) (search rules)
     (c.in_ok-captures.ensures.ran of) c.in-Some.ensures
 
 pub returns-in_err-begin-clause-streams : goal.returns-in_err-begin-clause-streams
@@ -31,11 +32,11 @@ returns-in_err-captures-clause-streams g c =
     let one : c.begin.new.self ≡ new_capture true ∷ [] = search rules in
     passed c.from_residual-in_err-captures.result (λ r. BlockText g.O.Parties.stated s c.args.name.now r new) (error_of why)
     c.from_residual-in_err-captures.ensures.1
-    (block_text_failed g.O.Parties.stated s c.args.name.now new c.begin.new.self one _ _ why c.in_err-captures.ensures.streams)
+    (block_text_failed g.O.Parties.stated s c.args.name.now new c.begin.new.self one why c.in_err-captures.ensures.streams)
 
 pub returns-clause-streams : goal.returns-clause-streams
 returns-clause-streams g c =
     let one : c.begin.new.self ≡ new_capture true ∷ [] = search rules in
-    block_text_done g.O.Parties.stated c.args.self.now c.args.name.now c.run_block.new.self.world c.begin.new.self one _ _
+    block_text_done g.O.Parties.stated c.args.self.now c.args.name.now c.run_block.new.self.world c.begin.new.self one
     c.in_ok-captures.captures c.end.new.self (is_heard c.in-Some._mode) c.in-Some.text (c.in_ok-captures.ensures.closed ∙ ap length one)
     c.in-Some.ensures c.in_ok-captures.ensures.streams

@@ -12,10 +12,8 @@ returns-in_err-_captures-clause-rendered g c = λ of.
     let m = block_meaning g.O.Parties.stated s.template c.args.name.now s.world in
     let left = c.run_block.new.self.world in
     let why = c.in_err-_captures.field-0.0 in
-    let told = (g.W.Sink.told c.args.writer.now).bytes in
-    let now = (g.W.Sink.told c.run_block.new.writer).bytes in
-    let failures = (g.W.Sink.told c.args.writer.now).failures in
-    let count = (g.W.Sink.told c.run_block.new.writer).failures in
+    let told = g.W.Sink.told c.args.writer.now in
+    let now = g.W.Sink.told c.run_block.new.writer in
     let Came : Result (Unit {0}) (List ErrorKind) → Type 0 = λ r. BlockWritten m r left told now in
     passed c.from_residual.result Came (error_of why) c.from_residual.ensures.1
     (written_failed m left c.new-captures.result c.new-captures.ensures told now why (c.in_err-_captures.ensures.ran of))
@@ -31,10 +29,8 @@ returns-in_err-_captures-clause-streams g c =
     let s = c.args.self.now in
     let new = c.run_block.new.self.world in
     let why = c.in_err-_captures.field-0.0 in
-    let told = (g.W.Sink.told c.args.writer.now).bytes in
-    let now = (g.W.Sink.told c.run_block.new.writer).bytes in
-    let failures = (g.W.Sink.told c.args.writer.now).failures in
-    let count = (g.W.Sink.told c.run_block.new.writer).failures in
+    let told = g.W.Sink.told c.args.writer.now in
+    let now = g.W.Sink.told c.run_block.new.writer in
     passed c.from_residual.result (λ r. BlockStreamed g.O.Parties.stated s c.args.name.now r new told now) (error_of why)
     c.from_residual.ensures.1
     (block_failed g.O.Parties.stated s c.args.name.now new c.new-captures.result c.new-captures.ensures told now why

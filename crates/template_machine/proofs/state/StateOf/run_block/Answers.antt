@@ -12,13 +12,12 @@ use Rattle.template_machine.proofs.state.StateOf.run_block.Goals as goal
 pub returns-in_err-saved-clause-ran : goal.returns-in_err-saved-clause-ran
 returns-in_err-saved-clause-ran g c = λ of.
     let s = c.args.self.now in
-    let told = (g.W.Sink.told c.args.writer.now).bytes in
-    let failures = (g.W.Sink.told c.args.writer.now).failures in
+    let told = g.W.Sink.told c.args.writer.now in
     let why = c.in_err-saved.field-0.0 in
     let Came : Result (List Capture) Halt → Type 0 = λ r. Ran (block_meaning g.O.Parties.stated s.template c.args.name.now s.world) r
     c.enter_block.new.self.world c.args.captures told told in
     passed c.from_residual.result Came (halt.Fault why) c.from_residual.ensures.1
-    (block_refused g.O.Parties.stated s.template c.args.name.now s.world c.enter_block.new.self.world c.args.captures told failures why
+    (block_refused g.O.Parties.stated s.template c.args.name.now s.world c.enter_block.new.self.world c.args.captures told why
     (ap {A = StateValue g.row.O.Denot} (λ x. x.world) c.in_err-saved.ensures.unchanged) c.in_err-saved.ensures.err)
 
 pub returns-clause-ran : goal.returns-clause-ran
@@ -26,10 +25,8 @@ returns-clause-ran g c = λ of.
     let s = c.args.self.now in
     let mid = c.enter_block.new.self in
     let left = c.run-result.new.state in
-    let told = (g.W.Sink.told c.args.writer.now).bytes in
-    let now = (g.W.Sink.told c.run-result.new.writer).bytes in
-    let failures = (g.W.Sink.told c.args.writer.now).failures in
-    let count = (g.W.Sink.told c.run-result.new.writer).failures in
+    let told = g.W.Sink.told c.args.writer.now in
+    let now = g.W.Sink.told c.run-result.new.writer in
     let of_mid = subst (λ (t : TemplateValue g.row.O.Denot). IsOfTrees t) (sym c.in_ok-saved.ensures.template) of in
     let ran = subst (λ (x : StateValue g.row.O.Denot). Ran (meaning_from g.O.Parties.stated x.template x.world) c.run-result.result left
     c.args.captures told now) c.self.view_is
@@ -43,13 +40,12 @@ returns-clause-ran g c = λ of.
 pub returns-in_err-saved-clause-streams : goal.returns-in_err-saved-clause-streams
 returns-in_err-saved-clause-streams g c =
     let s = c.args.self.now in
-    let told = (g.W.Sink.told c.args.writer.now).bytes in
-    let failures = (g.W.Sink.told c.args.writer.now).failures in
+    let told = g.W.Sink.told c.args.writer.now in
     let why = c.in_err-saved.field-0.0 in
     let Came : Result (List Capture) Halt → Type 0 = λ r. BlockRan g.O.Parties.stated s c.args.name.now r c.enter_block.new.self.world
     c.args.captures told told in
     passed c.from_residual.result Came (halt.Fault why) c.from_residual.ensures.1
-    (refused_block why (refl, refl, refl) c.in_err-saved.ensures.err
+    (refused_block why (refl, refl) c.in_err-saved.ensures.err
     (ap {A = StateValue g.row.O.Denot} (λ x. x.world) c.in_err-saved.ensures.unchanged))
 
 pub returns-clause-streams : goal.returns-clause-streams
@@ -57,10 +53,8 @@ returns-clause-streams g c =
     let s = c.args.self.now in
     let mid = c.enter_block.new.self in
     let left = c.run-result.new.state in
-    let told = (g.W.Sink.told c.args.writer.now).bytes in
-    let now = (g.W.Sink.told c.run-result.new.writer).bytes in
-    let failures = (g.W.Sink.told c.args.writer.now).failures in
-    let count = (g.W.Sink.told c.run-result.new.writer).failures in
+    let told = g.W.Sink.told c.args.writer.now in
+    let now = g.W.Sink.told c.run-result.new.writer in
     let ran = subst (λ (x : StateValue g.row.O.Denot). StreamRan g.O.Parties.stated x.template x.world c.run-result.result left
     c.args.captures told now) c.self.view_is (c.run-result.ensures.streams c.self.invariant) in
     block_streamed g.O.Parties.stated s c.args.name.now c.put_back.new.self left c.args.captures told now c.in_ok-saved.saved

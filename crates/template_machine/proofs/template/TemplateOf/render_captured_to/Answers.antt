@@ -12,10 +12,8 @@ pub returns-in_err-_captures-clause-rendered : goal.returns-in_err-_captures-cla
 returns-in_err-_captures-clause-rendered g c = λ h of.
     let t = c.args.self.now in
     let why = c.in_err-_captures.field-0.0 in
-    let told = (g.W.Sink.told c.args.writer.now).bytes in
-    let now = (g.W.Sink.told c.run_over.new.writer).bytes in
-    let failures = (g.W.Sink.told c.args.writer.now).failures in
-    let count = (g.W.Sink.told c.run_over.new.writer).failures in
+    let told = g.W.Sink.told c.args.writer.now in
+    let now = g.W.Sink.told c.run_over.new.writer in
     let Came : Result (CapturedValue (StateValue g.row.O.Denot)) (List ErrorKind) → World → Type 0 =
     λ r w. Rendered t (meaning_from g.O.Parties.stated t w) r told now in
     let came : Came c.from_residual-in_err-_captures.result c.in_ok-first.first =
@@ -27,10 +25,8 @@ pub returns-in_err-_captures-clause-streams : goal.returns-in_err-_captures-clau
 returns-in_err-_captures-clause-streams g c = λ h.
     let t = c.args.self.now in
     let why = c.in_err-_captures.field-0.0 in
-    let told = (g.W.Sink.told c.args.writer.now).bytes in
-    let now = (g.W.Sink.told c.run_over.new.writer).bytes in
-    let failures = (g.W.Sink.told c.args.writer.now).failures in
-    let count = (g.W.Sink.told c.run_over.new.writer).failures in
+    let told = g.W.Sink.told c.args.writer.now in
+    let now = g.W.Sink.told c.run_over.new.writer in
     let Came : Result (CapturedValue (StateValue g.row.O.Denot)) (List ErrorKind) → World → Type 0 =
     λ r w. Streamed g.O.Parties.stated t w r (IsStreamEnd t r) told now in
     let sound : SoundRecords t c.in_ok-first.first =
@@ -44,10 +40,8 @@ returns-in_err-_captures-clause-streams g c = λ h.
 pub returns-clause-streams : goal.returns-clause-streams
 returns-clause-streams g c = λ h.
     let t = c.args.self.now in
-    let told = (g.W.Sink.told c.args.writer.now).bytes in
-    let now = (g.W.Sink.told c.run_over.new.writer).bytes in
-    let failures = (g.W.Sink.told c.args.writer.now).failures in
-    let count = (g.W.Sink.told c.run_over.new.writer).failures in
+    let told = g.W.Sink.told c.args.writer.now in
+    let now = g.W.Sink.told c.run_over.new.writer in
     let Captured : Type 0 = CapturedValue (StateValue g.row.O.Denot) in
     let sound : SoundRecords t c.in_ok-first.first =
     subst (λ (w : World). SoundRecords t w) (sym c.in_ok-first.ensures.state) (λ shapes all. tt) in

@@ -170,8 +170,8 @@ run-steps-smaller g t c =
 
 pub run-steps-preserved : goal.run-steps-preserved
 run-steps-preserved g t c =
-    let host = (g.H.Host.program c.args.host.now).host in
     let p = g.H.Host.program c.args.host.now in
+    let host = p.host in
     let a = c.args.self.now in
     let limit = host.limit in
     let now = (g.W.Sink.told c.steps.writer).bytes in

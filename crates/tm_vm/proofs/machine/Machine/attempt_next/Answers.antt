@@ -6,7 +6,6 @@ use Rattle.tm_vm.proofs.machine.Machine.attempt_next.Goals as goal
 
 pub returns-in-Some : goal.returns-in-Some
 returns-in-Some g c =
-    let host = (g.H.Host.program c.args.host.now).host in
     let p = g.H.Host.program c.args.host.now in
     let a = c.args.self.now in
     let xs = c.as_slice.result.now in

@@ -1,4 +1,4 @@
-use Rattle.std.proofs.Common.{◌≡◌, ◌+◌, ◌-◌, ◌∙◌, true, refl, subst, sym, ap}
+use Rattle.std.proofs.Common.{◌≡◌, ◌+◌, ◌-◌, ◌∙◌, true, is_some, refl, subst, sym, ap}
 use Rattle.tm_meaning.specs.World.{records_of}
 use Rattle.tm_meaning.specs.Machine.{Activation, Config, audible}
 use Rattle.tm_vm.proofs.Emitted.{emitted_at_once, no_formatter}
@@ -17,6 +17,6 @@ returns-clause-done g c =
       captures = c.self.inside.captures;
       world = record w { fuel = w.fuel - 1 };
     }) c.drop_top.ensures in
-    rw (sym c.self.view_is, c.written.ensures) (emitted_at_once _ _ _ _ host c.args.base.now _ _ c.in-Some.value.now c.in-Some.ensures.0
+    rw (sym c.self.view_is, c.written.ensures) (emitted_at_once _ _ host c.args.base.now _ _ c.in-Some.value.now c.in-Some.ensures.0
     c.in-Some-emit_at_once.answer (c.if-not-is_empty.ensures.0 refl) heard c.in-Some.ensures.1
-    (no_formatter host.formatter (sym c.if-has_formatter.ensures)) (e.0 host.undefined) fine moved taken)
+    (no_formatter host.formatter (ap is_some c.objects.ensures.formatter ∙ sym c.if-has_formatter.ensures)) (e.0 host.undefined) fine moved taken)

@@ -1,4 +1,4 @@
-use Rattle.std.proofs.Common.{◌≡◌, ◌≤◌, ◌+◌, ◌∙◌, ◌∷◌, List, ap, arith, drop, slice_get, sym, subst}
+use Rattle.std.proofs.Common.{◌≡◌, ◌≤◌, ◌+◌, ◌∙◌, ◌∷◌, List, is_some, ap, arith, drop, slice_get, sym, subst}
 use Rattle.tm_syntax.specs.Entries.{entries}
 use Rattle.tm_trees.specs.Instructions.{Instruction}
 use Rattle.tm_meaning.specs.Machine.{Config}
@@ -32,7 +32,7 @@ returns-clause-gives g c =
       λ new moved.
           called p c.args.name.now c.args.count old new c.in-Some.args.now m s given place c.in-Some-entry.taken escape l v c.in-Some.ensures
           (sym c.is.ensures ∙ c.if-is.false) (c.in-Some-macro_named.ensures host) c.in-Some-plain_call.ensures at
-          (omega (arith, c.if-taken-len.false, c.len.ensures, c.in-Some-plain_call.given.ok)) (no_formatter host.formatter (sym c.has_formatter.ensures ∙ c.if-has_formatter.false))
+          (omega (arith, c.if-taken-len.false, c.len.ensures, c.in-Some-plain_call.given.ok)) (no_formatter host.formatter (ap is_some c.objects.ensures.formatter ∙ sym c.has_formatter.ensures ∙ c.if-has_formatter.false))
           (sym c.escape-escape.ensures) runs less c.in_ok-value.ensures
           (moved ∙ ap (λ n. record old {
             run = record old.run { place = old.run.place + 1; operands = v ∷ drop c.args.count old.run.operands };
