@@ -1,6 +1,6 @@
 //! The instructions that are paid for and done at once where they can be: where they run nothing, and fail only by the
 //! writer or where a capture finds no memory.
-ghost use Rattle.std.specs.Prelude.{◌≡◌, ◌+◌, None, true};
+ghost use Rattle.std.specs.Prelude.{◌≡◌, ◌+◌, ℕ, None, true};
 ghost use Rattle.tm_meaning.specs.World.{CanPay, HostValue};
 ghost use Rattle.tm_meaning.specs.Machine.{audible};
 ghost use Rattle.tm_meaning.specs.Instructions.{binary_of, discard_top_of, dup_top_of, emit_of, emit_raw_of, get_attr_of, iterate_of, jump_if_false_of};
@@ -35,13 +35,12 @@ impl Machine {
 
     /// Pushes the innermost scope's own value of a name.
     #[inline(always)]
-    fn lookup_at_once<H: Host>(&mut self, host: &H, name: &Name) -> bool
+    fn lookup_at_once(&mut self, name: &Name) -> bool
         requires in_place { CanGoOn self.old.run }
         requires can_pay { CanPay 1 self.old.world.fuel }
-        ensures { IsAtOnce result (lookup_of (H.program host.now).host name.now)
-            self.old self.new }
+        ensures { (host : HostValue) →
+            IsAtOnce result (lookup_of host name.now) self.old self.new }
     {
-        let _host = host;
         let Some(value) = self.state.local(name) else {
             return false;
         };
@@ -54,13 +53,12 @@ impl Machine {
 
     /// Replaces a map by its attribute.
     #[inline(always)]
-    fn get_attr_at_once<H: Host>(&mut self, host: &H, name: &Name) -> bool
+    fn get_attr_at_once(&mut self, name: &Name) -> bool
         requires in_place { CanGoOn self.old.run }
         requires can_pay { CanPay 1 self.old.world.fuel }
-        ensures { IsAtOnce result (get_attr_of (H.program host.now).host name.now)
-            self.old self.new }
+        ensures { (host : HostValue) →
+            IsAtOnce result (get_attr_of host name.now) self.old self.new }
     {
-        let _host = host;
         if !self.run.replace_by_member(name.as_str()) {
             return false;
         }
@@ -84,13 +82,12 @@ impl Machine {
 
     /// Replaces two numbers by what an operator gives of them.
     #[inline(always)]
-    fn binary_at_once<H: Host>(&mut self, host: &H, operator: BinaryOperator) -> bool
+    fn binary_at_once(&mut self, operator: BinaryOperator) -> bool
         requires in_place { CanGoOn self.old.run }
         requires can_pay { CanPay 1 self.old.world.fuel }
-        ensures { IsAtOnce result (binary_of (H.program host.now).host operator)
-            self.old self.new }
+        ensures { (host : HostValue) →
+            IsAtOnce result (binary_of host operator) self.old self.new }
     {
-        let _host = host;
         if !self.run.operate(operator) {
             return false;
         }
@@ -100,13 +97,12 @@ impl Machine {
 
     /// Pops a truth value, and goes on at a place where it is false.
     #[inline(always)]
-    fn jump_if_false_at_once<H: Host>(&mut self, host: &H, place: usize) -> bool
+    fn jump_if_false_at_once(&mut self, place: usize) -> bool
         requires in_place { CanGoOn self.old.run }
         requires can_pay { CanPay 1 self.old.world.fuel }
-        ensures { IsAtOnce result (jump_if_false_of (H.program host.now).host place)
-            self.old self.new }
+        ensures { (host : HostValue) →
+            IsAtOnce result (jump_if_false_of host place) self.old self.new }
     {
-        let _host = host;
         match self.run.take_boolean() {
             Some(true) => self.run.advance(),
             Some(false) => self.run.jump(place),
@@ -136,12 +132,11 @@ impl Machine {
 
     /// Pushes the next item of the innermost loop, where one is left.
     #[inline(always)]
-    fn iterate_at_once(&mut self, place: usize) -> bool
+    fn iterate_at_once(&mut self) -> bool
         requires in_place { CanGoOn self.old.run }
         requires can_pay { CanPay 1 self.old.world.fuel }
-        ensures { IsAtOnce result (iterate_of place) self.old self.new }
+        ensures { (place : ℕ) → IsAtOnce result (iterate_of place) self.old self.new }
     {
-        let _place = place;
         if !self.run.has_loop() {
             return false;
         }
@@ -312,36 +307,28 @@ impl Machine {
         match instruction {
             Instruction::EmitRaw(text) => self.emit_raw_at_once(base, text, writer),
             Instruction::Emit => self.emit_at_once(host, base, writer),
-            Instruction::Lookup(name) => Attempt::of(self.lookup_at_once(host, name)),
-            Instruction::GetAttr(name) => Attempt::of(self.get_attr_at_once(host, name)),
+            Instruction::Lookup(name) => Attempt::of(self.lookup_at_once(name)),
+            Instruction::GetAttr(name) => Attempt::of(self.get_attr_at_once(name)),
             Instruction::LoadConst(value) => Attempt::of(self.load_const_at_once(value)),
-            Instruction::Eq => Attempt::of(self.binary_at_once(host, BinaryOperator::Equal)),
-            Instruction::Ne => Attempt::of(self.binary_at_once(host, BinaryOperator::NotEqual)),
-            Instruction::Lt => Attempt::of(self.binary_at_once(host, BinaryOperator::Less)),
-            Instruction::Lte => Attempt::of(self.binary_at_once(host, BinaryOperator::LessOrEqual)),
-            Instruction::Gt => Attempt::of(self.binary_at_once(host, BinaryOperator::Greater)),
-            Instruction::Gte => Attempt::of(self.binary_at_once(
-                host,
-                BinaryOperator::GreaterOrEqual,
-            )),
-            Instruction::Add => Attempt::of(self.binary_at_once(host, BinaryOperator::Add)),
-            Instruction::Sub => Attempt::of(self.binary_at_once(host, BinaryOperator::Subtract)),
-            Instruction::Mul => Attempt::of(self.binary_at_once(host, BinaryOperator::Multiply)),
-            Instruction::IntDiv => Attempt::of(self.binary_at_once(
-                host,
-                BinaryOperator::FloorDivide,
-            )),
-            Instruction::Rem => Attempt::of(self.binary_at_once(host, BinaryOperator::Remainder)),
+            Instruction::Eq => Attempt::of(self.binary_at_once(BinaryOperator::Equal)),
+            Instruction::Ne => Attempt::of(self.binary_at_once(BinaryOperator::NotEqual)),
+            Instruction::Lt => Attempt::of(self.binary_at_once(BinaryOperator::Less)),
+            Instruction::Lte => Attempt::of(self.binary_at_once(BinaryOperator::LessOrEqual)),
+            Instruction::Gt => Attempt::of(self.binary_at_once(BinaryOperator::Greater)),
+            Instruction::Gte => Attempt::of(self.binary_at_once(BinaryOperator::GreaterOrEqual)),
+            Instruction::Add => Attempt::of(self.binary_at_once(BinaryOperator::Add)),
+            Instruction::Sub => Attempt::of(self.binary_at_once(BinaryOperator::Subtract)),
+            Instruction::Mul => Attempt::of(self.binary_at_once(BinaryOperator::Multiply)),
+            Instruction::IntDiv => Attempt::of(self.binary_at_once(BinaryOperator::FloorDivide)),
+            Instruction::Rem => Attempt::of(self.binary_at_once(BinaryOperator::Remainder)),
             Instruction::Jump(place) => {
                 self.state.pay_one();
                 self.run.jump(*place);
                 Attempt::Done
             }
-            Instruction::JumpIfFalse(place) => Attempt::of(self.jump_if_false_at_once(
-                host, *place,
-            )),
+            Instruction::JumpIfFalse(place) => Attempt::of(self.jump_if_false_at_once(*place)),
             Instruction::StoreLocal(name) => Attempt::of(self.store_local_at_once(name)),
-            Instruction::Iterate(place) => Attempt::of(self.iterate_at_once(*place)),
+            Instruction::Iterate(_) => Attempt::of(self.iterate_at_once()),
             Instruction::IsUndefined => Attempt::of(self.is_undefined_at_once()),
             Instruction::DupTop => Attempt::free(self.dup_top_at_once()),
             Instruction::DiscardTop => Attempt::free(self.discard_top_at_once()),
