@@ -37,3 +37,17 @@ def kept(crate):
 def is_kept(rtlib, crate):
     """Whether the library was made from the sources as they are now."""
     return os.path.isdir(library(crate)) and rtlib.text_of(kept(crate)) == crate.stamp()
+
+
+def take_proved(made, crates):
+    """Gives these crates, lowest first, the libraries that `rt ci` proved on this machine from the same sources, in any checkout.
+
+    Returns the names of those that it hasn't. They go to where `rt check` looks for them, out/rlib."""
+    made.Crate.allowed = made.handles_of(ROOT)
+    held, missing = made.Kept(crates), []
+    for crate in crates:
+        if any(it.name in missing for it in crate.below()) or not held.give(crate, False, held.key(crate)):
+            missing.append(crate.name)
+        else:
+            held.is_built(crate)
+    return missing
