@@ -233,8 +233,7 @@ impl Lists {
         })
     }
 
-    /// A copy of the loaded part that shares its top level with nothing. Fails only with
-    /// OutOfMemory.
+    /// A copy of the loaded part, not shared with another state. Fails only with OutOfMemory.
     fn copy_loaded(&self, alloc: Global) -> Result<Loaded, Error>
         ensures { OkOrOutOfMemory result (λ copy. copy ≡ loaded_part self.now) }
     {

@@ -197,7 +197,7 @@ impl Loaded {
         Ok(())
     }
 
-    /// A copy of the names that is shared with nothing. Fails only with OutOfMemory.
+    /// A copy of the names, not shared with another state. Fails only with OutOfMemory.
     fn copy_names(&self, alloc: Global) -> Result<LoadedNames, Error>
         ensures { OkOrOutOfMemory result (λ copy. copy ≡ self.now.names) }
     {

@@ -1,4 +1,4 @@
-//! What the machine asks of the environment and the objects of the caller.
+//! What the machine asks of the environment and of the caller's objects.
 ghost use Rattle.std.specs.Prelude.{◌≡◌, List, Ok, Some, None, MatchOption, IsSomeAnd, false, is_some, slice_get};
 ghost use Rattle.tm_trees.specs.Instructions.{Instruction};
 ghost use Rattle.tm_meaning.specs.World.{HostValue as Meaning, template_at, card_at};
@@ -18,7 +18,7 @@ use tm_shapes::Verified;
 use tm_syntax::{Name, NameMap};
 use tm_values::{AutoEscape, Error, UndefinedBehavior, Value};
 
-/// What a render runs under: the environment, the rendered template and all objects of the caller, as one.
+/// All that a render runs under: the environment, the rendered template and the caller's objects.
 /// Its meaning is the host record of the definitions.
 pub trait Host {
     ghost meaning: { Self → Meaning };
@@ -29,7 +29,7 @@ pub trait Host {
     fn globals(&self) -> &NameMap<Value>
         ensures { result.now ≡ (meaning self.now).globals };
 
-    /// How deep scopes may lie.
+    /// The greatest depth of scopes.
     fn recursion_limit(&self) -> usize
         ensures { result ≡ (meaning self.now).limit };
 
@@ -37,37 +37,39 @@ pub trait Host {
     fn undefined_behavior(&self) -> UndefinedBehavior
         ensures { result ≡ (meaning self.now).undefined };
 
-    /// The name of a template, wherever it stands.
+    /// The name of `template`; `place` is only a hint.
     fn template_name(&self, template: &TemplateId, place: usize) -> &str
         ensures { result.now ≡ (template_at (meaning self.now) template.now).name };
 
-    /// How what a template emits is escaped.
+    /// How the output of `template` is escaped.
     fn template_escape(&self, template: &TemplateId) -> AutoEscape
         ensures { result ≡ (template_at (meaning self.now) template.now).escape };
 
-    /// Whether a stream is a required block.
+    /// Whether `stream` is a required block.
     fn is_required(&self, stream: &StreamId) -> bool
         ensures { result ≡ is_required (card_at (meaning self.now) stream.now) };
 
-    /// The name of the template that another name means where a template of this name runs. The fault of what joins
-    /// them; OutOfMemory.
+    /// The name of the template that `name` means in the template named `running`. Fails with the
+    /// fault of the object that joins names, or with OutOfMemory.
     fn joined_name(&self, alloc: Global, name: &str, running: &str) -> Result<Name, Error>
         ensures { IsAnswer result ((meaning self.now).join name.now running.now) };
 
-    /// Whether something joins the names of templates. Where nothing does, each means the template of that name.
+    /// Whether an object joins template names. Without one, each name means the template of that
+    /// name.
     fn joins_names(&self) -> bool
         ensures { result ≡ false → (name : _) → (running : _) →
             (meaning self.now).join name running ≡ Ok name };
 
-    /// The template of a name, where there is one, wherever it stands.
+    /// The template named `name`, if there is one; `place` is only a hint.
     fn entry(&self, name: &str, place: usize) -> Option<TemplateEntry<'_>>
         ensures { IsEntry result name.now (find name.now (meaning self.now).templates) };
 
-    /// The instructions of a stream, wherever its template stands.
+    /// The instructions of `stream`; `place` is only a hint.
     fn instructions(&self, stream: &StreamId, place: usize) -> &Verified
         ensures { result.now ≡ code self.now stream.now };
 
-    /// What the function of a number answers, or which one of the language it is; none where there is no such function.
+    /// The answer of the function `number`, or which function of the language it is; None if there
+    /// is no such function.
     fn call_function(
         &self,
         alloc: Global,
@@ -78,10 +80,11 @@ pub trait Host {
         ensures { MatchOption (slice_get (meaning self.now).functions number) (result ≡ None)
             (λ f. IsSomeAnd result (λ called. IsCalled called f args.now view.now)) };
 
-    /// Where the filter of a name stands, as a hint for `apply_filter`; NO_PLACE where there is none of that name.
+    /// The place of the filter `name`, as a hint for `apply_filter`; NO_PLACE if there is no such
+    /// filter.
     fn filter_place(&self, name: &str) -> usize;
 
-    /// What the filter of a name answers, wherever it stands; none where there is none of that name.
+    /// The answer of the filter `name`; None if there is no such filter. `place` is only a hint.
     fn apply_filter(
         &self,
         alloc: Global,
@@ -93,10 +96,11 @@ pub trait Host {
         ensures { IsNamedAnswer result (find name.now (meaning self.now).filters)
             args.now view.now };
 
-    /// Where the test of a name stands, as a hint for `perform_test`; NO_PLACE where there is none of that name.
+    /// The place of the test `name`, as a hint for `perform_test`; NO_PLACE if there is no such
+    /// test.
     fn test_place(&self, name: &str) -> usize;
 
-    /// What the test of a name answers, wherever it stands; none where there is none of that name.
+    /// The answer of the test `name`; None if there is no such test. `place` is only a hint.
     fn perform_test(
         &self,
         alloc: Global,
@@ -108,7 +112,8 @@ pub trait Host {
         ensures { IsNamedAnswer result (find name.now (meaning self.now).tests)
             args.now view.now };
 
-    /// What the method object answers of a value's method of a name; none where there is no such object.
+    /// The method object's answer for the method `name` of `value`; None if there is no method
+    /// object.
     fn call_unknown_method(
         &self,
         alloc: Global,
@@ -124,7 +129,7 @@ pub trait Host {
     fn has_formatter(&self) -> bool
         ensures { result ≡ is_some (meaning self.now).formatter };
 
-    /// What the formatter answers for a value; none where there is no formatter.
+    /// The formatter's answer for `value`; None if there is no formatter.
     fn format(&self, alloc: Global, value: &Value, view: &View<'_>) -> Option<Result<String, Error>>
         ensures { IsFormatterAnswer result (meaning self.now).formatter value.now view.now };
 }
