@@ -1,4 +1,4 @@
--- What comes of an instruction that is done at once where it can be.
+-- The result of an instruction that is done at once if possible.
 use Rattle.std.specs.Prelude.{◌≡◌, ◌-◌, ℕ, List, [], ◌∷◌, Option, Ok, Err, Bool, true, false}
 use Rattle.tm_values.specs.declared.error.ErrorKind.TheVariants.{OutOfMemory}
 use Rattle.tm_trees.specs.Instructions.{Instruction}
@@ -13,25 +13,25 @@ use Rattle.tm_runs.specs.declared.attempt.Attempt.{Attempt}
 use Rattle.tm_runs.specs.declared.attempt.Attempt.TheVariants.{Done, DoneFree, Left, WriterFailed, NoMemory}
 use Rattle.tm_vm.specs.declared.flow.Flow.TheVariants as flow
 
--- out of memory ends a run
+-- a run that ends because memory ran out
 abbrev pub no_memory : Halt
 no_memory = halt.Fault (OutOfMemory ∷ [])
 
--- a charge of one is paid
+-- a charge of 1 is paid
 abbrev pub paid : Config → Config
 paid c = record c { world = record c.world { fuel = c.world.fuel - 1 } }
 
--- It was paid for and done, and the run goes on; or all stayed as it was.
+-- The instruction was charged and done, and the run continues; or nothing changed.
 abbrev pub IsAtOnce : Bool → (Config → Next) → Config → Config → Type 0
 IsAtOnce true n old new = Silently (n (paid old)) (paid old) new (Ok flow.GoOn)
 IsAtOnce false n old new = new ≡ old
 
--- It is free of charge and was done, and the run goes on; or all stayed as it was.
+-- The instruction is free and was done, and the run continues; or nothing changed.
 abbrev pub IsFree : Bool → (Config → Next) → Config → Config → Type 0
 IsFree true n old new = Silently (n old) old new (Ok flow.GoOn)
 IsFree false n old new = new ≡ old
 
--- The same of one that may write: by the writer, or when out of memory, it may have ended.
+-- The same for one that may write, and so may end because the writer failed or memory ran out.
 abbrev pub Attempted : Attempt → (Config → Next) → Config → Config → Option (List ℕ) → Option (List ℕ) → ℕ → ℕ → Type 0
 Attempted Done n old new told now failures count = WritesNext (n (paid old)) (paid old) new told now failures count (Ok flow.GoOn)
 Attempted WriterFailed n old new told now failures count = WritesNext (n (paid old)) (paid old) new told now failures count (Err halt.Writer)
@@ -39,7 +39,7 @@ Attempted DoneFree n old new told now failures count = WritesNext (n old) old ne
 Attempted NoMemory n old new told now failures count = WritesNext (n (paid old)) (paid old) new told now failures count (Err no_memory)
 Attempted Left n old new told now failures count = (new ≡ old) × (now ≡ told) × (count ≡ failures)
 
--- The same of one that wrote nothing.
+-- The same for one that wrote nothing to the writer.
 abbrev pub AttemptedUntold : Attempt → (Config → Next) → Config → Config → Type 0
 AttemptedUntold attempt n old new = (told : Option (List ℕ)) (failures : ℕ) → Attempted attempt n old new told told failures failures
 
@@ -48,7 +48,7 @@ abbrev pub IsCharged : Attempt → Type 0
 IsCharged DoneFree = ⊥
 IsCharged _ = Unit {0}
 
--- What was done is free of charge, or charged one, which there was.
+-- What was done is free of charge, or its charge of 1 could be paid.
 abbrev pub IsPaid : Attempt → Instruction → ℕ → Type 0
 IsPaid Left x fuel = Unit {0}
 IsPaid DoneFree x fuel = charge_of x ≡ 0
@@ -56,7 +56,8 @@ IsPaid Done x fuel = (charge_of x ≡ 1) × CanPay 1 fuel
 IsPaid NoMemory x fuel = (charge_of x ≡ 1) × CanPay 1 fuel
 IsPaid WriterFailed x fuel = (charge_of x ≡ 1) × CanPay 1 fuel
 
--- The step was done at once, or ended by the writer or when out of memory; or all stayed as it was.
+-- The step was done at once, or ended because the writer failed or memory ran out; or nothing
+-- changed.
 abbrev pub StepAttempted : Attempt → Base → Program → ℕ → Config → Config → Option (List ℕ) → Option (List ℕ) → ℕ → ℕ → Type 0
 StepAttempted Done f p size old new told now failures count =
     Performs p f (step p f old) old new told now failures count (Ok flow.GoOn) × Paid p size (Ok flow.GoOn) old new
