@@ -121,7 +121,7 @@ fn exports_a_number<P: Parties>(
     Ok(text.as_str() == "")
 }
 
-/// A constant 0 is a number if something is added to it.
+/// A constant 0 that something is added to is read as a number, not as a count of no operands.
 fn adds_to_nothing<P: Parties>(
     alloc: Global,
     environment: &EnvironmentOf<'_, P>,
