@@ -22,11 +22,11 @@ use tm_tables::Parties;
 use tm_templates::CompiledTemplate;
 use tm_values::{Error, ErrorKind, Value};
 
-/// A compiled template, the environment's or an own one.
+/// A compiled template, borrowed from the environment or owned.
 pub(crate) enum TemplateRef<'env, 'source> {
     /// The environment's entry of this name.
     Lent(&'env Name, &'env CompiledTemplate<'source>),
-    /// An own one, boxed: otherwise whoever owns a template would have all of its layout in its
+    /// An owned one, boxed: otherwise whoever owns a template would have all of its layout in its
     /// proof.
     Owned(Box<CompiledTemplate<'source>>),
 }

@@ -1,4 +1,4 @@
-//! What joins the names of templates.
+//! How template names are joined.
 ghost use Rattle.std.specs.Prelude.{List};
 ghost use Rattle.tm_objects.specs.Stated.{Join};
 ghost use Rattle.tm_values.specs.Answer.{IsAnswer};

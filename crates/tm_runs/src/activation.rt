@@ -260,7 +260,7 @@ impl Activation {
         Ok(())
     }
 
-    /// Closes the innermost loop, if there is one, and returns its return, if it was called.
+    /// Closes the innermost loop, if there is one, and returns its `Return`, if it was called.
     pub fn end_loop(&mut self) -> Option<Option<Return>>
         ensures { MatchOption result ((self.old.loops ≡ []) × (self.new ≡ self.old))
             (λ pending. self.old ≡ record self.new { loops = pending ∷ self.new.loops }) }

@@ -24,7 +24,7 @@ use tm_syntax::{Name, NameMap};
 use tm_values::{Error, ErrorKind, Node, Records, Value, ValueMap};
 
 /// The scopes of a state. One vector holds their names: a scope's pairs start at the first place
-/// that its mark names and end where the next scope's start. A contract sees the scopes innermost
+/// that its mark records, and end where the next scope's start. A contract sees the scopes innermost
 /// first.
 pub struct Context {
     pairs: Vec<(Name, Value)>,

@@ -74,7 +74,7 @@ impl<T> NameTable<T> {
         }
     }
 
-    /// The place of the entry of `name`, or as an error the place where to insert it.
+    /// The place of the entry of `name`, or as an error the place to insert it at.
     pub(crate) fn search(&self, name: &str) -> Result<usize, usize>
         ensures { MatchResult result (IsNameAt name.now self.now) (IsNameGap name.now self.now) }
     {

@@ -43,7 +43,7 @@ pub struct TemplateConfig<R: Drop> {
     pub default_auto_escape: EscapeSetting<R>,
 }
 
-// Only for boxed rules, so that a configuration without an own rule needs no type annotation.
+// Only for boxed rules, so that a configuration without a rule of its own needs no type annotation.
 impl Default for TemplateConfig<Box<dyn EscapeRule>> {
     /// The default delimiters, and escapes by name.
     fn default() -> TemplateConfig<Box<dyn EscapeRule>>

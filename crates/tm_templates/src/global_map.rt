@@ -145,7 +145,7 @@ impl GlobalMap {
         let _ = &self.names;
     }
 
-    /// The place of `name`, or as an error the place where to insert it.
+    /// The place of `name`, or as an error the place to insert it at.
     fn place(&self, name: &str) -> Result<usize, usize>
         ensures { MatchResult result (IsNameAt name.now self.now) (IsNameGap name.now self.now) }
     {

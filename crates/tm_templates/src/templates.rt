@@ -99,7 +99,7 @@ impl<'source> Templates<'source> {
         }
     }
 
-    /// The place of the template named `name`, or as an error the place where to insert it. `place`
+    /// The place of the template named `name`, or as an error the place to insert it at. `place`
     /// is a hint: one comparison is enough if the template is there.
     #[inline(always)]
     fn place_from(&self, place: usize, name: &str) -> Result<usize, usize>
@@ -161,7 +161,7 @@ impl<'source> Templates<'source> {
         let _ = &self.entries;
     }
 
-    /// The place of the template named `name`, or as an error the place where to insert it.
+    /// The place of the template named `name`, or as an error the place to insert it at.
     fn place(&self, name: &str) -> Result<usize, usize>
         ensures { MatchResult result (IsNameAt name.now self.now) (IsNameGap name.now self.now) }
     {

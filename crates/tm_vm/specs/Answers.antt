@@ -44,7 +44,7 @@ abbrev pub EndsAs : Result (Unit {0}) Halt → Config → (End → Type 0) → T
 EndsAs (Ok _) c Holds = Holds (finished_at c)
 EndsAs (Err why) c Holds = HaltsAs why c.world Holds
 
--- What a step leads to ends here, and the writer has received the text until then.
+-- The result of a step leads to this end, and the writer has received the text of all that.
 abbrev pub ComesTo : Program → Base → Next → Option (List ℕ) → Option (List ℕ) → End → Type 0
 ComesTo p f n told now e = (text : List ℕ) × Appends told now text × Leads p f [] n (final text e)
 

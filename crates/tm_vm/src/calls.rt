@@ -45,7 +45,7 @@ impl Machine {
         self.call_counted(alloc, host, code, name, count)
     }
 
-    /// `do_call_function` for any call; leaves need no special treatment.
+    /// `do_call_function` without the shortcut for leaves.
     #[inline(never)]
     fn call_counted<H: Host>(
         &mut self,
