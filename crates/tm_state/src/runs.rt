@@ -200,8 +200,8 @@ impl StateData {
         }
     }
 
-    /// Restores what a run replaced and leaves the scopes that it opened. What the run left is
-    /// swapped into `saved`.
+    /// Restores what a run replaced and leaves the scopes that it opened. `saved` is of no use
+    /// afterwards.
     pub fn put_back(&mut self, saved: &mut Saved)
         ensures { self.new ≡ put_back saved.old self.old }
     {
