@@ -1,4 +1,5 @@
-//! Values of other states, with numbers that a state lacks, and that hold themselves.
+//! Values of other states, values with numbers that a state lacks, and values that contain
+//! themselves.
 
 use crate::objects::add_objects;
 use refusal_tests::{new_environment, row_of};
@@ -6,7 +7,8 @@ use std::alloc::Global;
 use std::test::Fail;
 use template_machine::*;
 
-/// What templates do with a namespace of another state, each after its template's name, and what they write, or the kinds of their faults after `!`.
+/// What templates do with a namespace of another state: a template's name, its source, and its
+/// text, or the kind of its fault after `!`.
 static NAMESPACE_ROWS: [&str; 30] = [
     "t {{ v }} => !InvalidOperation",
     "t {{ v.a }} => !InvalidOperation",
@@ -40,7 +42,7 @@ static NAMESPACE_ROWS: [&str; 30] = [
     "p.html {% autoescape v %}<{{ \"<\" }}{% endautoescape %}{{ v is same }} => <<true",
 ];
 
-/// What they do with a loop of another state.
+/// What templates do with a loop of another state.
 static LOOP_ROWS: [&str; 23] = [
     "t {{ v.index }} => !InvalidOperation",
     "t {{ v.previtem }} => !InvalidOperation",
@@ -67,7 +69,7 @@ static LOOP_ROWS: [&str; 23] = [
     "t {% for k in v %}{{ k }},{% endfor %} => index0,index,length,revindex,revindex0,first,last,depth,depth0,previtem,nextitem,",
 ];
 
-/// What they do with a macro `v` of another state, which has one parameter.
+/// What templates do with a macro `v` of another state, which has one parameter.
 static DECLARED_ROWS: [&str; 14] = [
     "t {{ v() }} => !InvalidOperation",
     "t {{ v(1, 2, 3) }} => !InvalidOperation",
@@ -85,7 +87,7 @@ static DECLARED_ROWS: [&str; 14] = [
     "t {{ v == v }} => true",
 ];
 
-/// What they do with the module of `d` that another state imported.
+/// What templates do with the module of `d` that another state imported.
 static MODULE_ROWS: [&str; 7] = [
     "t {{ v.f(5) }} => !InvalidOperation",
     "t {{ v[\"f\"](5) }} => !InvalidOperation",
@@ -96,7 +98,7 @@ static MODULE_ROWS: [&str; 7] = [
     "t {{ dict(v).q }} => 2",
 ];
 
-/// What they do with the number of a function that the environment lacks.
+/// What templates do with a function's number that the environment lacks.
 static LACKED_ROWS: [&str; 9] = [
     "t {{ v() }} => !InvalidOperation",
     "t {{ [v][0](1) }} => !InvalidOperation",
@@ -109,7 +111,7 @@ static LACKED_ROWS: [&str; 9] = [
     "t {{ v == v }}{{ v.a }} => true",
 ];
 
-/// What they do with values of their own.
+/// What templates do with values of their own.
 static OWN_ROWS: [&str; 5] = [
     "t {% set ns = namespace() %}{% for x in [1] %}{% set ns.l = loop %}{% endfor %}{{ ns.l }} {{ ns.l.index }} => <loop 1/1> 2",
     "t {% set a = namespace(x=1) %}{% set b = namespace() %}{% set b.p = a %}{% set b.q = a %}{{ b }} => {\"p\": {\"x\": 1}, \"q\": {\"x\": 1}}",
@@ -118,7 +120,7 @@ static OWN_ROWS: [&str; 5] = [
     "p.json {% set ns = namespace() %}{% set ns.a = ns %}{{ ns }} => !InvalidOperation",
 ];
 
-/// What expressions give for a namespace of another state.
+/// The values of expressions for a namespace of another state.
 static NAMESPACE_EXPRESSIONS: [&str; 14] = [
     "v => !InvalidOperation",
     "[1, [v]] => !InvalidOperation",
@@ -136,7 +138,7 @@ static NAMESPACE_EXPRESSIONS: [&str; 14] = [
     "[1 if v, v is same] => [1, true]",
 ];
 
-/// What they give for a loop of another state.
+/// The values of expressions for a loop of another state.
 static LOOP_EXPRESSIONS: [&str; 10] = [
     "v.index => !InvalidOperation",
     "v ~ 1 => !InvalidOperation",
@@ -150,7 +152,7 @@ static LOOP_EXPRESSIONS: [&str; 10] = [
     "[1 if v, v is same, not v] => [1, true, false]",
 ];
 
-/// The macro `m` of another counter's first state, in states with and without a macro.
+/// The macro `v` of another counter's first state, called in states with and without a macro.
 static MACRO_ROWS: [&str; 2] = [
     "t {{ v() }} => !InvalidOperation",
     "t {% macro q() %}b{% endmacro %}{{ v() }} => b",
@@ -161,20 +163,20 @@ static FUNCTION_ROWS: [&str; 2] = [
     "t {{ v }} => <function>",
 ];
 
-/// Where a row's source runs, over the value `v`.
+/// How a row's source is run, with the value bound to `v`.
 #[derive(Clone, Copy, Debug, PartialEq, Eq)]
 enum Way {
     /// As a template that is rendered.
     Here,
-    /// As one that is included.
+    /// As a template that is included.
     Included,
-    /// As one that is imported; what it writes is the text of its module.
+    /// As a template that is imported; its text is that of its module.
     Imported,
     /// As the body of a macro that is called with the value.
     Called,
     /// As the body of a macro that a filter asks for.
     Filtered,
-    /// As an expression alone.
+    /// As an expression.
     Evaluated,
 }
 
@@ -201,7 +203,8 @@ fn is_fault(error: &Error, wanted: &str) -> bool {
     }
 }
 
-/// Whether a row that runs in this way ended so: a fault of a template that is included or imported is the cause of BadInclude.
+/// Whether a row that was run in this way ended as expected. BadInclude wraps the fault of a
+/// template that is included or imported.
 fn is_end_of(way: Way, answer: Result<String, Error>, wanted: &str) -> bool {
     if way != Way::Included && way != Way::Imported {
         return is_end(answer, wanted);
@@ -215,14 +218,14 @@ fn is_end_of(way: Way, answer: Result<String, Error>, wanted: &str) -> bool {
     }
 }
 
-/// A map of one value.
+/// A map that binds `v` to the value.
 pub(crate) fn with(alloc: Global, value: &Value) -> Result<Value, Error> {
     let mut map = ValueMap::new(alloc);
     map.insert(Value::text(alloc, "v")?, value.share()?)?;
     Value::from_map(alloc, map)
 }
 
-/// Three texts as one.
+/// Three texts joined.
 fn joined(alloc: Global, before: &str, middle: &str, after: &str) -> Result<String, Error> {
     let mut text = String::from_str(alloc, before)?;
     text.push_str(middle)?;
@@ -237,7 +240,7 @@ struct Page<'a> {
     source: &'a str,
 }
 
-/// What a macro with the page's source writes, called with the value.
+/// The text of a macro with the page's source, called with the value.
 fn call<P: Parties>(
     alloc: Global,
     environment: &EnvironmentOf<'static, P>,
@@ -252,7 +255,7 @@ fn call<P: Parties>(
     state.call_macro("m", &[value.share()?])
 }
 
-/// What it writes where a filter asks for it.
+/// The text of such a macro if a filter asks for it.
 fn filter<P: Parties>(
     alloc: Global,
     environment: &EnvironmentOf<'static, P>,
@@ -268,7 +271,7 @@ fn filter<P: Parties>(
     printing::to_text(alloc, &answer, &NoRecords)
 }
 
-/// What a template writes that names the page between these texts.
+/// The text of a template whose source is `before`, the page's name and `after`.
 fn name_page<P: Parties>(
     alloc: Global,
     environment: &mut EnvironmentOf<'static, P>,
@@ -284,7 +287,7 @@ fn name_page<P: Parties>(
     template.render(ids, given)
 }
 
-/// What a page writes that runs in this way.
+/// The text of a page that is run in this way.
 fn run<P: Parties>(
     alloc: Global,
     environment: &mut EnvironmentOf<'static, P>,
@@ -320,10 +323,10 @@ fn run<P: Parties>(
     }
 }
 
-/// A row that ended in another way than it has to, and where it ran.
+/// A row that didn't end as expected, and how it was run.
 type Miss = (Way, &'static str);
 
-/// Adds the rows that don't end as they have to in this way.
+/// Adds the rows that don't end as expected if they are run in this way.
 fn miss_in<P: Parties>(
     environment: &mut EnvironmentOf<'static, P>,
     ids: &mut StateIds,
@@ -344,7 +347,7 @@ fn miss_in<P: Parties>(
     Ok(())
 }
 
-/// Adds those that don't in any of the ways.
+/// Adds the rows that don't end as expected, for each way.
 fn try_rows<P: Parties>(
     environment: &mut EnvironmentOf<'static, P>,
     ids: &mut StateIds,
@@ -358,7 +361,7 @@ fn try_rows<P: Parties>(
     Ok(())
 }
 
-/// What an expression gives, printed.
+/// The value of an expression, as text.
 fn evaluate<P: Parties>(
     alloc: Global,
     environment: &EnvironmentOf<'static, P>,
@@ -371,7 +374,7 @@ fn evaluate<P: Parties>(
     printing::to_text(alloc, &answer, &NoRecords)
 }
 
-/// Adds the expressions that don't give what they have to.
+/// Adds the expressions that don't have the expected value.
 fn miss_expressions<P: Parties>(
     environment: &EnvironmentOf<'static, P>,
     ids: &mut StateIds,
@@ -389,7 +392,7 @@ fn miss_expressions<P: Parties>(
     Ok(())
 }
 
-/// The value of `v` in the state that a source leaves.
+/// The value that `v` is bound to in the state after a render of the source.
 pub(crate) fn left<P: Parties>(
     environment: &EnvironmentOf<'static, P>,
     ids: &mut StateIds,
@@ -401,7 +404,7 @@ pub(crate) fn left<P: Parties>(
     Ok(found.unwrap_or(Value::undefined()))
 }
 
-/// A source whose state keeps a loop at `v`.
+/// A source whose state binds `v` to a loop.
 pub(crate) const KEPT_LOOP: &str =
     "{% set n = namespace() %}{% for x in [1] recursive %}{% set n.l = loop %}{% endfor %}{% set v = n.l %}";
 
@@ -448,7 +451,8 @@ fn miss_others<P: Parties>(
     try_rows(environment, &mut ids, &OWN_ROWS, &own, misses)
 }
 
-/// Adds rows whose state has the same number as that of the macro, and those of a function that isn't there.
+/// Adds the failing rows of a macro whose state has the same number as theirs, and those of a
+/// missing function.
 fn miss_callables<P: Parties>(
     environment: &mut EnvironmentOf<'static, P>,
     misses: &mut Vec<Miss>,
@@ -491,7 +495,8 @@ fn values_of_others_are_refused(rt: HostRuntime) -> Result<(), Fail> {
     Ok(())
 }
 
-/// Whether the last number of a counter is a render's, and the next render is refused and writes nothing.
+/// Whether a render gets the last number of a counter, and the next render is refused and writes
+/// nothing.
 fn is_full_after<P: Parties>(
     alloc: Global,
     environment: &EnvironmentOf<'static, P>,
@@ -515,10 +520,10 @@ fn a_full_counter_refuses_a_render(rt: HostRuntime) -> Result<(), Fail> {
     Ok(())
 }
 
-/// A loop that is called from an include of its own template's name.
+/// A loop that is called from an include of a template with the same name.
 const INCLUDING: &str = "{% for x in [[]] recursive %}{% include \"t\" %}{% endfor %}";
 
-/// Whether a loop isn't called from an include: BadInclude, by InvalidOperation.
+/// Whether a loop can't be called from an include: BadInclude, caused by InvalidOperation.
 fn loop_stays_out<P: Parties>(environment: &EnvironmentOf<'static, P>) -> bool {
     match environment.render_named_str(&mut StateIds::new(), "t", INCLUDING, Value::undefined()) {
         Ok(_text) => false,
@@ -531,7 +536,7 @@ fn loop_stays_out<P: Parties>(environment: &EnvironmentOf<'static, P>) -> bool {
     }
 }
 
-/// 1 in so many brackets.
+/// 1 in `count` pairs of brackets.
 fn nested(alloc: Global, count: usize) -> Result<String, Error> {
     let mut source = String::new(alloc);
     source.push_str("{{ ")?;
@@ -546,7 +551,7 @@ fn nested(alloc: Global, count: usize) -> Result<String, Error> {
     Ok(source)
 }
 
-/// Whether 150 nestings are read, and one more is refused.
+/// Whether 150 levels of nesting are accepted, and one more is refused.
 fn nests<P: Parties>(
     alloc: Global,
     environment: &EnvironmentOf<'static, P>,

@@ -1,4 +1,4 @@
-//! Fuel that ends at every charge.
+//! Fuel that runs out at every charge.
 
 use crate::objects::add_objects;
 use refusal_tests::{last_kind, new_environment, row_of};
@@ -6,7 +6,7 @@ use std::alloc::Global;
 use std::test::Fail;
 use template_machine::*;
 
-/// Sources that pay for what the language has, each with its text.
+/// Sources that charge for each part of the language, with their texts.
 static ROWS: [&str; 12] = [
     "a{{ 1 }}b => a1b",
     "{% for x in [1,2] %}{{ x }}{% endfor %} => 12",
@@ -22,7 +22,7 @@ static ROWS: [&str; 12] = [
     "{% set ns = namespace(n=0) %}{% for i in range(3) %}{% set ns.n = ns.n + i %}{% endfor %}{{ ns.n }} => 3",
 ];
 
-/// Sources that ask for further calls, and that jump out of what they opened.
+/// Sources with further calls, and with jumps out of what they opened.
 static FURTHER_ROWS: [&str; 9] = [
     "{% macro m() %}M{{ 1 }}{% endmacro %}[{{ by_macro() }}{{ 2|by_macro }}] => [M1M1]",
     "{% block b %}B{{ 1 }}{% endblock %}[{{ by_block() }}] => B1[B1]",
@@ -35,10 +35,11 @@ static FURTHER_ROWS: [&str; 9] = [
     "{% macro m(x) %}{{ x }}{% if x %}{{ m(x - 1) }}{% endif %}{% endmacro %}{{ m(2) }} => 210",
 ];
 
-/// More fuel than any of the rows takes.
+/// More fuel than any of the rows needs.
 const AMPLE: u64 = 1000;
 
-/// What a render under this much fuel takes of it, if it writes just this text and all fuel is accounted for.
+/// The fuel that a render with this much consumes, if it writes the expected text and all fuel is
+/// accounted for.
 fn taken<P: Parties>(
     alloc: Global,
     environment: &mut EnvironmentOf<'static, P>,
@@ -64,7 +65,7 @@ fn taken<P: Parties>(
     }
 }
 
-/// Whether a render under this much fuel ends for want of it, after a beginning of the text.
+/// Whether a render with this much fuel runs out of it, after a prefix of the text.
 fn runs_out<P: Parties>(
     alloc: Global,
     environment: &mut EnvironmentOf<'static, P>,
@@ -86,7 +87,8 @@ fn runs_out<P: Parties>(
     Ok(is_out && wanted.as_bytes().starts_with(writer.inner().as_slice()))
 }
 
-/// Whether a row ends for want of fuel under each less than it takes, and under just that much is whole.
+/// Whether a row runs out of any fuel that is less than its charges, and is complete with just its
+/// charges.
 fn ends_anywhere<P: Parties>(
     alloc: Global,
     environment: &mut EnvironmentOf<'static, P>,
@@ -103,7 +105,7 @@ fn ends_anywhere<P: Parties>(
     Ok(charges > 0 && taken(alloc, environment, line, charges)? == Some(charges))
 }
 
-/// How many rows end so.
+/// The number of rows for which this holds.
 fn end_anywhere<P: Parties>(
     alloc: Global,
     environment: &mut EnvironmentOf<'static, P>,
@@ -118,7 +120,7 @@ fn end_anywhere<P: Parties>(
     Ok(count)
 }
 
-/// The count of rows; a growth may be refused once.
+/// The number of `ROWS` for which this holds; one growth may be refused.
 fn counted(alloc: Global) -> Result<usize, Error> {
     let mut environment = new_environment(alloc)?;
     end_anywhere(alloc, &mut environment, &ROWS)
@@ -144,14 +146,15 @@ fn fuel_ends_further_calls(rt: HostRuntime) -> Result<(), Fail> {
     Ok(())
 }
 
-/// What is asked of the state that its render leaves.
+/// A source for calls of the state after its render.
 const PARTS: &str =
     "{% extends \"base\" %}{% macro m(x) %}<{{ x }}{{ caller }}>{% endmacro %}{% block a %}[{{ super() }}{{ m(2) }}]{% endblock %}";
 
 /// The text of its block `a`.
 const BLOCK: &str = "[x<2>]";
 
-/// The charges of a render, of a block's run after it, and of a macro's call after that, each with those before it.
+/// The charges of a render, of a block's run after it, and of a macro's call after that, each
+/// including those before it.
 #[derive(Clone, Copy)]
 struct Charges {
     render: u64,
@@ -159,7 +162,7 @@ struct Charges {
     call: u64,
 }
 
-/// What a state has consumed of its fuel.
+/// The fuel that a state has consumed.
 fn consumed<P: Parties>(state: &StateOf<'_, P>) -> u64 {
     match state.fuel_levels() {
         Some((consumed, _left)) => consumed,
@@ -167,7 +170,7 @@ fn consumed<P: Parties>(state: &StateOf<'_, P>) -> u64 {
     }
 }
 
-/// The charges of the calls of the state that `PARTS` leaves, where they give what they have to.
+/// The charges of the calls of the state after `PARTS`, if their texts are the expected ones.
 fn charges_of_calls<P: Parties>(
     environment: &mut EnvironmentOf<'static, P>,
 ) -> Result<Option<Charges>, Error> {
@@ -190,7 +193,7 @@ fn charges_of_calls<P: Parties>(
     Ok(None)
 }
 
-/// Whether a state has consumed so much of its fuel, and has the rest.
+/// Whether a state has consumed `consumed` of its fuel, and the rest is left.
 fn has_consumed<P: Parties>(state: &StateOf<'_, P>, consumed: u64, fuel: u64) -> bool {
     match state.fuel_levels() {
         Some((taken, left)) => taken == consumed && fuel.checked_sub(taken) == Some(left),
@@ -198,7 +201,8 @@ fn has_consumed<P: Parties>(state: &StateOf<'_, P>, consumed: u64, fuel: u64) ->
     }
 }
 
-/// Whether the block is whole where its charges are there, and else a beginning of it is written and all fuel is gone.
+/// Whether the block is complete if there is fuel for its charges, and otherwise a prefix of it is
+/// written and all fuel is consumed.
 fn block_ends<P: Parties>(
     alloc: Global,
     state: &mut StateOf<'_, P>,
@@ -221,7 +225,7 @@ fn block_ends<P: Parties>(
     }
 }
 
-/// The same of the macro's call, which writes nothing where it ends.
+/// The same for the macro's call, which writes nothing if it runs out.
 fn call_ends<P: Parties>(state: &mut StateOf<'_, P>, charges: u64, fuel: u64) -> bool {
     match state.call_macro("m", &[Value::number(5)]) {
         Ok(text) => {
@@ -235,7 +239,7 @@ fn call_ends<P: Parties>(state: &mut StateOf<'_, P>, charges: u64, fuel: u64) ->
     }
 }
 
-/// Whether the calls of a state end for want of fuel just where their charges are more than it has.
+/// Whether the calls of a state run out of fuel exactly when their charges exceed it.
 fn calls_end_anywhere<P: Parties>(
     alloc: Global,
     environment: &mut EnvironmentOf<'static, P>,
@@ -265,7 +269,7 @@ fn fuel_ends_calls_of_a_state(rt: HostRuntime) -> Result<(), Fail> {
     Ok(())
 }
 
-/// A loop that calls itself over the context's tree, which takes 24.
+/// A loop that calls itself over the context's tree; its render has 24 charges.
 const TREE: &str = "{% for t in tree recursive %}{{ t.v ~ loop(t.c) }}{% endfor %}";
 
 /// A node of the tree: its number and its children.
@@ -276,7 +280,7 @@ fn node(alloc: Global, number: i128, children: Vec<Value>) -> Result<Value, Erro
     Value::from_map(alloc, map)
 }
 
-/// A context of the tree whose root has one child.
+/// A context with a tree whose root has one child.
 fn tree(alloc: Global) -> Result<Value, Error> {
     let mut children = Vec::new(alloc);
     children.push(node(alloc, 2, Vec::new(alloc))?)?;
@@ -287,7 +291,8 @@ fn tree(alloc: Global) -> Result<Value, Error> {
     Value::from_map(alloc, map)
 }
 
-/// Whether a render of the tree under this much fuel ends as it has to: the text is written by the charge before the last two.
+/// Whether a render of the tree with this much fuel ends as expected. The text is written before
+/// the last two charges.
 fn tree_ends<P: Parties>(
     alloc: Global,
     template: &TemplateOf<'_, '_, P>,

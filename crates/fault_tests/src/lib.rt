@@ -1,4 +1,5 @@
-//! Tests of writers that fail, fuel that ends, values of other states, and random renders over such values.
+//! Tests of writers that fail, fuel that runs out, values of other states, and random renders over
+//! such values.
 #![tactic(auto)]
 
 #[cfg(test)]

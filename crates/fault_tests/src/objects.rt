@@ -1,4 +1,4 @@
-//! Functions, filters and a test of a caller.
+//! A caller's functions, filters and test.
 ghost use Rattle.std.specs.Prelude.{[], codes, option_copied, slice_get};
 ghost use Rattle.tm_definitions.specs.Members.{or_undefined};
 ghost use Rattle.tm_meaning.specs.declared.reply.Reply.TheVariants.{Value as gives};
@@ -10,10 +10,10 @@ ghost use Rattle.fault_tests.specs.declared.objects.Asking.TheVariants.{First, F
 use std::alloc::Global;
 use template_machine::*;
 
-/// Answers an argument, or asks for a further call.
+/// Returns an argument, or asks for a further call.
 #[derive(Clone, Copy)]
 pub(crate) enum Asking {
-    /// Answers its first argument; undefined where there is none.
+    /// Returns its first argument; undefined without an argument.
     First,
     /// Asks for the filter `same` without arguments.
     Filter,
@@ -41,7 +41,7 @@ impl Callable for Asking {
     }
 }
 
-/// Answers a value that is kept elsewhere; undefined where there is none.
+/// Returns a shared copy of a value; undefined if there is none.
 fn shared(alloc: Global, found: Option<&Value>) -> CallableAnswer
     ensures { IsStated result (just (gives (or_undefined (option_copied found.entry)))) }
 {
@@ -54,7 +54,7 @@ fn shared(alloc: Global, found: Option<&Value>) -> CallableAnswer
     }
 }
 
-/// The objects by their names; each is a function and a filter.
+/// The objects by name; each is a function and a filter.
 static OBJECTS: &[(&str, Asking)] = &[
     ("same", Asking::First),
     ("by_filter", Asking::Filter),

@@ -1,4 +1,4 @@
-//! Random templates over values of other states: each render returns, and what it leaves answers on.
+//! Random templates over values of other states: each render returns, and its state still answers.
 
 use crate::foreign::{KEPT_LOOP, left};
 use crate::objects::add_objects;
@@ -7,16 +7,16 @@ use std::alloc::Global;
 use std::test::Fail;
 use template_machine::*;
 
-/// How many templates are rendered.
+/// The number of templates to render.
 const RENDERS: usize = 5000;
 
-/// The names that stand for `^`.
+/// The names to put for `^`.
 static NAMES: [&str; 7] = ["v", "w", "ns", "m", "l", "f", "x"];
 
-/// The templates' names, each for an escape.
+/// The templates' names, one for each escape.
 static PAGES: [&str; 3] = ["t", "p.html", "p.json"];
 
-/// What a template begins as: `$` stands for a statement, `@` for an expression, `^` for a name.
+/// The frames of templates: `$` is for a statement, `@` for an expression, and `^` for a name.
 static FRAMES: [&str; 9] = [
     "$$$",
     "$$$$",
@@ -83,7 +83,7 @@ static STATEMENTS: [&str; 50] = [
     "{{ self.b() }}{% extends ^ %}",
 ];
 
-/// Statements without others.
+/// Statements that contain no others.
 static LEAVES: [&str; 5] = ["a", "{{ @ }}", "{{ ^ }}", "{{ @ }}", "b<"];
 
 /// Expressions.
@@ -136,7 +136,7 @@ static EXPRESSIONS: [&str; 46] = [
     "(super() ~ self.b())",
 ];
 
-/// Expressions without others.
+/// Expressions that contain no others.
 static ATOMS: [&str; 14] = [
     "^",
     "^",
@@ -154,7 +154,7 @@ static ATOMS: [&str; 14] = [
     "loop",
 ];
 
-/// Sources whose states keep at `v` what is given to other states.
+/// Sources whose states bind `v` to a value for other states.
 static OTHERS: [&str; 5] = [
     "{% set v = namespace(a=1, x=[]) %}",
     "{% macro v(x) %}a{{ x }}{% endmacro %}",
@@ -163,14 +163,14 @@ static OTHERS: [&str; 5] = [
     "{% set v = [namespace(), range] %}",
 ];
 
-/// Numbers that look random, and are the same in each run.
+/// Numbers that look random and are the same in each run.
 #[derive(Clone, Copy)]
 struct Dice {
     seed: u64,
 }
 
 impl Dice {
-    /// A number below `sides`, or 0.
+    /// A number below `sides`, or 0 if `sides` is 0.
     fn roll(&mut self, sides: usize) -> usize {
         self.seed = self
             .seed
@@ -200,7 +200,7 @@ impl Dice {
     }
 }
 
-/// A text with one of these in the place of each mark.
+/// Replaces each mark in a text by one of the pieces.
 fn fill(
     alloc: Global,
     text: &str,
@@ -271,7 +271,7 @@ fn others<P: Parties>(
     Ok(values)
 }
 
-/// The values that a context may hold: plain ones, those of others, and lists and maps of those.
+/// The values for contexts: plain ones, those of other states, and lists and maps of these.
 fn pool<P: Parties>(
     alloc: Global,
     environment: &EnvironmentOf<'static, P>,
@@ -293,7 +293,7 @@ fn pool<P: Parties>(
     Ok(values)
 }
 
-/// A map of some of the names, or at times any value.
+/// A map of some of the names, or sometimes any value.
 fn context(alloc: Global, values: &[Value], dice: &mut Dice) -> Result<Value, Error> {
     if dice.roll(20) == 0 {
         return dice.draw(values);
@@ -307,7 +307,7 @@ fn context(alloc: Global, values: &[Value], dice: &mut Dice) -> Result<Value, Er
     Value::from_map(alloc, map)
 }
 
-/// Whether a render's error may have this kind, or a cause of it.
+/// Whether an error of a render, or a cause of it, may have this kind.
 fn may_be(kind: ErrorKind) -> bool {
     match kind {
         ErrorKind::SyntaxError
@@ -319,7 +319,8 @@ fn may_be(kind: ErrorKind) -> bool {
     }
 }
 
-/// Whether a render may answer this error: all its kinds may be a render's, and those that wrap a fault have a cause.
+/// Whether a render may answer with this error: each of its kinds may occur in a render, and those
+/// that wrap a fault have a cause.
 fn is_named(error: &Error) -> bool {
     let mut rest = error;
     for _ in 0..usize::MAX {
@@ -335,7 +336,7 @@ fn is_named(error: &Error) -> bool {
     false
 }
 
-/// Whether a call answered, if only by such an error.
+/// Whether a call returned a value or an error that it may return.
 fn is_answered<T: Drop>(answer: Result<T, Error>) -> bool {
     match answer {
         Ok(_answer) => true,
@@ -343,7 +344,7 @@ fn is_answered<T: Drop>(answer: Result<T, Error>) -> bool {
     }
 }
 
-/// Whether the answer of a run of the block `b` is UnknownBlock just where there is none.
+/// Whether the run of the block `b` is UnknownBlock exactly if there is no such block.
 fn is_of_block(answer: Result<String, Error>, has_block: bool) -> bool {
     match answer {
         Ok(_text) => has_block,
@@ -351,7 +352,7 @@ fn is_of_block(answer: Result<String, Error>, has_block: bool) -> bool {
     }
 }
 
-/// Whether a state that a render left answers on.
+/// Whether the state after a render still answers.
 fn serves<P: Parties>(state: &mut StateOf<'_, P>, args: &[Value], has_block: bool) -> bool {
     let is_run = is_of_block(state.render_block("b"), has_block);
     let is_called = is_answered(state.call_macro("m", args));
@@ -366,17 +367,17 @@ fn serves<P: Parties>(state: &mut StateOf<'_, P>, args: &[Value], has_block: boo
     }
 }
 
-/// How renders came out.
+/// The numbers of renders by result.
 #[derive(Clone, Copy)]
 struct Counts {
-    /// Those that wrote their text.
+    /// Renders that wrote their text.
     whole: usize,
-    /// Those that answered an error that they may answer.
+    /// Renders that failed with an error that they may return.
     faulty: usize,
 }
 
 impl Counts {
-    /// Counts a render, unless its answer, or that of what it left, is none that may be.
+    /// Counts a render, unless its result, or an answer of its state, isn't allowed.
     fn add<P: Parties>(
         &mut self,
         answer: Result<CapturedOf<StateOf<'_, P>>, Error>,
@@ -397,7 +398,7 @@ impl Counts {
     }
 }
 
-/// Whether a fixed template is rendered as always.
+/// Whether a fixed template still renders.
 fn renders_on<P: Parties>(
     environment: &EnvironmentOf<'static, P>,
     ids: &mut StateIds,
@@ -406,7 +407,8 @@ fn renders_on<P: Parties>(
     Ok(text.as_str() == "1")
 }
 
-/// Renders random templates, each followed by a fixed one, and counts those after which that wrote its text.
+/// Renders random templates, each followed by a fixed one, and counts those after which that one
+/// wrote its text.
 fn count_renders<P: Parties>(
     alloc: Global,
     environment: &EnvironmentOf<'static, P>,

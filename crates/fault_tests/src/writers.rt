@@ -1,4 +1,4 @@
-//! Writers that fail after every count of bytes.
+//! Writers that fail after any number of bytes.
 
 use std::alloc::Global;
 use std::io::{self, Write};
@@ -12,7 +12,8 @@ const PAGE: &str =
 
 const TEXT: &str = "B:[x1]";
 
-/// Other ways to write the text: by an include, a loop, a macro with a caller, a loop that is called, and captures.
+/// Other ways to write the text: with an include, a loop, a macro with a caller, a called loop, and
+/// captures.
 static PAGES: [&str; 6] = [
     PAGE,
     "B:{% include \"part\" %}",
@@ -22,7 +23,8 @@ static PAGES: [&str; 6] = [
     "B:{% set y %}[{{ \"x\" }}{% endset %}{{ y }}{{ 1 }}]",
 ];
 
-/// A writer that takes so many bytes a call and in all, and then fails, or takes nothing where it has no error.
+/// A writer that accepts at most `step` bytes per call and `room` bytes in total. After that it
+/// fails, or accepts no bytes if it has no error.
 #[derive(Drop)]
 struct Fake {
     bytes: Vec<u8>,
@@ -56,7 +58,7 @@ static ERRORS: [Option<io::ErrorKind>; 3] = [
     Some(io::ErrorKind::Interrupted),
 ];
 
-/// Whether a render's answer is WriteFailure without a cause.
+/// Whether a render failed with WriteFailure without a cause.
 fn is_failure<T: Drop>(answer: Result<T, Error>) -> bool {
     match answer {
         Ok(_done) => false,
@@ -64,7 +66,8 @@ fn is_failure<T: Drop>(answer: Result<T, Error>) -> bool {
     }
 }
 
-/// Whether a render ends at a writer that fails, as does another one there, which writes nothing.
+/// Whether a render stops at a writer that fails, and so does another one after it, which writes
+/// nothing.
 fn stops<P: Parties>(
     template: &TemplateOf<'_, '_, P>,
     mut writer: Counted<Fake>,
@@ -77,7 +80,8 @@ fn stops<P: Parties>(
     is_stopped && is_failure(answer) && holds_beginning(&writer, TEXT, room, 2)
 }
 
-/// Whether writers that take so many bytes end a render there, at once or byte by byte.
+/// Whether writers with `room` bytes stop a render there, both when they accept whole texts and
+/// single bytes.
 fn stops_at<P: Parties>(
     alloc: Global,
     template: &TemplateOf<'_, '_, P>,
@@ -88,14 +92,14 @@ fn stops_at<P: Parties>(
         && stops(template, slow_writer(alloc, room, error), room)
 }
 
-/// Whether a writer of one byte a call gets the whole page.
+/// Whether a writer that accepts one byte per call receives the whole page.
 fn gets_whole<P: Parties>(alloc: Global, template: &TemplateOf<'_, '_, P>) -> bool {
     let mut writer = slow_writer(alloc, usize::MAX, None);
     let answer = template.render_captured_to(&mut StateIds::new(), Value::undefined(), &mut writer);
     answer.is_ok() && is_whole(&writer, TEXT)
 }
 
-/// Whether a page ends at each writer that fails, and else is whole.
+/// Whether a page stops at each writer that fails, and is complete otherwise.
 fn stops_anywhere<P: Parties>(
     alloc: Global,
     environment: &EnvironmentOf<'static, P>,
@@ -133,10 +137,10 @@ fn writers_fail_anywhere(rt: HostRuntime) -> Result<(), Fail> {
     Ok(())
 }
 
-/// A block of the page's text.
+/// A block with the page's text.
 const BLOCK: &str = "{% block b %}B:[{{ \"x\" }}{{ 1 }}]{% endblock %}";
 
-/// A writer that takes so many bytes in all.
+/// A writer that accepts `room` bytes in total.
 fn writer_of(alloc: Global, room: usize, error: Option<io::ErrorKind>) -> Counted<Fake> {
     Counted::new(Fake {
         bytes: Vec::new(alloc),
@@ -146,7 +150,7 @@ fn writer_of(alloc: Global, room: usize, error: Option<io::ErrorKind>) -> Counte
     })
 }
 
-/// The same, by one byte a call.
+/// The same, with one byte per call.
 fn slow_writer(alloc: Global, room: usize, error: Option<io::ErrorKind>) -> Counted<Fake> {
     Counted::new(Fake {
         bytes: Vec::new(alloc),
@@ -156,7 +160,7 @@ fn slow_writer(alloc: Global, room: usize, error: Option<io::ErrorKind>) -> Coun
     })
 }
 
-/// Whether a writer failed so often and holds just so many bytes of the text.
+/// Whether a writer failed `failures` times and holds exactly the first `room` bytes of the text.
 fn holds_beginning(writer: &Counted<Fake>, text: &str, room: usize, failures: u64) -> bool {
     let bytes = writer.inner().bytes.as_slice();
     writer.failures() == failures && bytes.len() == room && text.as_bytes().starts_with(bytes)
@@ -174,7 +178,7 @@ struct Part {
     text: &'static str,
 }
 
-/// Whether a block ends at a writer that fails, and is whole when it is asked for again.
+/// Whether a block stops at a writer that fails, and is complete when it is rendered again.
 fn block_stops<P: Parties>(
     state: &mut StateOf<'_, P>,
     part: Part,
@@ -189,14 +193,15 @@ fn block_stops<P: Parties>(
     )
 }
 
-/// Whether a writer of one byte a call gets the whole block.
+/// Whether a writer that accepts one byte per call receives the whole block.
 fn block_is_whole<P: Parties>(alloc: Global, state: &mut StateOf<'_, P>, part: Part) -> bool {
     let mut writer = slow_writer(alloc, usize::MAX, None);
     let answer = state.render_block_to_write(part.name, &mut writer);
     answer.is_ok() && is_whole(&writer, part.text)
 }
 
-/// Whether a block of the state that a source leaves ends at each writer that fails, and else is whole.
+/// Whether a block of the state after a render stops at each writer that fails, and is complete
+/// otherwise.
 fn blocks_stop<P: Parties>(
     alloc: Global,
     environment: &EnvironmentOf<'static, P>,
@@ -222,7 +227,7 @@ fn blocks_stop<P: Parties>(
     Ok(block_is_whole(alloc, &mut state, part))
 }
 
-/// Whether a limit of so many bytes ends the page there, by a failure of its own.
+/// Whether a limit of `room` bytes stops the page there, with a failure of its own.
 fn limit_stops<P: Parties>(alloc: Global, template: &TemplateOf<'_, '_, P>, room: usize) -> bool {
     let mut limited = Limited::new(writer_of(alloc, usize::MAX, None), room);
     let answer = template.render_captured_to(
@@ -252,7 +257,8 @@ fn limits_stop<P: Parties>(
     Ok(true)
 }
 
-/// Whether a limit above a writer that takes fewer bytes ends the page where the writer does; both count the failure.
+/// Whether the page stops at a writer that fails before the limit is reached; both count the
+/// failure.
 fn limited_writer_stops<P: Parties>(
     alloc: Global,
     template: &TemplateOf<'_, '_, P>,
@@ -293,7 +299,7 @@ fn limited_writers_stop<P: Parties>(
     Ok(is_rendered && limited.failures() == 0 && is_whole(limited.inner(), TEXT))
 }
 
-/// Whether a wrapper's writer that fails ends a text, and its error is handed out once.
+/// Whether a wrapper's writer that fails stops a text, and its error is returned once.
 fn wrapper_stops(writer: Counted<Fake>, room: usize) -> bool {
     let mut wrapper = WriteWrapper::new(writer);
     let answer = wrapper.write_str(TEXT);
@@ -323,7 +329,7 @@ fn wrappers_stop(alloc: Global) -> bool {
     is_written && wrapper.err.is_none() && is_whole(&wrapper.w, TEXT)
 }
 
-/// Whether an output over a writer that takes so many bytes ends there, and its captures don't.
+/// Whether an output stops at a writer with `room` bytes, while its captures don't.
 fn output_stops(alloc: Global, writer: Counted<Fake>, room: usize) -> Result<bool, Error> {
     let mut output = Output::new(alloc, writer);
     output.begin_capture(CaptureMode::Capture)?;

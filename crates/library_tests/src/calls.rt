@@ -1,11 +1,11 @@
-//! The calls of environments and templates, beside those of the examples.
+//! Calls of environments and templates that the examples don't show.
 
 use crate::library::{Asking, add_function};
 use std::alloc::Global;
 use std::test::Fail;
 use template_machine::*;
 
-/// Writes the name of the template that runs.
+/// Writes the name of the running template.
 const TITLE: &str = "{{ title() }}";
 
 fn is_text(found: Result<String, Error>, wanted: &str) -> bool {
@@ -23,7 +23,7 @@ fn captured_text<P: Parties>(
     Ok(captured.into_output())
 }
 
-/// Whether a template has its source and its name, and renders it.
+/// Whether a template has this source and name, and renders its name.
 fn is_rendered<P: Parties>(
     template: &TemplateOf<'_, '_, P>,
     ids: &mut StateIds,
@@ -36,7 +36,7 @@ fn is_rendered<P: Parties>(
         && is_text(captured_text(template, ids), name)
 }
 
-/// Whether a source that writes its name is rendered however its template is made.
+/// Whether a source that writes its template's name renders, however its template is made.
 fn renders_each<P: Parties>(environment: &EnvironmentOf<'_, P>) -> Result<bool, Error> {
     let mut ids = StateIds::new();
     let kept = is_rendered(&environment.get_template("b")?, &mut ids, TITLE, "b");
@@ -46,7 +46,7 @@ fn renders_each<P: Parties>(environment: &EnvironmentOf<'_, P>) -> Result<bool, 
     Ok(kept && unnamed && is_rendered(&template, &mut ids, TITLE, "n"))
 }
 
-/// Whether such a source is rendered at once, under a name and without one.
+/// Whether such a source renders directly, with and without a name.
 fn renders_at_once<P: Parties>(environment: &EnvironmentOf<'_, P>) -> bool {
     let mut ids = StateIds::new();
     let unnamed = environment.render_str(&mut ids, TITLE, Value::undefined());
@@ -54,7 +54,7 @@ fn renders_at_once<P: Parties>(environment: &EnvironmentOf<'_, P>) -> bool {
     is_text(unnamed, "<string>") && is_text(named, "n")
 }
 
-/// Whether the templates of an environment have these names, in this order.
+/// Whether the environment's templates have these names, in this order.
 fn has_templates<P: Parties>(environment: &EnvironmentOf<'_, P>, wanted: &str) -> bool {
     let mut rest = wanted.split_whitespace();
     for (name, template) in environment.templates() {
@@ -65,7 +65,7 @@ fn has_templates<P: Parties>(environment: &EnvironmentOf<'_, P>, wanted: &str) -
     rest.next().is_none()
 }
 
-/// Whether templates are walked in order, and dropped.
+/// Whether templates are iterated in order, and removed.
 fn drops_templates<P: Parties>(environment: &mut EnvironmentOf<'_, P>) -> bool {
     let is_walked = has_templates(environment, "a b t");
     environment.remove_template("no");
@@ -76,7 +76,7 @@ fn drops_templates<P: Parties>(environment: &mut EnvironmentOf<'_, P>) -> bool {
     is_walked && is_whole && is_gone && has_templates(environment, "")
 }
 
-/// Whether they are, where `title` answers the name of the template that runs.
+/// Whether templates render, with `title` as a function that returns the running template's name.
 fn are_rendered<P: Parties>(
     alloc: Global,
     environment: &mut EnvironmentOf<'_, P>,

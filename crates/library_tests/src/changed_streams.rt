@@ -1,4 +1,5 @@
-//! Streams that `generate` wrote, each with one instruction changed: each is refused, or runs and is never stuck.
+//! Streams that `generate` wrote, each with one instruction changed: each is refused, or runs
+//! without getting stuck.
 use crate::drawn::{Dice, any_instruction, lists};
 use crate::library::Asking;
 use crate::trials::{Outcome, STREAMS, Way, as_block, as_root, outcome_of};
@@ -10,7 +11,7 @@ use std::test::Fail;
 use template_machine::machinery::BlockCode;
 use template_machine::*;
 
-/// Templates whose streams are changed, with no blocks but `a` and `b`.
+/// Templates whose streams are changed; `a` and `b` are their only blocks.
 static TEMPLATES: [&str; 38] = [
     "x{{ a }}{{ a.b }}{{ a[0] }}y",
     "{% for x in a %}{{ x }}{{ loop.index }}{% else %}n{% endfor %}",
@@ -65,7 +66,7 @@ static EXPRESSIONS: [&str; 9] = [
     "namespace(v=1).v.w(1, 2)",
 ];
 
-/// The templates of the environment: what is extended, included and imported.
+/// The templates of the environment, to extend, include and import.
 static OTHERS: [(&str, &str); 2] = [
     (
         "base",
@@ -77,7 +78,7 @@ static OTHERS: [(&str, &str); 2] = [
     ),
 ];
 
-/// Where each runs that is accepted, also an expression's, whose value is dropped there.
+/// The ways to run an accepted stream. An expression's runs too, and its value is dropped.
 static WAYS: [Way; 3] = [Way::Root, Way::Block, Way::Placed];
 
 /// A tree, and the form of its streams.
@@ -106,23 +107,23 @@ fn origins(alloc: Global) -> Result<Vec<Origin>, Error> {
     Ok(origins)
 }
 
-/// A stream of a tree, out of its place.
+/// A stream taken out of its tree's streams.
 #[derive(Drop)]
 struct Loose {
     stream: Vec<Instruction>,
-    /// The root beside it, where it is that of block `b`, and not the root.
+    /// The root stream, if the loose stream is that of block `b`.
     root: Option<Verified>,
-    /// The blocks beside it.
+    /// The remaining blocks.
     blocks: BTreeMap<&'static str, Verified>,
 }
 
-/// The stream of a block, where there is one.
+/// The stream of a block, if there is one.
 fn code_of(alloc: Global, block: Option<BlockCode>) -> Option<Verified> {
     let mut block = block?;
     Some(mem::replace(&mut block.code, Verified::empty(alloc)))
 }
 
-/// Takes out the root's stream, or that of block `b` at times, where there is one.
+/// Takes out the root stream, or sometimes that of block `b`, if there is one.
 fn take_out(alloc: Global, tree: &Tree, dice: &mut Dice) -> Result<Loose, Error> {
     let Streams { root, mut blocks } = generate(alloc, tree)?;
     let mut beside = BTreeMap::new(alloc);
@@ -147,8 +148,8 @@ fn take_out(alloc: Global, tree: &Tree, dice: &mut Dice) -> Result<Loose, Error>
     })
 }
 
-/// Changes one instruction of a stream, if it has any: swaps it with another, takes it out and mends no jump, or puts a
-/// random one there.
+/// Changes one instruction of a stream, if it has any: swaps it with another one, removes it
+/// without adjusting jumps, or replaces it by a random one.
 fn change(alloc: Global, stream: &mut Vec<Instruction>, dice: &mut Dice) -> Result<(), Error> {
     let size = stream.len();
     let place = dice.roll(size);
@@ -171,7 +172,7 @@ fn change(alloc: Global, stream: &mut Vec<Instruction>, dice: &mut Dice) -> Resu
     Ok(())
 }
 
-/// Runs a stream where the one stood that it was made of.
+/// Runs a stream in the place that it was taken from.
 fn as_placed<P: Parties>(
     alloc: Global,
     environment: &EnvironmentOf<'_, P>,
@@ -186,7 +187,7 @@ fn as_placed<P: Parties>(
     outcome_of(alloc, environment, root, blocks)
 }
 
-/// What a changed stream of a tree comes to, where it runs in one of the ways.
+/// The outcome of a changed stream of a tree, run in one way.
 fn comes_to<P: Parties>(
     alloc: Global,
     environment: &EnvironmentOf<'_, P>,
@@ -210,7 +211,8 @@ fn comes_to<P: Parties>(
     }
 }
 
-/// What it comes to in all of them: a run takes the stream, so that it is made once more for each.
+/// The outcome of the same changed stream in all ways. A run consumes the stream, so it is made
+/// again for each way.
 fn outcome_in_all<P: Parties>(
     alloc: Global,
     environment: &EnvironmentOf<'_, P>,
@@ -228,7 +230,7 @@ fn outcome_in_all<P: Parties>(
     Ok(Outcome::Sound)
 }
 
-/// How many of the streams are accepted; none where one that is accepted is stuck.
+/// The number of accepted streams; None if an accepted one gets stuck.
 fn accepted<P: Parties>(
     alloc: Global,
     environment: &EnvironmentOf<'_, P>,
@@ -249,7 +251,7 @@ fn accepted<P: Parties>(
     Ok(Some(count))
 }
 
-/// Adds what the sources name.
+/// Adds the templates and names that the sources use.
 fn add_others<P: Parties>(
     alloc: Global,
     environment: &mut EnvironmentOf<'_, P>,

@@ -1,17 +1,17 @@
-//! Random instructions, by numbers that are the same in each run.
+//! Random instructions, from numbers that are the same in each run.
 use std::alloc::Global;
 use std::rc::RcStr;
 use template_machine::machinery::LoopFlags;
 use template_machine::*;
 
-/// Numbers that look random, and are the same in each run. A copy gives the same ones once more.
+/// Numbers that look random and are the same in each run. A copy repeats them.
 #[derive(Clone, Copy)]
 pub(crate) struct Dice {
     pub(crate) seed: u64,
 }
 
 impl Dice {
-    /// A number below `sides`, or 0.
+    /// A number below `sides`, or 0 if `sides` is 0.
     pub(crate) fn roll(&mut self, sides: usize) -> usize {
         self.seed = self
             .seed
@@ -24,13 +24,13 @@ impl Dice {
         }
     }
 
-    /// Either of two.
+    /// True or false.
     pub(crate) fn flip(&mut self) -> bool {
         self.roll(2) == 0
     }
 }
 
-/// A list of as many empty lists.
+/// A list of `count` empty lists.
 pub(crate) fn lists(alloc: Global, count: usize) -> Result<Value, Error> {
     let mut items = Vec::new(alloc);
     for _ in 0..count {
@@ -39,7 +39,7 @@ pub(crate) fn lists(alloc: Global, count: usize) -> Result<Value, Error> {
     Value::list(alloc, items)
 }
 
-/// A list of so many names, as those of a macro's arguments.
+/// A list of `count` names, like those of a macro's arguments.
 fn names(alloc: Global, count: usize) -> Result<Value, Error> {
     let mut items = Vec::new(alloc);
     for _ in 0..count {
@@ -77,7 +77,7 @@ fn raw(alloc: Global) -> Result<Instruction, Error> {
     Ok(Instruction::EmitRaw(RawText::within(alloc, &source, 0, "x")?))
 }
 
-/// How many values are taken: so many, or as many as are counted.
+/// How many values an instruction takes: a fixed number, or None to take the number from the stack.
 fn count(dice: &mut Dice) -> Option<usize> {
     match dice.roll(4) {
         0 => None,
@@ -87,7 +87,7 @@ fn count(dice: &mut Dice) -> Option<usize> {
     }
 }
 
-/// The number of a cache, of none, or one that is too great.
+/// A cache number: a valid one, that of no cache, or one that is too great.
 fn cache(dice: &mut Dice) -> u8 {
     match dice.roll(8) {
         0 => 50,
@@ -97,7 +97,7 @@ fn cache(dice: &mut Dice) -> u8 {
     }
 }
 
-/// One that needs nothing, or one operand.
+/// An instruction that needs at most one operand.
 fn usual(alloc: Global, dice: &mut Dice) -> Result<Instruction, Error> {
     Ok(match dice.roll(7) {
         0 => Instruction::Lookup(name(alloc, dice)?),
@@ -109,7 +109,7 @@ fn usual(alloc: Global, dice: &mut Dice) -> Result<Instruction, Error> {
     })
 }
 
-/// One that takes operands and puts others in their place.
+/// An instruction that replaces operands by others.
 fn operating(alloc: Global, dice: &mut Dice) -> Result<Instruction, Error> {
     Ok(match dice.roll(13) {
         0 => Instruction::GetAttr(name(alloc, dice)?),
@@ -128,7 +128,7 @@ fn operating(alloc: Global, dice: &mut Dice) -> Result<Instruction, Error> {
     })
 }
 
-/// A comparison whose second value stays, also by an operator that compares nothing.
+/// A comparison that keeps its second operand, sometimes with an operator that doesn't compare.
 fn preserving(dice: &mut Dice) -> Instruction {
     Instruction::CompareAndPreserve(match dice.roll(9) {
         0 => BinaryOperator::Equal,
@@ -143,7 +143,7 @@ fn preserving(dice: &mut Dice) -> Instruction {
     })
 }
 
-/// One for an operator.
+/// An instruction for an operator.
 fn reckoning(dice: &mut Dice) -> Instruction {
     match dice.roll(19) {
         0 => Instruction::Eq,
@@ -168,7 +168,7 @@ fn reckoning(dice: &mut Dice) -> Instruction {
     }
 }
 
-/// One that calls, or runs a block or a template.
+/// An instruction that calls something, or runs a block or a template.
 fn calling(alloc: Global, dice: &mut Dice) -> Result<Instruction, Error> {
     Ok(match dice.roll(11) {
         0 => Instruction::CallFunction(name(alloc, dice)?, count(dice)),
@@ -185,7 +185,8 @@ fn calling(alloc: Global, dice: &mut Dice) -> Result<Instruction, Error> {
     })
 }
 
-/// One that leads elsewhere, or is of a loop or a macro; at times it leads to the end of a stream of this size.
+/// A jump, or an instruction for a loop or a macro; sometimes its target is the end of a stream of
+/// this size.
 fn leading(alloc: Global, dice: &mut Dice, size: usize) -> Result<Instruction, Error> {
     let place = dice.roll(size.wrapping_add(1));
     Ok(match dice.roll(11) {
@@ -206,7 +207,7 @@ fn leading(alloc: Global, dice: &mut Dice, size: usize) -> Result<Instruction, E
     })
 }
 
-/// One that opens or ends a scope, a capture or an escape, or is of a closure.
+/// An instruction that opens or ends a scope, a capture or an escape, or is for a closure.
 fn scoping(alloc: Global, dice: &mut Dice) -> Result<Instruction, Error> {
     Ok(match dice.roll(9) {
         0 => Instruction::PushWith,
@@ -221,7 +222,7 @@ fn scoping(alloc: Global, dice: &mut Dice) -> Result<Instruction, Error> {
     })
 }
 
-/// One of any kind, for a stream of this size.
+/// Any instruction, for a stream of this size.
 pub(crate) fn any_instruction(
     alloc: Global,
     dice: &mut Dice,

@@ -5,7 +5,7 @@ use std::test::Fail;
 use template_machine::machinery::LoopFlags;
 use template_machine::*;
 
-/// The template of these streams: that of all of it, and that of its block `b`.
+/// A template made of a root stream and the stream of its block `b`.
 fn template_of<'source>(
     alloc: Global,
     root: Vec<Instruction>,
@@ -17,7 +17,7 @@ fn template_of<'source>(
     CompiledTemplate::from_streams(alloc, "streams", root, blocks, AutoEscape::None)
 }
 
-/// What a state of an empty template with a block answers to its block, with the fuel that is consumed and left.
+/// The text or error of a block `b` in an otherwise empty template, and the fuel consumed and left.
 fn block_of<P: Parties>(
     alloc: Global,
     environment: &EnvironmentOf<'_, P>,
@@ -37,7 +37,7 @@ fn one_list(alloc: Global) -> Result<Value, Error> {
     Value::list(alloc, items)
 }
 
-/// A loop over one empty list, whose round calls it over that.
+/// A loop over one empty list that calls itself with that list.
 fn calling_itself(alloc: Global) -> Result<Vec<Instruction>, Error> {
     let mut stream = Vec::new(alloc);
     stream.push(Instruction::LoadConst(one_list(alloc)?))?;
@@ -80,7 +80,7 @@ fn runs_out_of_fuel<P: Parties>(
     Ok(is_out && levels == Some((3, 0)))
 }
 
-/// Loads numbers, and then does the rest.
+/// Loads numbers and then performs the other instructions.
 fn with_numbers(
     alloc: Global,
     numbers: &[i128],
@@ -100,7 +100,7 @@ fn with_numbers(
     Ok(stream)
 }
 
-/// What a stream writes as a template of its own.
+/// The text of a stream as a template of its own.
 fn text_of<P: Parties>(
     alloc: Global,
     environment: &EnvironmentOf<'_, P>,
@@ -111,7 +111,7 @@ fn text_of<P: Parties>(
     template.render(&mut StateIds::new(), Value::undefined())
 }
 
-/// A text that is exported is the printed text of an operand.
+/// `ExportLocals` also takes an operand that isn't text.
 fn exports_a_number<P: Parties>(
     alloc: Global,
     environment: &EnvironmentOf<'_, P>,
@@ -121,7 +121,7 @@ fn exports_a_number<P: Parties>(
     Ok(text.as_str() == "")
 }
 
-/// A 0 that is added to as a value is one.
+/// A constant 0 that something is added to is read as a number, not as a count of no operands.
 fn adds_to_nothing<P: Parties>(
     alloc: Global,
     environment: &EnvironmentOf<'_, P>,
@@ -136,7 +136,7 @@ fn adds_to_nothing<P: Parties>(
     Ok(text.as_str() == "11")
 }
 
-/// The template of streams has neither a source nor names that it reads, and under a name it is found there.
+/// A template made of streams has no source and reads no names, and its block is found by name.
 fn tells_of_itself(alloc: Global) -> Result<bool, Error> {
     let mut stream = Vec::new(alloc);
     stream.push(Instruction::Lookup(Name::new(alloc, "name")?))?;
@@ -150,7 +150,7 @@ fn tells_of_itself(alloc: Global) -> Result<bool, Error> {
     Ok(reads_nothing && has_block && compiled.source() == "" && compiled.name() == "streams")
 }
 
-/// Of an expression's stream the value is dropped.
+/// The value of an expression's stream is dropped.
 fn drops_a_value<P: Parties>(
     alloc: Global,
     environment: &EnvironmentOf<'_, P>,

@@ -1,4 +1,4 @@
-//! The examples of docs/LIBRARY.md but for the last ones: examples/check.sh compares both.
+//! The examples of docs/LIBRARY.md except the last ones; examples/check.sh compares them.
 
 // example begins here
 ghost use Rattle.std.specs.Prelude.{[], ◌∷◌, ◌++◌, Ok, false, true, codes, pos};

@@ -1,4 +1,5 @@
-//! The last examples of docs/LIBRARY.md: captures, writers, trees and code. examples/check.sh compares both.
+//! The last examples of docs/LIBRARY.md: captures, writers, trees and code; examples/check.sh
+//! compares them.
 
 use crate::library::{OwnRules, is_fault, named};
 use std::alloc::Global;

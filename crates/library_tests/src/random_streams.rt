@@ -1,11 +1,11 @@
-//! Streams of random instructions: each is refused, or runs and is never stuck.
+//! Streams of random instructions: each is refused, or runs without getting stuck.
 use crate::drawn::{Dice, any_instruction};
 use crate::trials::{Outcome, STREAMS, Way, as_block, as_root};
 use std::alloc::Global;
 use std::test::Fail;
 use template_machine::*;
 
-/// Where each runs that is accepted, also an expression's, whose value is dropped there.
+/// The ways to run an accepted stream. An expression's runs too, and its value is dropped.
 static WAYS: [Way; 2] = [Way::Root, Way::Block];
 
 /// A stream of at most six random instructions.
@@ -18,7 +18,7 @@ fn stream(alloc: Global, dice: &mut Dice) -> Result<Vec<Instruction>, Error> {
     Ok(stream)
 }
 
-/// What a random stream comes to, in one of the forms, where it runs in one of the ways.
+/// The outcome of a random stream, of a random form, run in one way.
 fn outcome<P: Parties>(
     alloc: Global,
     environment: &EnvironmentOf<'_, P>,
@@ -39,7 +39,8 @@ fn outcome<P: Parties>(
     }
 }
 
-/// What it comes to in all of them: a run takes the stream, so that it is drawn once more for each.
+/// The outcome of the same random stream in all ways. A run consumes the stream, so it is made
+/// again for each way.
 fn outcome_in_all<P: Parties>(
     alloc: Global,
     environment: &EnvironmentOf<'_, P>,
@@ -56,7 +57,7 @@ fn outcome_in_all<P: Parties>(
     Ok(Outcome::Sound)
 }
 
-/// How many of the streams are accepted; none where one that is accepted is stuck.
+/// The number of accepted streams; None if an accepted one gets stuck.
 fn accepted<P: Parties>(
     alloc: Global,
     environment: &EnvironmentOf<'_, P>,

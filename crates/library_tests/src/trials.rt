@@ -1,4 +1,4 @@
-//! How streams are tried: where those that are accepted run, and what no run of one may answer.
+//! Trials of streams: how the accepted ones are run, and what no run of one may answer.
 use std::alloc::Global;
 use std::collections::BTreeMap;
 use template_machine::*;
@@ -6,29 +6,30 @@ use template_machine::*;
 /// How many streams a test tries.
 pub(crate) const STREAMS: usize = 2000;
 
-/// Where a stream runs.
+/// How a stream is run.
 #[derive(Clone, Copy)]
 pub(crate) enum Way {
     /// As the root of a template without blocks.
     Root,
     /// As the block `b` of an empty template.
     Block,
-    /// Where the stream stood that it was made of, beside that one's others.
+    /// In the place that it was taken from, together with the other streams there.
     Placed,
 }
 
-/// What a stream comes to.
+/// The outcome of a stream.
 #[derive(Clone, Copy)]
 pub(crate) enum Outcome {
     /// It isn't accepted.
     Refused,
-    /// It is, and no run of it came to BadStream.
+    /// It is accepted, and no run of it fails with BadStream.
     Sound,
-    /// It is, and one did.
+    /// It is accepted, and a run of it fails with BadStream.
     Stuck,
 }
 
-/// Whether neither an error nor a cause of it is BadStream, so that none hides under those that wrap it.
+/// Whether neither the error nor one of its causes is BadStream, so that no wrapping error hides
+/// it.
 fn is_sound_fault(error: &Error) -> bool {
     let mut rest = Some(error);
     for _ in 0..usize::MAX {
@@ -41,7 +42,7 @@ fn is_sound_fault(error: &Error) -> bool {
     false
 }
 
-/// Whether an answer is anything but an error that is BadStream, or that BadStream caused.
+/// Whether the answer is anything but BadStream, or an error that BadStream caused.
 fn is_sound<T: Drop>(answer: Result<T, Error>) -> bool {
     match answer {
         Ok(_) => true,
@@ -49,7 +50,8 @@ fn is_sound<T: Drop>(answer: Result<T, Error>) -> bool {
     }
 }
 
-/// Renders the template of streams, and its block `b` in the state that is left, where there is one.
+/// Renders a template made of streams, and then its block `b`, if there is one, in the state after
+/// the render.
 pub(crate) fn outcome_of<P: Parties>(
     alloc: Global,
     environment: &EnvironmentOf<'_, P>,
@@ -73,7 +75,7 @@ pub(crate) fn outcome_of<P: Parties>(
     })
 }
 
-/// Runs a stream as a root.
+/// Runs a stream as the root.
 pub(crate) fn as_root<P: Parties>(
     alloc: Global,
     environment: &EnvironmentOf<'_, P>,

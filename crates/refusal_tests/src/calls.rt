@@ -1,4 +1,5 @@
-//! Calls of environments that grow: additions, templates however they are made and rendered, and expressions.
+//! Calls of environments that allocate: additions, templates made and rendered in each way, and
+//! expressions.
 
 use crate::ends::{End, end_of, holds, is_fault, told, written_end};
 use crate::objects::Seven;
@@ -7,7 +8,7 @@ use std::alloc::Global;
 use std::test::Fail;
 use template_machine::*;
 
-/// What is added to an environment.
+/// Something to add to an environment.
 #[derive(Clone, Copy)]
 enum Adding {
     Template,
@@ -18,7 +19,7 @@ enum Adding {
     Global,
 }
 
-/// What is added, a source that shows it, and what that writes before and after.
+/// What is added, a source that uses it, and what that writes before and after.
 static ADDITIONS: &[(Adding, &str, &str, &str)] = &[
     (
         Adding::Template,
@@ -52,7 +53,7 @@ fn add(alloc: Global, environment: &mut Environment<'static>, adding: Adding) ->
     }
 }
 
-/// How many templates and globals there are. This takes no memory.
+/// How many templates and globals there are. Allocates nothing.
 fn counts<P: Parties>(environment: &EnvironmentOf<'static, P>) -> usize {
     let mut count: usize = 0;
     for (_name, _template) in environment.templates() {
@@ -73,7 +74,7 @@ fn shown<P: Parties>(
     end_of(answer, wanted)
 }
 
-/// Whether a source writes this, also where a growth is refused once.
+/// Whether a source writes the expected text, even if one growth is refused.
 fn shows<P: Parties>(
     environment: &EnvironmentOf<'static, P>,
     source: &'static str,
@@ -83,7 +84,7 @@ fn shows<P: Parties>(
     holds(first, shown(environment, source, wanted))
 }
 
-/// How an addition ended, after which a source writes `new`, and before which it wrote `old`.
+/// How an addition ended: after it a source writes `new`, and before it `old`.
 fn addition_end(
     alloc: Global,
     environment: &mut Environment<'static>,
@@ -122,7 +123,8 @@ fn additions_hold(alloc: Global, environment: &mut Environment<'static>) -> bool
     true
 }
 
-/// How the addition of a source ended that spells no template: all stays as it was, whichever error it is.
+/// How the addition of a source that spells no template ended: nothing changes, whichever error it
+/// is.
 fn faulty_end(alloc: Global, environment: &mut Environment<'static>) -> End {
     let before = counts(environment);
     let answer = match String::from_str(alloc, "{{ 1") {
@@ -149,12 +151,12 @@ fn objects_are_added(rt: HostRuntime) -> Result<(), Fail> {
     Ok(())
 }
 
-/// A source over a name, and what it writes.
+/// A source that reads a name, and its text.
 const SOURCE: &str = "{% include \"i\" %}[{{ w }}]{% block b %}B{% endblock %}";
 
 const TEXT: &str = "ab1[World]B";
 
-/// A context of one name.
+/// A context with one name.
 fn context(alloc: Global) -> Result<Value, Error> {
     let mut map = ValueMap::new(alloc);
     map.insert(Value::text(alloc, "w")?, Value::text(alloc, "World")?)?;
@@ -183,7 +185,7 @@ static WAYS: [Way; 7] = [
     Way::Given,
 ];
 
-/// The text of a template that was made of parts.
+/// The text of a template that was compiled outside the environment.
 fn given_text<P: Parties>(
     alloc: Global,
     environment: &EnvironmentOf<'static, P>,
@@ -282,7 +284,7 @@ fn texts_are_given_in_each_way(rt: HostRuntime) -> Result<(), Fail> {
     Ok(())
 }
 
-/// Calls of an environment that give no text.
+/// Calls of an environment that return no text.
 #[derive(Clone, Copy)]
 enum Call {
     Names,
@@ -323,7 +325,7 @@ fn reads<P: Parties>(
     Ok(names.len() == 2 && names.contains("b") && names.contains(wanted))
 }
 
-/// Whether a new state renders its block, and has no scope.
+/// Whether a new state renders its block and has no scope.
 fn starts<P: Parties>(environment: &EnvironmentOf<'static, P>) -> Result<bool, Error> {
     let template = environment.template_from_str(SOURCE)?;
     let mut state = template.new_state(&mut StateIds::new())?;
@@ -365,7 +367,7 @@ fn expression_reads<P: Parties>(environment: &EnvironmentOf<'static, P>) -> Resu
     Ok(names.len() == 1 && names.contains("a") && nested.len() == 1 && nested.contains("a.b"))
 }
 
-/// Whether namespaces in an expression's value are maps.
+/// Whether namespaces in an expression's value become maps.
 fn maps_namespaces<P: Parties>(
     alloc: Global,
     environment: &EnvironmentOf<'static, P>,

@@ -7,7 +7,7 @@ use std::rc::RcStr;
 use std::test::Fail;
 use template_machine::*;
 
-/// What is made of sources and of streams.
+/// What is made of sources and streams.
 #[derive(Clone, Copy)]
 enum Making {
     Tree,
@@ -75,7 +75,7 @@ fn finds_names(alloc: Global) -> Result<bool, Error> {
     Ok(names.len() == 2 && names.contains("a") && nested.contains("a.b"))
 }
 
-/// A template that needs no environment until it is rendered.
+/// A template that needs no environment until it renders.
 fn compiles(alloc: Global) -> Result<bool, Error> {
     let config = TemplateConfig::default();
     let compiled = CompiledTemplate::new(alloc, "a.html", Source::Lent(SOURCE), &config)?;
@@ -84,7 +84,7 @@ fn compiles(alloc: Global) -> Result<bool, Error> {
     Ok(is_whole && compiled.escape() == AutoEscape::Html && names.contains("a.b"))
 }
 
-/// A greeting of a name, as a stream.
+/// A stream that greets a name.
 fn greeting(alloc: Global) -> Result<Vec<Instruction>, Error> {
     let mut stream = Vec::new(alloc);
     stream.push(Instruction::LoadConst(Value::text(alloc, "Hello ")?))?;
@@ -150,7 +150,7 @@ fn what_compiles_answers_for_memory(rt: HostRuntime) -> Result<(), Fail> {
     Ok(())
 }
 
-/// What a stream and that of its block write over a context of a name.
+/// Whether a stream and that of its block write a greeting of the name in the context.
 fn runs<P: Parties>(alloc: Global, environment: &EnvironmentOf<'static, P>) -> Result<bool, Error> {
     let root = verify(alloc, greeting(alloc)?, Form::Template)?;
     let mut blocks = BTreeMap::new(alloc);

@@ -1,4 +1,4 @@
-//! How calls end of which each growth may be refused.
+//! How calls end if any of their growths may be refused.
 
 use crate::rows::last_kind;
 use template_machine::*;
@@ -6,15 +6,15 @@ use template_machine::*;
 /// How a call ended.
 #[derive(Clone, Copy, PartialEq, Eq)]
 pub(crate) enum End {
-    /// As with ample memory.
+    /// As with enough memory.
     Same,
-    /// It found no memory, and what it works on stands as before.
+    /// Memory ran out, and what the call works on is unchanged.
     Refused,
     /// In another way.
     Wrong,
 }
 
-/// Whether a call that is made twice ended as it may where at most one growth is refused.
+/// Whether two calls of the same kind ended correctly if at most one growth is refused.
 pub(crate) fn holds(first: End, second: End) -> bool {
     match (first, second) {
         (End::Same, End::Same) | (End::Same, End::Refused) | (End::Refused, End::Same) => true,
@@ -22,7 +22,7 @@ pub(crate) fn holds(first: End, second: End) -> bool {
     }
 }
 
-/// How a call ended with this error, where with ample memory it ends so.
+/// How a call ended with this error if it ends as `wanted` with enough memory.
 pub(crate) fn refused_or(error: &Error, wanted: &str) -> End {
     if last_kind(error) == ErrorKind::OutOfMemory {
         return End::Refused;
@@ -37,7 +37,7 @@ pub(crate) fn refused_or(error: &Error, wanted: &str) -> End {
     }
 }
 
-/// How a call ended that gives a text.
+/// How a call that returns a text ended.
 pub(crate) fn end_of(answer: Result<String, Error>, wanted: &str) -> End {
     match answer {
         Ok(text) => if text.as_str() == wanted {
@@ -49,7 +49,7 @@ pub(crate) fn end_of(answer: Result<String, Error>, wanted: &str) -> End {
     }
 }
 
-/// How a render into a writer ends, whose own growth may be refused.
+/// How a render into a writer ended; the writer's own growth may be refused.
 pub(crate) fn written_end(
     answer: Result<(), Error>,
     writer: &Counted<Vec<u8>>,
@@ -81,7 +81,7 @@ pub(crate) fn written_end(
     }
 }
 
-/// How a call ended that answers whether it gave what it has to give.
+/// How a call ended that returns whether it did its work.
 pub(crate) fn told(answer: Result<bool, Error>) -> End {
     match answer {
         Ok(true) => End::Same,
@@ -90,7 +90,7 @@ pub(crate) fn told(answer: Result<bool, Error>) -> End {
     }
 }
 
-/// Whether a call refused by this kind, where it found memory.
+/// Whether a call failed with the expected kind; an error if memory ran out.
 pub(crate) fn is_fault<T: Drop>(
     answer: Result<T, Error>,
     wanted: ErrorKind,

@@ -1,5 +1,5 @@
-//! Tests that hold whichever growth of memory is refused, and of calls that grow nothing. `tools/refusals` runs them with each growth refused, or
-//! counts what they grow.
+//! Tests that hold whichever growth of memory is refused, and tests of calls that don't allocate.
+//! `tools/refusals` runs them with each growth refused, or counts their growths.
 #![tactic(auto)]
 
 #[cfg(test)]

@@ -1,6 +1,7 @@
-//! Calls that take no memory. A mark is a growth of a size that no call asks for, with the name of what was done since the mark before it; the
-//! counting is `tools/refusals`'. What is prepared has no name, and a name after `*` is of a call that has to grow, so that growths are seen to be
-//! counted.
+//! Calls that don't allocate. A mark is a growth of a size that no call asks for, with the name of
+//! what was done since the previous mark; `tools/refusals` counts the growths between marks.
+//! Preparations have no name. A name after `*` is of a call that has to allocate, which shows that
+//! growths are counted.
 
 use crate::objects::{Escapes, add_seven};
 use std::alloc::Global;
@@ -13,7 +14,8 @@ use tm_tables::{Context, Frame, LoopState};
 /// The size of a mark.
 const MARK: usize = 7919;
 
-/// Grows by a mark, which it lets go at once. It reads what it wrote there, so that no compiler leaves the growth out.
+/// Grows by a mark and frees it at once. It reads what it wrote there, so that no compiler removes
+/// the growth.
 #[inline(never)]
 fn mark(alloc: Global, name: &str) -> Result<(), Error> {
     let mut text = String::with_capacity(alloc, MARK)?;
@@ -46,7 +48,7 @@ fn has_no_globals<P: Parties>(environment: &EnvironmentOf<'static, P>) -> bool {
     environment.globals().next().is_none()
 }
 
-/// Calls without an environment's data.
+/// Calls that need no environment's data.
 fn makes_beginnings(alloc: Global) -> Result<bool, Error> {
     mark(alloc, "")?;
     let environment: Environment<'static> = Environment::empty(alloc);
@@ -100,7 +102,7 @@ fn tracks_and_writes(alloc: Global) -> Result<bool, Error> {
     Ok(is_out && are_taken && levels == (1, 1, 0))
 }
 
-/// The settings of an environment.
+/// Sets an environment's settings.
 fn sets(alloc: Global, environment: &mut Environment<'static>) -> Result<bool, Error> {
     let boxed = Box::new(alloc, Escapes)?;
     mark(alloc, "")?;
@@ -126,7 +128,7 @@ fn sets(alloc: Global, environment: &mut Environment<'static>) -> Result<bool, E
     Ok(are_set && behavior == UndefinedBehavior::Chainable)
 }
 
-/// What an environment has.
+/// Queries an environment.
 fn tells<P: Parties>(alloc: Global, environment: &EnvironmentOf<'_, P>) -> Result<bool, Error> {
     let mut count: usize = 0;
     mark(alloc, "")?;
@@ -147,7 +149,7 @@ fn tells<P: Parties>(alloc: Global, environment: &EnvironmentOf<'_, P>) -> Resul
     Ok(count == 21 && is_named && absent)
 }
 
-/// What a render left.
+/// Queries the state of a render.
 fn state_tells<P: Parties>(
     alloc: Global,
     environment: &EnvironmentOf<'_, P>,
@@ -190,7 +192,7 @@ fn gives_output<P: Parties>(
     Ok(output.as_str() == "x")
 }
 
-/// What is dropped.
+/// Removes from an environment.
 fn drops(alloc: Global, environment: &mut Environment<'static>) -> Result<bool, Error> {
     mark(alloc, "")?;
     environment.remove_filter("f");
@@ -214,7 +216,7 @@ fn drops(alloc: Global, environment: &mut Environment<'static>) -> Result<bool, 
     Ok(environment.templates().next().is_some())
 }
 
-/// Places in a block's stack, and depths of scopes.
+/// Moves in a block's stack and between depths of scopes.
 fn moves(alloc: Global) -> Result<bool, Error> {
     let mut stack = BlockStack::new(alloc, TemplateId::Own)?;
     stack.append(TemplateId::Own)?;
@@ -258,7 +260,7 @@ fn new_loop(alloc: Global) -> Result<LoopState, Error> {
     Ok(LoopState::new(Rc::new(alloc, items)?, 0, 0, true, stream))
 }
 
-/// The numbers of a loop.
+/// Advances and queries a loop.
 fn turns(alloc: Global) -> Result<bool, Error> {
     let mut state = new_loop(alloc)?;
     mark(alloc, "")?;

@@ -8,7 +8,7 @@ ghost use Rattle.tm_tables.specs.Stated.{just};
 use std::alloc::Global;
 use template_machine::*;
 
-/// Answers 7.
+/// Returns 7.
 #[derive(Drop)]
 pub(crate) struct Seven;
 
@@ -20,7 +20,7 @@ impl Answering for Seven {
     }
 }
 
-/// Escapes each template by Html.
+/// Escapes each template as HTML.
 #[derive(Drop)]
 pub(crate) struct Escapes;
 
@@ -32,7 +32,7 @@ impl EscapeRule for Escapes {
     }
 }
 
-/// Makes an object a function, a filter and a test, each named `f`.
+/// Adds a function, a filter and a test, each named `f`.
 pub(crate) fn add_seven(
     alloc: Global,
     environment: &mut Environment<'static>,

@@ -46,7 +46,7 @@ fn list(alloc: Global) -> Result<Value, Error> {
     Value::list(alloc, items)
 }
 
-/// A map of equal keys, of which the last one counts.
+/// A map made of equal keys, of which the last one wins.
 fn map(alloc: Global) -> Result<ValueMap, Error> {
     let mut pairs = Vec::new(alloc);
     pairs.push((Value::text(alloc, "k")?, Value::number(1)))?;
@@ -83,7 +83,7 @@ fn has_cause(alloc: Global) -> Result<bool, Error> {
     Ok(wrapped.kind() == ErrorKind::BadInclude && last_kind(&wrapped) == ErrorKind::OutOfFuel)
 }
 
-/// Whether an error has its kind; its detail may be missing.
+/// Whether an error has its kind; the detail may be missing.
 fn has_detail(alloc: Global) -> bool {
     let error = Error::new(alloc, ErrorKind::BadInclude, "in the footer");
     let is_detail = match error.detail() {
@@ -125,7 +125,7 @@ fn values_answer_for_memory(rt: HostRuntime) -> Result<(), Fail> {
     Ok(())
 }
 
-/// How a pair is put into a map, which stands as before where it isn't.
+/// How an insertion into a map ended; if it fails, the map is unchanged.
 fn insertion_end(alloc: Global, map: &mut ValueMap, name: &str, number: i128) -> End {
     let before = map.len();
     let Ok(key) = Value::text(alloc, name) else {

@@ -1,4 +1,5 @@
-//! Calls that grow: each gives what it gives with ample memory, or finds no memory, and gives it when it is made again.
+//! Calls that allocate: each has the same result as with enough memory, or runs out of memory and
+//! has that result when it is repeated.
 
 use crate::ends::{End, end_of, holds, refused_or, written_end};
 use crate::rows::{last_kind, new_environment, row_of};
@@ -6,7 +7,7 @@ use std::alloc::Global;
 use std::test::Fail;
 use template_machine::*;
 
-/// Sources, and what they write, or the kinds of their faults after `!`.
+/// Sources with their text, or with the kinds of their faults after `!`.
 static ROWS: [&str; 22] = [
     "{% for x in [1,2] %}{{ x }}{% endfor %} => 12",
     "{% for t in [[[]],[]] recursive %}{{ t }}({{ loop(t) }}){% endfor %} => [[]]([]())[]()",
@@ -32,7 +33,7 @@ static ROWS: [&str; 22] = [
     "{% set x %}a{{ 1 }}{% endset %}{{ x }}{{ dict({\"a\": 1}, b=2) }} => a1{\"a\": 1, \"b\": 2}",
 ];
 
-/// What is asked of a state: a block, and a macro that is called with 5.
+/// A source for questions to its state: it has blocks, and a macro that is called with 5.
 const PARTS: &str =
     "{% set a = 1 %}{% macro m(x, y=3) %}[{{ x }}{{ y }}{{ a }}]{% endmacro %}{% if false %}{% block b %}{% for x in [1] %}{{ y.z }}{% endfor %}{% endblock %}{% endif %}{% block c %}{% set w = [1] %}{% include \"i\" %}{{ m(w) }}{% endblock %}";
 
@@ -44,7 +45,7 @@ fn renders<P: Parties>(alloc: Global, template: &TemplateOf<'_, '_, P>, wanted: 
     }
 }
 
-/// How a row ends that is compiled and rendered.
+/// How a row ends when it is compiled and rendered.
 pub(crate) fn row_end<P: Parties>(
     alloc: Global,
     environment: &EnvironmentOf<'static, P>,
@@ -57,7 +58,7 @@ pub(crate) fn row_end<P: Parties>(
     }
 }
 
-/// Whether all these rows end as they say, also where a growth is refused once.
+/// Whether all rows end as they say, even if one growth is refused.
 pub(crate) fn rows_hold<P: Parties>(
     alloc: Global,
     environment: &EnvironmentOf<'static, P>,
@@ -72,7 +73,7 @@ pub(crate) fn rows_hold<P: Parties>(
     true
 }
 
-/// Whether the template `t` writes this, also where a growth is refused once.
+/// Whether the template `t` writes the expected text, even if one growth is refused.
 fn gives<P: Parties>(environment: &EnvironmentOf<'static, P>, wanted: &str) -> bool {
     let Ok(template) = environment.get_template("t") else {
         return false;
@@ -90,7 +91,7 @@ fn gives<P: Parties>(environment: &EnvironmentOf<'static, P>, wanted: &str) -> b
     )
 }
 
-/// How an addition ended, after which `t` writes `new`, and before which it wrote `old`.
+/// How an addition ended: after it `t` writes `new`, and before it `old`.
 fn added<P: Parties>(
     environment: &EnvironmentOf<'static, P>,
     answer: Result<(), Error>,
@@ -160,7 +161,7 @@ fn serves<P: Parties>(state: &mut StateOf<'_, P>) -> bool {
     is_faulty && is_block && holds(first, macro_end(state, "[531]"))
 }
 
-/// The environment of the rows; a growth may be refused once.
+/// The environment of the rows; one growth may be refused.
 pub(crate) fn rows_environment(alloc: Global) -> Result<Environment<'static>, Error> {
     match new_environment(alloc) {
         Ok(environment) => Ok(environment),

@@ -1,9 +1,9 @@
-//! What the tests share: templates that rows name, rows, and the innermost kind of a fault.
+//! What the tests share: the rows' templates, rows, and the innermost kind of a fault.
 
 use std::alloc::Global;
 use template_machine::*;
 
-/// The templates that rows name, each after its name.
+/// The templates that rows use, each with its name first.
 static OTHERS: [&str; 5] = [
     "base B:{% block a %}x{% endblock %}",
     "i ab{{ 1 }}",
@@ -24,12 +24,12 @@ pub fn last_kind(error: &Error) -> ErrorKind {
     last.kind()
 }
 
-/// A row's source and what it writes.
+/// A row's source and its text.
 pub fn row_of<'a>(line: &'a str) -> (&'a str, &'a str) {
     line.split_once(" => ").unwrap_or((line, ""))
 }
 
-/// An environment of the templates that rows name, and `t`.
+/// An environment with the rows' templates and `t`.
 pub fn new_environment(alloc: Global) -> Result<Environment<'static>, Error> {
     let mut environment = Environment::new(alloc)?;
     for other in &OTHERS {

@@ -1,4 +1,4 @@
-//! What a state tells and what it runs, whichever growth is refused.
+//! Queries and runs of a state, whichever growth is refused.
 
 use crate::ends::{End, end_of, holds, is_fault, told, written_end};
 use crate::objects::add_seven;
@@ -7,7 +7,7 @@ use std::alloc::Global;
 use std::test::Fail;
 use template_machine::*;
 
-/// The calls of a state that grow.
+/// The calls of a state that allocate.
 #[derive(Clone, Copy)]
 enum Asked {
     Local,
@@ -57,7 +57,7 @@ const BLOCK: &str = "B[&lt;3&lt;]2";
 
 const MACRO: &str = "[73&lt;]";
 
-/// Whether two names are exported, and these two and the globals known.
+/// Whether `a` and `m` are exported, and no other name.
 fn exports<P: Parties>(state: &StateOf<'_, P>) -> Result<bool, Error> {
     let exports = state.exports()?;
     let mut count: usize = 0;
@@ -77,7 +77,7 @@ fn formats<P: Parties>(alloc: Global, state: &StateOf<'_, P>) -> Result<bool, Er
     Ok(state.format(&list)?.as_str() == "[1, &quot;&lt;&quot;]")
 }
 
-/// What a state answers that stays as it is.
+/// Calls a state in a way that leaves it unchanged.
 fn ask<P: Parties>(alloc: Global, state: &mut StateOf<'_, P>, of: Asked) -> Result<bool, Error> {
     let seven = [Value::number(7)];
     match of {
@@ -101,7 +101,7 @@ fn ask<P: Parties>(alloc: Global, state: &mut StateOf<'_, P>, of: Asked) -> Resu
     }
 }
 
-/// Whether a state stands where a render left it. This takes no memory.
+/// Whether a state is as the render left it. Allocates nothing.
 fn stands<P: Parties>(state: &StateOf<'_, P>) -> bool {
     state.name() == "a.html"
         && state.auto_escape() == AutoEscape::Html
@@ -130,7 +130,7 @@ fn keeps<P: Parties>(state: &StateOf<'_, P>, number: Option<i128>) -> bool {
     }
 }
 
-/// How a number is kept, where another one was kept before or none.
+/// How keeping a number ended, after `before` was kept.
 fn kept_end<P: Parties>(state: &mut StateOf<'_, P>, before: Option<i128>, number: i128) -> End {
     match state.set_temp("k", Value::number(number)) {
         Ok(given) => if given.is_some() == before.is_some() && keeps(state, Some(number)) {
@@ -146,7 +146,8 @@ fn kept_end<P: Parties>(state: &mut StateOf<'_, P>, before: Option<i128>, number
     }
 }
 
-/// Whether all calls answer and the state stands after each; then values are kept in it.
+/// Whether all calls have their answers and leave the state unchanged, and values can then be kept
+/// in it.
 fn answers<P: Parties>(alloc: Global, state: &mut StateOf<'_, P>) -> bool {
     for of in &ASKED {
         let first = asked_end(alloc, state, *of);
@@ -178,7 +179,7 @@ fn object_environment(alloc: Global) -> Result<Environment<'static>, Error> {
     Ok(environment)
 }
 
-/// Calls of an object in a template, and what they write.
+/// Calls of an object in a template.
 const CALLS: &str = "{{ f() }}{{ 1|f }}{{ 1 is f }}{{ f(*[1, 2]) }}{{ [f][0]() }}";
 
 fn called<P: Parties>(environment: &EnvironmentOf<'static, P>) -> End {

@@ -1,4 +1,4 @@
-//! Rows of each part of the language, whichever growth is refused.
+//! Rows for each part of the language, whichever growth is refused.
 
 use crate::ends::{End, end_of, holds};
 use crate::refusals::{row_end, rows_environment, rows_hold};
@@ -115,7 +115,7 @@ static INCLUDES: &[&str] = &[
     "{% extends \"holder\" %} => !BadInclude",
 ];
 
-/// The templates that these rows name beside the others, each after its name.
+/// More templates that these rows use, each with its name first.
 static OTHERS: [&str; 7] = [
     "p P",
     "q {% set q = 7 %}",
@@ -192,7 +192,7 @@ fn includes_hold(rt: HostRuntime) -> Result<(), Fail> {
     Ok(())
 }
 
-/// What templates of other names write, each after its name.
+/// Rows for templates with other names, each with its name first.
 static NAMED: &[&str] = &[
     "p.html {{ \"<a href='/'>\" }} => &lt;a href=&#x27;&#x2f;&#x27;&gt;",
     "p.json {{ [1, none, \"a\"] }} => [1,null,\"a\"]",
@@ -239,7 +239,7 @@ enum Setting {
     Undefined(UndefinedBehavior),
 }
 
-/// What sources write under settings.
+/// Rows under settings.
 static SETTINGS: &[(Setting, &str)] = &[
     (Setting::Limit(12), "{% include \"i\" %} => ab1"),
     (

@@ -1,4 +1,4 @@
--- What the tests' method objects, formatters, escape rules and what joins names state.
+-- What the tests' method objects, formatters, escape rules and joins state.
 use Rattle.std.specs.Prelude.{ℕ, List, [], ◌∷◌, ◌++◌, Ok, Err, None, false, codes, pos, if◌then◌else◌}
 use Rattle.tm_values.specs.Equality.{same_value}
 use Rattle.tm_values.specs.Val.{Val, undefined, none, number, text}
@@ -16,7 +16,7 @@ use Rattle.tm_tables.specs.Stated.{Join, just, keeping}
 abbrev pub named : Fallback
 named v x args view = just (gives (text x false))
 
--- keeps 1 at k, and answers 2
+-- keeps 1 under k and returns 2
 abbrev pub keeps : Fallback
 keeps v x args view = keeping (codes "k") (number (pos 1)) (just (gives (number (pos 2))))
 
@@ -32,23 +32,23 @@ marked v view = Ok (codes "F")
 abbrev pub no_zero : Format
 no_zero v view = if same_value v (number (pos 0)) then Err (MissingArgument ∷ []) else formatted None v view
 
--- none as an undefined value
+-- none like an undefined value
 abbrev pub swapped : Format
 swapped v view = if same_value v none then formatted None (undefined false) view else formatted None v view
 
--- this escape for the template t alone
+-- this escape, but only for the template t
 abbrev pub escape_of_t : AutoEscape → List ℕ → AutoEscape
 escape_of_t escape name = if same_name name (codes "t") then escape else escapes.None
 
--- the name of what lies in a folder
+-- the path of a name in a folder
 abbrev pub in_folder : List ℕ → List ℕ → Answer (List ℕ)
 in_folder folder name = Ok (folder ++ codes "/" ++ name)
 
--- in lib
+-- in the folder lib
 abbrev pub in_lib : Join
 in_lib name parent = in_folder (codes "lib") name
 
--- in what the running template's name names
+-- in a folder named like the running template
 abbrev pub in_parent : Join
 in_parent name parent = in_folder parent name
 

@@ -1,4 +1,4 @@
--- What a test's object answers.
+-- The answers of the tests' objects.
 use Rattle.std.specs.Prelude.{ℕ, List, [], ◌∷◌, ◌++◌, Option, Some, None, true, false, map, Ok, Err, codes}
 use Rattle.std.specs.Char.{to_ascii_uppercase}
 use Rattle.tm_values.specs.Answer.{Answer}
@@ -11,7 +11,7 @@ use Rattle.tm_meaning.specs.declared.reply.Reply.TheVariants.{Value as gives, Fa
 use Rattle.tm_meaning.specs.declared.reply.Call.TheVariants as further
 use Rattle.tm_meaning.specs.World.{View, find_name}
 
--- the value that a look-up found, or its fault
+-- the value that a lookup found, or its fault
 abbrev pub reply_of_found : Answer (Option Val) → Reply
 reply_of_found (Ok found) = gives (or_undefined found)
 reply_of_found (Err chain) = faults chain
@@ -21,59 +21,59 @@ abbrev pub reply_of : Answer Val → Reply
 reply_of (Ok v) = gives v
 reply_of (Err chain) = faults chain
 
--- what is made of a value's text; undefined where there is none
+-- a value made of a text; undefined if there is none
 abbrev pub of_text : (List ℕ → Val) → Option (List ℕ) → Val
 of_text f None = undefined false
 of_text f (Some t) = f t
 
--- in capitals of ASCII, which isn't safe
+-- in ASCII upper case, not marked safe
 abbrev pub in_capitals : List ℕ → Val
 in_capitals t = text (map to_ascii_uppercase t) false
 
 abbrev pub as_safe : List ℕ → Val
 as_safe t = text t true
 
--- of the text of the first of arguments
+-- made of the first argument's text
 abbrev pub of_first : (List ℕ → Val) → List Val → Val
 of_first f [] = undefined false
 of_first f (v ∷ vs) = of_text f (text_in v)
 
--- the part of the first of arguments from the second on, up to the third where there is one
+-- the slice of the first argument from the second on, up to the third, if given
 abbrev pub part_of : List Val → Reply
 part_of (v ∷ from ∷ []) = reply_of (sliced Lenient v from none none)
 part_of (v ∷ from ∷ to ∷ []) = reply_of (sliced Lenient v from to none)
 part_of _ = gives (undefined false)
 
--- the text of the first of arguments
+-- the text of the first argument
 abbrev pub first_text : List Val → Option (List ℕ)
 first_text [] = None
 first_text (v ∷ vs) = text_in v
 
--- the value of the name that a text is; undefined where there is none
+-- the value that the name in a text is bound to; undefined if there is no text
 abbrev pub found_at : View → Option (List ℕ) → Reply
 found_at view None = gives (undefined false)
 found_at view (Some t) = reply_of_found (find_name view t)
 
--- a further call of the filter of a name with one value
+-- a further call of the filter x with one value
 abbrev pub further_with : List ℕ → Val → Reply
 further_with x v = asks_for (further.Filter x (v ∷ []))
 
--- of `upper` with a text doubled; undefined where there is none
+-- of `upper` with a text doubled; undefined if there is none
 abbrev pub capitals_twice : Option (List ℕ) → Reply
 capitals_twice None = gives (undefined false)
 capitals_twice (Some t) = further_with (codes "upper") (text (t ++ t) false)
 
--- of `again` with the first of arguments; undefined where there is none
+-- of `again` with the first argument
 abbrev pub again_with : List Val → Reply
 again_with [] = gives (undefined false)
 again_with (v ∷ vs) = further_with (codes "again") v
 
--- the second of arguments alone, where there is one
+-- only the second argument, if given
 abbrev pub second_alone : List Val → List Val
 second_alone (v ∷ given ∷ more) = given ∷ []
 second_alone _ = []
 
--- a further call, with these arguments, of what a text names; undefined where there is none
+-- a further call, with these arguments, of the name in a text; undefined if there is none
 abbrev pub macro_named : Option (List ℕ) → List Val → Reply
 macro_named None args = gives (undefined false)
 macro_named (Some t) args = asks_for (further.Macro t args)

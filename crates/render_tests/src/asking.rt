@@ -1,11 +1,11 @@
-//! What rows ask of states, and what states answer.
+//! Questions that rows ask of states, and the states' answers.
 
 use crate::renders::{Row, Setup, is_chain, is_left, lists, template_of};
 use std::alloc::Global;
 use std::test::Fail;
 use template_machine::*;
 
-/// A number, an undefined value, or else a text.
+/// A number, an undefined value, or otherwise a text.
 fn value_of(alloc: Global, word: &str) -> Result<Value, Error> {
     if word == "undefined" {
         return Ok(Value::undefined());
@@ -16,7 +16,7 @@ fn value_of(alloc: Global, word: &str) -> Result<Value, Error> {
     }
 }
 
-/// The values of words with a blank between them.
+/// The values of words that are separated by blanks.
 fn values_of(alloc: Global, words: &str) -> Result<Vec<Value>, Error> {
     let mut values = Vec::new(alloc);
     for word in words.split_whitespace() {
@@ -25,7 +25,7 @@ fn values_of(alloc: Global, words: &str) -> Result<Vec<Value>, Error> {
     Ok(values)
 }
 
-/// The text of a value; `nothing` where there is none.
+/// The text of a value, or `nothing` if there is none.
 fn text_of(alloc: Global, found: Option<&Value>) -> Result<String, Error> {
     match found {
         Some(value) => printing::to_text(alloc, value, &NoRecords),
@@ -33,17 +33,17 @@ fn text_of(alloc: Global, found: Option<&Value>) -> Result<String, Error> {
     }
 }
 
-/// The text of a value that something answered.
+/// The text of a value, or the error.
 fn printed(alloc: Global, answer: Result<Value, Error>) -> Result<String, Error> {
     printing::to_text(alloc, &answer?, &NoRecords)
 }
 
-/// The text of what a test answered.
+/// The text of a test's result.
 fn decided(alloc: Global, answer: Result<bool, Error>) -> Result<String, Error> {
     printed(alloc, answer.map(Value::boolean))
 }
 
-/// Keeps a value at `k`, and answers what was kept there.
+/// Keeps a value under `k` and returns the value that was kept there.
 fn replaced<P: Parties>(
     alloc: Global,
     state: &mut StateOf<'_, P>,
@@ -52,7 +52,7 @@ fn replaced<P: Parties>(
     text_of(alloc, state.set_temp("k", value)?.as_ref())
 }
 
-/// What a block, a macro, a filter or a test answers to values.
+/// Calls a block, a macro, a filter or a test and returns its text.
 fn called<P: Parties>(
     alloc: Global,
     state: &mut StateOf<'_, P>,
@@ -69,7 +69,7 @@ fn called<P: Parties>(
     }
 }
 
-/// The text of what a name means.
+/// The text of the value that `name` is bound to.
 fn meant<P: Parties>(alloc: Global, state: &StateOf<'_, P>, name: &str) -> Result<String, Error> {
     text_of(alloc, state.lookup(name)?.as_ref())
 }
@@ -82,7 +82,7 @@ fn formatted<P: Parties>(
     state.format(&value_of(alloc, word)?)
 }
 
-/// What is answered to a name and values after it.
+/// Calls the name at the start of `rest` with the values after it.
 fn called_so<P: Parties>(
     alloc: Global,
     state: &mut StateOf<'_, P>,
@@ -93,7 +93,7 @@ fn called_so<P: Parties>(
     called(alloc, state, word, name, &values_of(alloc, args)?)
 }
 
-/// What a state answers to such words.
+/// The state's answer to a question.
 fn answer<P: Parties>(
     alloc: Global,
     state: &mut StateOf<'_, P>,
@@ -109,8 +109,9 @@ fn answer<P: Parties>(
     }
 }
 
-/// Whether a block, written into a sink that takes so many bytes, leaves this text there, and ends with no fault or with
-/// one of the kind after it.
+/// Whether a block leaves this text in a writer that accepts only so many bytes, and ends without a
+/// fault or with one of the given kind. `words` are the block's name, the number of bytes, the text
+/// and the kind.
 fn is_written<P: Parties>(alloc: Global, state: &mut StateOf<'_, P>, words: &str) -> bool {
     let mut words = words.split(' ');
     let block = words.next().unwrap_or("");
@@ -124,8 +125,8 @@ fn is_written<P: Parties>(alloc: Global, state: &mut StateOf<'_, P>, words: &str
     writer.inner().inner().as_slice() == text.as_bytes() && end == words.next().unwrap_or("")
 }
 
-/// Whether the answer to what stands before ` -> ` is the text after it; to what stands before ` ! `, a fault of the kinds
-/// after it; and else whether the state is so.
+/// Whether a question has its answer. `words -> text` expects a text, and `words ! kinds` a fault
+/// of these kinds. Anything else is a property of the state.
 fn is_answered<P: Parties>(alloc: Global, state: &mut StateOf<'_, P>, call: &str) -> bool {
     if let Some((words, text)) = call.split_once(" -> ") {
         return match answer(alloc, state, words) {
@@ -145,7 +146,8 @@ fn is_answered<P: Parties>(alloc: Global, state: &mut StateOf<'_, P>, call: &str
     }
 }
 
-/// Whether a state stands in the template that its row names, in no block, with the names that the row exports.
+/// Whether the state is in the template that its row names, in no block, and exports the names that
+/// the row lists.
 fn stands<P: Parties>(state: &StateOf<'_, P>, row: &Row<'_>) -> bool {
     state.name() == row.text
         && state.current_block().is_none()
@@ -153,7 +155,7 @@ fn stands<P: Parties>(state: &StateOf<'_, P>, row: &Row<'_>) -> bool {
         && lists(&state.exports(), row.end)
 }
 
-/// Whether a state answers as its row says, so often, and stands after each answer as before.
+/// Whether a state answers `times` times as its row says and is unchanged after each answer.
 fn are_answered<P: Parties>(
     alloc: Global,
     state: &mut StateOf<'_, P>,
@@ -187,7 +189,7 @@ fn is_rendered<'source, P: Parties>(
     Ok(are_answered(alloc, &mut state, row, setup.times))
 }
 
-/// Asks the state of a template of which nothing ran.
+/// Asks the state of a template that hasn't run.
 fn is_unrun<'source, P: Parties>(
     alloc: Global,
     environment: &EnvironmentOf<'source, P>,
@@ -200,7 +202,7 @@ fn is_unrun<'source, P: Parties>(
     Ok(are_answered(alloc, &mut state, row, setup.times))
 }
 
-/// Asks the state of no template.
+/// Asks a state without a template.
 fn is_empty<P: Parties>(
     alloc: Global,
     environment: &EnvironmentOf<'_, P>,
@@ -211,9 +213,10 @@ fn is_empty<P: Parties>(
     Ok(are_answered(alloc, &mut state, row, setup.times))
 }
 
-/// Asks the state of a row: of the render of its source; of a template whose source stands after `+`, of which nothing
-/// ran; or of no template, `-`. After the source come the name of the template that the state stands in, the names
-/// that it exports, and what it is asked, with `; ` between.
+/// Asks a state: that of a render of the row's source; with `+` before the source, that of a
+/// template that hasn't run; with `-` as the source, one without a template. The fields after the
+/// source are the name of the state's template, the names that it exports, and the questions,
+/// separated by `; `.
 pub(crate) fn expect_state<'source, P: Parties>(
     alloc: Global,
     environment: &EnvironmentOf<'source, P>,

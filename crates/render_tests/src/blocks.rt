@@ -1,11 +1,11 @@
-//! Rows of blocks and of templates that extend others, and blocks that a state is asked for.
+//! Rows of blocks and of templates that extend others, and blocks that states run.
 use crate::renders::fault_of;
 use crate::verifying::verify_source;
 use std::alloc::Global;
 use std::test::Fail;
 use template_machine::*;
 
-/// The templates that rows extend, each after its name.
+/// The templates that rows extend, each with its name first.
 static LAYOUTS: [&str; 5] = [
     "base B:{% block a %}x{% endblock %}",
     "base2 P",
@@ -14,7 +14,7 @@ static LAYOUTS: [&str; 5] = [
     "hidden {% if false %}{% block a %}2{{ y.z }}{% endblock %}{% endif %}",
 ];
 
-/// Adds them. BadStream where a stream of one is refused.
+/// Adds the layouts. BadStream if a stream of one is refused.
 pub(crate) fn add_layouts<P: Parties>(
     alloc: Global,
     environment: &mut EnvironmentOf<'_, P>,
@@ -142,7 +142,7 @@ pub(crate) const BLOCKS: &str = r#"Blocks, and templates that extend others.
 - {% for x in [[1]] recursive %}{% block b %}{{ loop(x) }}{% endblock %}{% endfor %} =>  => InvalidOperation
 - {% if false %}{% block b %}{% for x in [1] %}{{ y.z }}{% endfor %}{% endblock %}{% endif %}ok => ok => ok"#;
 
-/// Names of templates, as they are written and joined to the running template's.
+/// Names of templates, as written and joined to the running template's name.
 pub(crate) const JOINED: &str =
     r#"Names of templates, as they are written and joined to the running template's.
 - @template base B
@@ -170,7 +170,7 @@ pub(crate) const JOINED: &str =
 - a{% extends "base" %} => a => MissingArgument
 - a => a => ok => gets base MissingArgument"#;
 
-/// Blocks that states run, also after faults, and write whole or into a sink with an end.
+/// Blocks that states run, even after faults, and write as a whole or into a writer with a limit.
 pub(crate) const STATES: &str = r#"Blocks that states run.
 - ?{% if false %}{% block b %}{% for x in [1] %}{{ y.z }}{% endfor %}{% endblock %}{% endif %}ok => <string> =>  => block b ! UndefinedError; block b ! UndefinedError; block no ! UnknownBlock
 - ?{% set v = 1 %}{% if false %}{% block b %}{% for x in [1] %}{% set w = 3 %}{{ y.z }}{% endfor %}{% endblock %}{% block c %}{% set w = 2 %}{{ v }}{{ w }}{% endblock %}{% endif %} => <string> => v => block c -> 12; block b ! UndefinedError; block c -> 12; block no ! UnknownBlock; block b ! UndefinedError; block c -> 12
@@ -186,10 +186,11 @@ pub(crate) const STATES: &str = r#"Blocks that states run.
 - ?{% block b %}{{ title() }}{% endblock %} => <string> =>  => filter block c ! UnknownBlock; filter block b -> <string>; test block b -> true
 - ?{% if false %}{% block b %}ab{{ 1 }}{% endblock %}{% block c %}d{{ y.z }}{% endblock %}{% endif %} => <string> =>  => write b 9 ab1; write b 1 a WriteFailure; write c 9 d UndefinedError; write no 9  UnknownBlock; write b 9 ab1"#;
 
-/// The last one of a chain.
+/// The last template of a chain.
 const LAST: &str = "t399";
 
-/// Adds 400 templates: t0 is the first source, and each one after extends the one before it, and goes on with the rest.
+/// Adds 400 templates: t0 is the source `first`; each later one extends the one before it and
+/// continues with `rest`.
 fn add_chain<P: Parties>(
     alloc: Global,
     environment: &mut EnvironmentOf<'_, P>,
@@ -206,7 +207,7 @@ fn add_chain<P: Parties>(
     Ok(())
 }
 
-/// The text of the template of a name.
+/// The text of the template `name`.
 pub(crate) fn rendered<P: Parties>(
     environment: &EnvironmentOf<'_, P>,
     name: &str,
@@ -215,7 +216,7 @@ pub(crate) fn rendered<P: Parties>(
     template.render(&mut StateIds::new(), Value::undefined())
 }
 
-/// Whether that of the last template is that of the first one.
+/// Whether the text of the last template is that of the first one.
 fn is_rendered<P: Parties>(environment: &EnvironmentOf<'_, P>) -> bool {
     match rendered(environment, LAST) {
         Ok(text) => text.as_str() == "x",
@@ -223,7 +224,7 @@ fn is_rendered<P: Parties>(environment: &EnvironmentOf<'_, P>) -> bool {
     }
 }
 
-/// Whether it lies too deep, after so many blocks.
+/// Whether the last template is too deep, after `blocks` blocks.
 fn is_too_deep<P: Parties>(environment: &EnvironmentOf<'_, P>, blocks: usize) -> bool {
     match rendered(environment, LAST) {
         Ok(_) => false,
@@ -236,7 +237,7 @@ fn is_too_deep<P: Parties>(environment: &EnvironmentOf<'_, P>, blocks: usize) ->
     }
 }
 
-/// A failure of this name, where something isn't so.
+/// Fails with this name unless `holds`.
 pub(crate) fn expect(holds: bool, name: &str) -> Result<(), Fail> {
     if holds {
         return Ok(());
@@ -244,8 +245,9 @@ pub(crate) fn expect(holds: bool, name: &str) -> Result<(), Fail> {
     Err(Fail::new(name))
 }
 
-/// Renders long chains of templates, also with a block that runs the next one. Under a limit that is a
-/// fault after as many blocks as there are scopes but those of the root and of the first block.
+/// Renders long chains of templates, with and without a block that runs the next one. A lower limit
+/// makes the latter a fault after as many blocks as there are scopes, less those of the root and of
+/// the first block.
 pub(crate) fn expect_chains<P: Parties>(
     alloc: Global,
     environment: &mut EnvironmentOf<'_, P>,

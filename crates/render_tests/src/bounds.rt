@@ -1,11 +1,11 @@
-//! Rows under bounds of fuel, scopes and writers, and long sources.
+//! Rows with limits on fuel, scopes and writers, and long sources.
 
 use crate::renders::{Row, expect_row, usual};
 use std::alloc::{AllocError, Global};
 use std::test::Fail;
 use template_machine::{EnvironmentOf, Parties};
 
-/// Bounds of fuel, scopes and writers. No fuel is set after them.
+/// Limits on fuel, scopes and writers. No fuel is set after them.
 pub(crate) const BOUNDS: &str = r#"Bounds of fuel, scopes and writers.
 - @paid 4
 - Hello {{ w }}! => Hello World! => 4 => fuel 0
@@ -47,7 +47,8 @@ pub(crate) const BOUNDS: &str = r#"Bounds of fuel, scopes and writers.
 - {% set ns = namespace(v=[]) %}{% for i in range(100000) %}{% set ns.v = [ns.v] %}{% endfor %} =>  => ok
 - {% set ns = namespace(v={}) %}{% for i in range(100000) %}{% set ns.v = {1: ns.v} %}{% endfor %} =>  => ok"#;
 
-/// A source of pieces, of which two stand so many times, one before the middle and one after it; and what it writes, a text so many times.
+/// A long source: `start`, then `before` `count` times, `middle`, `after` `count` times, and `end`.
+/// It writes `text` `times` times.
 struct Long {
     start: &'static str,
     count: usize,
@@ -102,7 +103,7 @@ static LONG: &[Long] = &[
     },
 ];
 
-/// Puts a text so many times after another.
+/// Appends `text` `times` times.
 fn repeat(out: &mut String, text: &str, times: usize) -> Result<(), AllocError> {
     for _ in 0..times {
         out.push_str(text)?;
@@ -120,7 +121,7 @@ fn source_of(alloc: Global, long: &Long) -> Result<String, AllocError> {
     Ok(source)
 }
 
-/// Renders long rows without a bound on the fuel, whose charges are not counted then.
+/// Renders long rows without a limit on the fuel, so that no charges are counted.
 pub(crate) fn expect_long<P: Parties>(
     alloc: Global,
     environment: &EnvironmentOf<'_, P>,

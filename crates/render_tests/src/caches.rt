@@ -1,11 +1,12 @@
-//! Filters of more names than a run has caches for.
+//! More filters than a run has caches for.
 use crate::party::{Party, Rows};
 use std::alloc::Global;
 use template_machine::*;
 
 static FIRST: &str = "abcdef";
 
-/// The second letters of filters that answer their last argument, and of those that answer their second one.
+/// The second letters of filters that return their last argument, and of those that return their
+/// second one.
 static ENDS: [(&str, Party); 2] = [("ghijk", Party::Last), ("lmnop", Party::Second)];
 
 /// Adds a filter for each pair of letters.
@@ -21,7 +22,7 @@ fn add_filters(alloc: Global, environment: &mut Rows<'_>) -> Result<(), Error> {
     Ok(())
 }
 
-/// Writes a use of each filter.
+/// Writes one use of each filter.
 fn write_uses(alloc: Global, out: &mut String) -> Result<(), Error> {
     for first in FIRST.chars() {
         for &(seconds, _) in &ENDS {
@@ -34,7 +35,7 @@ fn write_uses(alloc: Global, out: &mut String) -> Result<(), Error> {
     Ok(())
 }
 
-/// A loop of two rounds, in which each filter is used twice.
+/// A loop of two rounds that uses each filter twice.
 fn source(alloc: Global) -> Result<String, Error> {
     let mut text = String::from_str(alloc, "{% for x in [1, 2] %}")?;
     write_uses(alloc, &mut text)?;
@@ -43,7 +44,7 @@ fn source(alloc: Global) -> Result<String, Error> {
     Ok(text)
 }
 
-/// Whether a text is what each first letter's filters answer, so often.
+/// Whether the text is the answers of each first letter's filters, `times` times.
 fn is_answered(text: &str, times: usize) -> bool {
     let mut rest = text;
     for _ in 0..times {
@@ -55,7 +56,7 @@ fn is_answered(text: &str, times: usize) -> bool {
     rest.is_empty()
 }
 
-/// Whether all filters answer as themselves.
+/// Whether all filters give their own answers.
 pub(crate) fn all_answer(alloc: Global, environment: &mut Rows<'_>) -> Result<bool, Error> {
     add_filters(alloc, environment)?;
     let source = source(alloc)?;

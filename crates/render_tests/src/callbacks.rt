@@ -1,4 +1,4 @@
-//! The method objects, the formatters, the escape rules and what joins names in the rows.
+//! The method objects, formatters, escape rules and name joins of the rows.
 ghost use Rattle.std.specs.Prelude.{[], ◌∷◌};
 ghost use Rattle.tm_values.specs.Answer.{IsAnswer};
 ghost use Rattle.render_tests.specs.Asked.{named, keeps, faulty, marked, no_zero, swapped, escape_of_t};
@@ -10,14 +10,14 @@ ghost use Rattle.render_tests.specs.declared.callbacks.Folder.TheVariants.{InLib
 use std::alloc::Global;
 use template_machine::*;
 
-/// A method object of the rows.
+/// A method object for the rows.
 #[derive(Clone, Copy)]
 pub(crate) enum Method {
-    /// Answers the method's name.
+    /// Returns the method's name.
     Named,
-    /// Keeps 1 at `k`, and answers 2.
+    /// Keeps 1 under `k` and returns 2.
     Keeper,
-    /// Answers a fault.
+    /// Answers with a fault.
     Lost(ErrorKind),
 }
 
@@ -47,14 +47,14 @@ impl MethodFallback for Method {
     }
 }
 
-/// A formatter of the rows.
+/// A formatter for the rows.
 #[derive(Clone, Copy)]
 pub(crate) enum Style {
     /// Writes F for each value.
     Marked,
-    /// Answers a fault for 0.
+    /// Answers with a fault for 0.
     NoZero,
-    /// Writes none as an undefined value.
+    /// Writes none like an undefined value.
     Swapped,
 }
 
@@ -80,7 +80,7 @@ impl Formatter for Style {
     }
 }
 
-/// An escape rule of the rows: this escape for the template `t` alone.
+/// An escape rule for the rows: this escape, but only for the template `t`.
 #[derive(Clone, Copy)]
 pub(crate) struct OfT {
     escape: AutoEscape,
@@ -98,18 +98,18 @@ impl EscapeRule for OfT {
     }
 }
 
-/// What joins names in the rows.
+/// A join of template names for the rows.
 #[derive(Clone, Copy)]
 pub(crate) enum Folder {
-    /// A name lies in `lib`.
+    /// Puts a name into the folder `lib`.
     InLib,
-    /// It lies in what the running template's name names.
+    /// Puts a name into a folder named like the running template.
     InParent,
-    /// Answers a fault.
+    /// Answers with a fault.
     Nowhere(ErrorKind),
 }
 
-/// The name of what lies in a folder.
+/// The path of a name in a folder.
 fn in_folder(alloc: Global, folder: &str, name: &str) -> Result<Name, Error>
     ensures { IsAnswer result (in_folder folder.now name.now) }
 {
@@ -131,7 +131,7 @@ impl PathJoin for Folder {
     }
 }
 
-/// What joins names, of a word.
+/// The join that a word names.
 pub(crate) fn folder_of(word: &str) -> Folder {
     match word {
         "parent" => Folder::InParent,
@@ -140,7 +140,7 @@ pub(crate) fn folder_of(word: &str) -> Folder {
     }
 }
 
-/// The escape rule of a word.
+/// The escape rule that a word names.
 pub(crate) fn rule_of(word: &str) -> OfT {
     let escape = match word {
         "html" => AutoEscape::Html,
@@ -149,7 +149,7 @@ pub(crate) fn rule_of(word: &str) -> OfT {
     OfT { escape }
 }
 
-/// The method object of a word.
+/// The method object that a word names.
 pub(crate) fn method_of(word: &str) -> Method {
     match word {
         "keep" => Method::Keeper,
@@ -158,7 +158,7 @@ pub(crate) fn method_of(word: &str) -> Method {
     }
 }
 
-/// The formatter of a word.
+/// The formatter that a word names.
 pub(crate) fn style_of(word: &str) -> Style {
     match word {
         "no-zero" => Style::NoZero,

@@ -7,7 +7,8 @@ use std::alloc::Global;
 use std::test::Fail;
 use template_machine::*;
 
-/// Expressions, and how their values are printed, where namespaces are maps; or a fault of the kinds that come last.
+/// Expressions, and how their values are printed, with namespaces as maps; or the kinds of their
+/// fault as a last field.
 static ROWS: [&str; 12] = [
     "a + 1 => 2",
     "[namespace(a=1)] => [{\"a\": 1}]",
@@ -23,7 +24,7 @@ static ROWS: [&str; 12] = [
     " =>  => SyntaxError",
 ];
 
-/// A context in which a is 1 and `number` 15.
+/// A context in which `a` is 1 and `number` is 15.
 fn context(alloc: Global) -> Result<Value, Error> {
     let mut map = ValueMap::new(alloc);
     map.insert(Value::text(alloc, "a")?, Value::number(1))?;
@@ -31,7 +32,7 @@ fn context(alloc: Global) -> Result<Value, Error> {
     Value::from_map(alloc, map)
 }
 
-/// The value of an expression. BadStream where its stream is refused.
+/// The value of an expression. BadStream if its stream is refused.
 fn value_of<P: Parties>(
     alloc: Global,
     environment: &EnvironmentOf<'_, P>,
@@ -53,7 +54,7 @@ fn is_undefined<P: Parties>(
     }
 }
 
-/// Whether these are all names that an expression reads.
+/// Whether `wanted` is the only name that an expression reads.
 fn reads<P: Parties>(
     environment: &EnvironmentOf<'_, P>,
     source: &'static str,
@@ -76,7 +77,7 @@ fn is_printed(alloc: Global, value: &Value, wanted: &str) -> bool {
     }
 }
 
-/// Whether an expression comes to what its row says.
+/// Whether an expression has the result that its row says.
 fn is_row<P: Parties>(
     alloc: Global,
     environment: &EnvironmentOf<'_, P>,

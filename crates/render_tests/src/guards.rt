@@ -1,7 +1,7 @@
-//! Rows of what blocks, macros, escapes and loops keep apart: beside includes and calls, where names
-//! are joined, and before a first item.
+//! Rows of what blocks, macros, escapes and loops keep separate: around includes and calls, with
+//! joined names, and before a first item.
 
-/// Blocks, the one that runs and their places among includes and macros.
+/// Blocks, the running one and the places in the lists, with includes and macros.
 pub(crate) const INHERITANCE: &str =
     r#"Blocks, the one that runs and their places among includes and macros.
 - @undefined-names
@@ -28,7 +28,7 @@ pub(crate) const INHERITANCE: &str =
 - @fuel 10000
 - {% extends "gp" %}{% macro m() %}M{% endmacro %}{% block a %}{{ m() }}{{ super() }}{% endblock %} => Mx => 12"#;
 
-/// Escapes of captures, and what `true` means to them.
+/// Escapes of captures, and what `true` means for them.
 pub(crate) const ESCAPES: &str = r#"Escapes of captures, and what `true` means to them.
 - @undefined-names
 - @name page.json
@@ -44,7 +44,7 @@ pub(crate) const ESCAPES: &str = r#"Escapes of captures, and what `true` means t
 - @name <string>
 - {% autoescape "json" %}{% autoescape true %}{{ "<" }}{% endautoescape %}{% endautoescape %} => &lt; => 4"#;
 
-/// What macros see, and loops that are asked in a condition.
+/// What macros see, and questions to loops in a condition.
 pub(crate) const SCOPES: &str = r#"What macros see, and loops that are asked in a condition.
 - @names
 - @template shows {{ g }}

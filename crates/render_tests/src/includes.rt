@@ -1,4 +1,4 @@
-//! Rows of templates that include or import others, and what states of such renders answer.
+//! Rows of templates that include or import others, and states of such renders.
 
 use crate::blocks::{expect, rendered};
 use crate::guards::{ESCAPES, INHERITANCE, SCOPES};
@@ -257,7 +257,7 @@ const IMPORTS: &str = r#"Templates that others import.
 - {% from "f" import q as n.q %} =>  => SyntaxError
 - {% from "f" %} =>  => SyntaxError"#;
 
-/// What templates include and import where an object joins names.
+/// What templates include and import with an object that joins names.
 const JOINED: &str = r#"What templates include and import where an object joins names.
 - @template lib/i ok
 - @template lib/j [{% include "i" %}]
@@ -300,7 +300,8 @@ const JOINED: &str = r#"What templates include and import where an object joins 
 - {% include "n" %} => N => ok => name t
 - {% from "m" import m %}{{ m() }}{% include "j" %} => MT => ok => name t"#;
 
-/// What states of renders run that include or import others, and macros that they call by names of imports.
+/// What states run after renders that include or import others, and macros that they call by
+/// imported names.
 const STATES: &str = r#"States of renders that include or import others.
 - @template base3 {{ y.z }}
 - @template k3 {% extends "base3" %}
@@ -317,7 +318,7 @@ const STATES: &str = r#"States of renders that include or import others.
 - ?{% extends "base" %}{% block b %}{% include "child" %}{% endblock %}{% block c %}{% include "n" %}{% endblock %} => base =>  => block c -> n; block b ! BadInclude>InvalidOperation; block c -> n
 - ?{% from "f" import f as g %}{% import "f" as m %} => <string> => g m => call g 5 -> <5>; call m ! InvalidOperation; call q ! UnknownFunction"#;
 
-/// Whether an error is InvalidOperation without a cause, after so many includes.
+/// Whether an error is InvalidOperation without a cause, inside `includes` includes.
 fn is_refused(error: &Error, includes: usize) -> bool {
     let mut fault = error;
     for _ in 0..includes {
@@ -329,7 +330,7 @@ fn is_refused(error: &Error, includes: usize) -> bool {
     fault.kind() == ErrorKind::InvalidOperation && fault.cause().is_none()
 }
 
-/// Whether the render of a template is refused after so many includes, with nothing written.
+/// Whether a render is refused inside `includes` includes and writes nothing.
 fn is_ended<P: Parties>(alloc: Global, template: &TemplateOf<'_, '_, P>, includes: usize) -> bool {
     let mut writer = Counted::new(Vec::new(alloc));
     let mut ids = StateIds::new();
@@ -340,7 +341,7 @@ fn is_ended<P: Parties>(alloc: Global, template: &TemplateOf<'_, '_, P>, include
     is_refused && writer.inner().is_empty()
 }
 
-/// Whether that of the template of a name is.
+/// The same for the template `name`.
 fn ends<P: Parties>(
     alloc: Global,
     environment: &EnvironmentOf<'_, P>,
@@ -353,7 +354,7 @@ fn ends<P: Parties>(
     }
 }
 
-/// Whether the template of a name gives `x`.
+/// Whether the template `name` writes `x`.
 fn gives<P: Parties>(environment: &EnvironmentOf<'_, P>, name: &str) -> bool {
     match rendered(environment, name) {
         Ok(text) => text.as_str() == "x",
@@ -361,7 +362,7 @@ fn gives<P: Parties>(environment: &EnvironmentOf<'_, P>, name: &str) -> bool {
     }
 }
 
-/// Adds 200 templates: c0 is `x`, and each one after includes the one before it.
+/// Adds 200 templates: c0 is `x`, and each later one includes the one before it.
 fn add_chain<P: Parties>(
     alloc: Global,
     environment: &mut EnvironmentOf<'_, P>,
@@ -376,7 +377,8 @@ fn add_chain<P: Parties>(
     Ok(())
 }
 
-/// Renders templates that lie deep in each other, within the limit and beyond it, and one that includes itself.
+/// Renders templates that are nested deep, within the limit and beyond it, and one that includes
+/// itself.
 fn expect_chain<P: Parties>(
     alloc: Global,
     environment: &mut EnvironmentOf<'_, P>,
@@ -397,7 +399,7 @@ fn expect_chain<P: Parties>(
     )
 }
 
-/// The charges of the last one.
+/// The charges of the template that includes itself.
 const CHARGES: &str = "Its charges.
 - @short 91 &t
 - @fuel 10000";

@@ -1,4 +1,4 @@
-//! Tests of renders: rows of sources with what they give, and what no row asks for.
+//! Tests of renders: rows of sources with their results, and tests that need more than a row.
 #![tactic(auto)]
 
 #[cfg(test)]

@@ -1,29 +1,31 @@
-//! Renders into a sink with an end.
+//! Renders into a writer with a limit.
 
 use crate::blocks::expect;
 use std::alloc::Global;
 use std::test::Fail;
 use template_machine::*;
 
-/// A list that holds one list twice, which holds another one twice, and so on. Its text has megabytes.
+/// A list that holds the same list twice, which holds another one twice, and so on. Its text has
+/// megabytes.
 const DOUBLED: &str =
     "{% set n = namespace(s=[1]) %}{% for i in range(20) %}{% set n.s = [n.s, n.s] %}{% endfor %}{{ n.s }}";
 
-/// A namespace that holds one twice, which holds another one twice, and so on, sixty deep. To go through each as often as it is held
-/// would take a lifetime.
+/// A namespace that holds the same one twice, which holds another one twice, and so on, sixty deep.
+/// Visiting each one as often as it is held would take a lifetime.
 const DOUBLED_NAMESPACE: &str =
     "{% set n = namespace(s=1) %}{% for i in range(60) %}{% set n.s = namespace(a=n.s, b=n.s) %}{% endfor %}{{ n.s }}";
 
 type Bytes = Limited<Counted<Vec<u8>>>;
 
-/// A render into so many bytes: how much of the limit is left, and what stands in the sink after it.
+/// A render into a writer with `limit` bytes: how much of the limit is left, and what the text
+/// begins with.
 struct Case {
     source: &'static str,
     limit: usize,
     left: usize,
-    /// What the text begins with.
+    /// The start of the text.
     start: &'static str,
-    /// Whether the render is WriteFailure; else it is done.
+    /// Whether the render fails with WriteFailure.
     fails: bool,
 }
 
@@ -86,7 +88,7 @@ static CASES: &[Case] = &[
     },
 ];
 
-/// The kind that a render ends with; none where it is done.
+/// The kind of error that a render ends with, if any.
 fn end_of<P: Parties>(template: &TemplateOf<'_, '_, P>, writer: &mut Bytes) -> Option<ErrorKind> {
     match template.render_captured_to(&mut StateIds::new(), Value::undefined(), writer) {
         Ok(_captured) => None,
@@ -94,7 +96,8 @@ fn end_of<P: Parties>(template: &TemplateOf<'_, '_, P>, writer: &mut Bytes) -> O
     }
 }
 
-/// Whether a sink took what is left of the limit, and text that begins like this.
+/// Whether the writer received all but what is left of the limit, and a text with the expected
+/// start.
 fn took(writer: &Bytes, case: &Case) -> bool {
     let counted = writer.inner();
     let bytes = counted.inner().as_slice();
@@ -105,7 +108,7 @@ fn took(writer: &Bytes, case: &Case) -> bool {
         && bytes.starts_with(case.start.as_bytes())
 }
 
-/// Whether a render comes to what its case says.
+/// Whether a render ends as its case says.
 fn ends<P: Parties>(
     alloc: Global,
     environment: &EnvironmentOf<'_, P>,

@@ -1,4 +1,4 @@
-//! Rows of loops, and of what stands in them.
+//! Rows of loops and of their bodies.
 
 /// Loops.
 pub(crate) const LOOPS: &str = r#"Loops.

@@ -84,7 +84,7 @@ pub(crate) const MACROS: &str = r#"Macros and call tags.
 - {% macro m() %}x{% endmacro %}{{ by_macro("m") }} => x => ok
 - @limit 500"#;
 
-/// Whether a source is InvalidOperation, which nothing caused.
+/// Whether a source fails with InvalidOperation without a cause.
 fn is_refused<P: Parties>(
     environment: &EnvironmentOf<'_, P>,
     ids: &mut StateIds,
@@ -97,7 +97,7 @@ fn is_refused<P: Parties>(
     }
 }
 
-/// The macro `m` of a render's state, at its name.
+/// A context with the macro `m` of a render's state under its name.
 fn macro_of<P: Parties>(
     alloc: Global,
     environment: &EnvironmentOf<'_, P>,
@@ -114,7 +114,8 @@ fn macro_of<P: Parties>(
     Value::from_map(alloc, names)
 }
 
-/// Whether a macro can't be called in another render, of the same counter and of one that gives the same numbers.
+/// Whether a macro can't be called in another render, neither with the same counter nor with a new
+/// one.
 fn belong_to_renders<P: Parties>(
     alloc: Global,
     environment: &EnvironmentOf<'_, P>,
@@ -126,7 +127,7 @@ fn belong_to_renders<P: Parties>(
     Ok(is_refused_after && is_refused(environment, &mut StateIds::new(), source, names))
 }
 
-/// Whether macros serve the states of their renders alone, and end at the limit.
+/// Whether macros work only in the states of their own renders, and stop at the depth limit.
 pub(crate) fn are_bounded<P: Parties>(
     alloc: Global,
     environment: &EnvironmentOf<'_, P>,

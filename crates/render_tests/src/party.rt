@@ -23,42 +23,43 @@ use crate::callbacks::{Folder, Method, OfT, Style};
 use std::alloc::Global;
 use template_machine::*;
 
-/// A function of the rows.
+/// A function for the rows.
 #[derive(Clone, Copy)]
 pub(crate) enum Party {
-    /// Answers its second argument.
+    /// Returns its second argument.
     Second,
-    /// Answers its last argument.
+    /// Returns its last argument.
     Last,
-    /// Keeps 1 at `k`, and answers 2.
+    /// Keeps 1 under `k` and returns 2.
     Keeper,
-    /// Answers what is kept at `k`.
+    /// Returns the value kept under `k`.
     Reader,
-    /// Answers the name of the template that runs.
+    /// Returns the name of the running template.
     Title,
-    /// Answers the value of the name `g`.
+    /// Returns the value that `g` is bound to.
     Seen,
-    /// Answers a fault.
+    /// Answers with a fault.
     Faulty(ErrorKind),
-    /// Answers its first argument's text in capitals of ASCII.
+    /// Returns its first argument's text in ASCII upper case.
     Upper,
-    /// Answers its first argument's text as a safe one.
+    /// Returns its first argument's text, marked safe.
     Safe,
-    /// Answers the part of its first argument from its second on, up to its third where there is one.
+    /// Returns the slice of its first argument from its second argument on, up to its third, if
+    /// given.
     Substr,
-    /// Answers the value of the name that its first argument is.
+    /// Returns the value that the name in its first argument is bound to.
     Look,
-    /// Keeps 1 at `k`, and answers MissingArgument.
+    /// Keeps 1 under `k` and answers with MissingArgument.
     Kept,
-    /// Asks for the filter `upper` with a.
+    /// Asks for the filter `upper` with `a`.
     Capital,
     /// Asks for the filter `upper` with its first argument's text doubled.
     Twice,
     /// Asks for the filter `again` with its first argument.
     Again,
-    /// Asks for what the name that its first argument is stands for, with the second where there is one.
+    /// Asks for a call of the name in its first argument, with its second argument, if given.
     Macro,
-    /// Asks for the block of the name that its first argument is.
+    /// Asks for the block named by its first argument.
     Block,
 }
 
@@ -122,7 +123,7 @@ impl Callable for Party {
     }
 }
 
-/// Answers a value that is kept elsewhere; undefined where there is none.
+/// Returns a shared copy of a value; undefined if there is none.
 fn shared(alloc: Global, found: Option<&Value>) -> CallableAnswer
     ensures { IsStated result (just (gives (or_undefined (option_copied found.entry)))) }
 {
@@ -135,7 +136,7 @@ fn shared(alloc: Global, found: Option<&Value>) -> CallableAnswer
     }
 }
 
-/// Answers what an operation gave.
+/// Answers with the result of an operation.
 fn answered(alloc: Global, given: Result<Value, Error>) -> CallableAnswer
     ensures { result ≡ just (reply_of given) }
 {
@@ -145,7 +146,7 @@ fn answered(alloc: Global, given: Result<Value, Error>) -> CallableAnswer
     }
 }
 
-/// Answers the text of the first argument in capitals of ASCII; undefined where there is none.
+/// Returns the first argument's text in ASCII upper case; undefined without an argument.
 fn upper(alloc: Global, args: &[Value]) -> CallableAnswer
     ensures { IsStated result (just (gives (of_first in_capitals args.now))) }
 {
@@ -155,7 +156,7 @@ fn upper(alloc: Global, args: &[Value]) -> CallableAnswer
     }
 }
 
-/// Answers a text in capitals of ASCII; undefined of another value.
+/// Returns a text in ASCII upper case; undefined for any other value.
 fn capitals(alloc: Global, value: &Value) -> CallableAnswer
     ensures { IsStated result (just (gives (of_text in_capitals (text_in value.now)))) }
 {
@@ -168,7 +169,7 @@ fn capitals(alloc: Global, value: &Value) -> CallableAnswer
     }
 }
 
-/// Answers the text of the first argument as a safe one; undefined where there is none.
+/// Returns the first argument's text, marked safe; undefined without an argument.
 fn safe(alloc: Global, args: &[Value]) -> CallableAnswer
     ensures { IsStated result (just (gives (of_first as_safe args.now))) }
 {
@@ -178,7 +179,7 @@ fn safe(alloc: Global, args: &[Value]) -> CallableAnswer
     }
 }
 
-/// Answers a text as a safe one; undefined of another value.
+/// Returns a text, marked safe; undefined for any other value.
 fn marked(alloc: Global, value: &Value) -> CallableAnswer
     ensures { IsStated result (just (gives (of_text as_safe (text_in value.now)))) }
 {
@@ -188,8 +189,8 @@ fn marked(alloc: Global, value: &Value) -> CallableAnswer
     }
 }
 
-/// Answers the part of the first argument from the second on, up to the third where there is one;
-/// undefined where these aren't the arguments.
+/// Returns the slice of the first argument from the second on, up to the third, if given; undefined
+/// for any other number of arguments.
 fn substr(alloc: Global, args: &[Value]) -> CallableAnswer
     ensures { IsStated result (just (part_of args.now)) }
 {
@@ -200,7 +201,7 @@ fn substr(alloc: Global, args: &[Value]) -> CallableAnswer
     }
 }
 
-/// Answers the part of a value from one place up to another.
+/// Returns the slice of a value between two places.
 fn part(alloc: Global, value: &Value, from: &Value, to: &Value) -> CallableAnswer
     ensures { IsStated result (just (reply_of (sliced Lenient value.now from.now to.now none))) }
 {
@@ -212,7 +213,7 @@ fn part(alloc: Global, value: &Value, from: &Value, to: &Value) -> CallableAnswe
     )
 }
 
-/// The text of the first argument, where it is one.
+/// The text of the first argument, if it is text.
 fn first_text(args: &[Value]) -> Option<&str>
     ensures { MatchOption result (first_text args.now ≡ None)
         (λ text. first_text args.now ≡ Some text.now) }
@@ -223,7 +224,7 @@ fn first_text(args: &[Value]) -> Option<&str>
     }
 }
 
-/// Answers the value of the name that the first argument is; undefined where it is no text.
+/// Returns the value that the name in the first argument is bound to; undefined if that isn't text.
 fn look(alloc: Global, args: &[Value], view: &View<'_>) -> CallableAnswer
     ensures { IsStated result (just (found_at view.now (first_text args.now))) }
 {
@@ -237,7 +238,7 @@ fn look(alloc: Global, args: &[Value], view: &View<'_>) -> CallableAnswer
     }
 }
 
-/// Asks for the filter of a name with a value that was made.
+/// Asks for the filter `name` with the value `made`, or answers with its error.
 fn further(alloc: Global, name: &str, made: Result<Value, Error>) -> CallableAnswer
     ensures ok { IfOk made (λ value. IsStated result (just (further_with name.now value))) }
     ensures err { IfErr made (λ chain. result ≡ just (faults chain)) }
@@ -253,7 +254,7 @@ fn further(alloc: Global, name: &str, made: Result<Value, Error>) -> CallableAns
     }
 }
 
-/// A text doubled. Fails by OutOfMemory alone.
+/// A text doubled. Fails only with OutOfMemory.
 fn doubled(alloc: Global, word: &str) -> Result<Value, Error>
     ensures { OkOrOutOfMemory result (λ value. value ≡ text (word.now ++ word.now) false) }
 {
@@ -262,7 +263,7 @@ fn doubled(alloc: Global, word: &str) -> Result<Value, Error>
     Value::text(alloc, both.as_str())
 }
 
-/// Asks for the filter `upper` with the first argument's text doubled; undefined where it is no text.
+/// Asks for the filter `upper` with the first argument's text doubled; undefined if it isn't text.
 fn twice(alloc: Global, args: &[Value]) -> CallableAnswer
     ensures { IsStated result (just (capitals_twice (first_text args.now))) }
 {
@@ -272,7 +273,7 @@ fn twice(alloc: Global, args: &[Value]) -> CallableAnswer
     }
 }
 
-/// Asks for the filter `again` with the first argument; undefined where there is none.
+/// Asks for the filter `again` with the first argument; undefined without an argument.
 fn again(alloc: Global, args: &[Value]) -> CallableAnswer
     ensures { IsStated result (just (again_with args.now)) }
 {
@@ -282,7 +283,7 @@ fn again(alloc: Global, args: &[Value]) -> CallableAnswer
     }
 }
 
-/// The second argument alone, where there is one. Fails by OutOfMemory alone.
+/// Only the second argument, if given. Fails only with OutOfMemory.
 fn second_alone(alloc: Global, args: &[Value]) -> Result<Vec<Value>, Error>
     ensures { OkOrOutOfMemory result (λ given. given.items ≡ second_alone args.now) }
 {
@@ -293,8 +294,8 @@ fn second_alone(alloc: Global, args: &[Value]) -> Result<Vec<Value>, Error>
     Ok(given)
 }
 
-/// Asks for what the name that the first argument is stands for, with the second where there is one; undefined
-/// where it is no text.
+/// Asks for a call of the name in the first argument, with the second argument, if given; undefined
+/// if the first isn't text.
 fn macro_named(alloc: Global, args: &[Value]) -> CallableAnswer
     ensures { IsStated result (just (macro_named (first_text args.now) (second_alone args.now))) }
 {
@@ -307,7 +308,7 @@ fn macro_named(alloc: Global, args: &[Value]) -> CallableAnswer
     }
 }
 
-/// Asks for the block of the name that the first argument is; undefined where it is no text.
+/// Asks for the block named by the first argument; undefined if that isn't text.
 fn block_named(alloc: Global, args: &[Value]) -> CallableAnswer
     ensures { IsStated result (just (block_named (first_text args.now))) }
 {
@@ -323,7 +324,7 @@ type Parts = Objects<Party, Method, Style, EscapeSetting<OfT>, Folder>;
 /// An environment of such objects.
 pub(crate) type Rows<'source> = EnvironmentOf<'source, Parts>;
 
-// The first one gets the number after those of the language.
+// The first one's number comes after those of the language's functions.
 static FUNCTIONS: &[(&str, Party)] = &[
     ("f", Party::Last),
     ("second", Party::Second),
@@ -394,13 +395,13 @@ pub(crate) fn add_objects(environment: &mut Rows<'_>) -> Result<(), Error> {
     add_filters(environment)
 }
 
-/// Puts a value under a name.
+/// Binds `name` to `value` in a map.
 fn put(alloc: Global, map: &mut ValueMap, name: &str, value: Value) -> Result<(), Error> {
     map.insert(Value::text(alloc, name)?, value)
 }
 
-/// The context of the rows: a truth value, a text, an empty map, 7 at `g` and at a number, and
-/// records that no state of a row has.
+/// The context of the rows: a boolean, a text, an empty map, 7 under `g` and under a number, and
+/// values whose records no state of a row has.
 pub(crate) fn context(alloc: Global) -> Result<Value, Error> {
     let mut map = ValueMap::new(alloc);
     put(alloc, &mut map, "t", Value::boolean(true))?;

@@ -1,4 +1,4 @@
-//! What rows are: renders of sources, and settings between them.
+//! How rows are rendered and compared.
 
 use crate::party::context;
 use crate::verifying::verify_source;
@@ -7,7 +7,7 @@ use std::io::{self, Write};
 use std::test::Fail;
 use template_machine::*;
 
-/// A writer that takes so many bytes at a time, and fails where it has no room for more.
+/// A writer that accepts at most `width` bytes at a time and fails if it has no room for more.
 #[derive(Drop)]
 struct Narrow {
     bytes: Vec<u8>,
@@ -31,14 +31,14 @@ impl Write for Narrow {
     }
 }
 
-/// How rows are rendered beside their environment's settings.
+/// How rows are rendered, apart from their environment's settings.
 #[derive(Clone, Copy)]
 pub(crate) struct Setup<'a> {
     /// The name of their templates.
     pub(crate) name: &'a str,
-    /// How many bytes their writer takes at a time.
+    /// How many bytes their writer accepts at a time.
     pub(crate) width: usize,
-    /// How many bytes it takes before it fails.
+    /// How many bytes it accepts before it fails.
     pub(crate) room: usize,
     /// Their context value.
     pub(crate) given: Given,
@@ -52,11 +52,11 @@ pub(crate) enum Given {
     /// That of the rows.
     Names,
     Undefined,
-    /// A namespace that no state of a row has.
+    /// A namespace whose record no state of a row has.
     Lost,
 }
 
-/// The usual one: a whole text at a time, over the names of the rows.
+/// The usual setup: whole texts at a time, with the names of the rows.
 pub(crate) fn usual<'a>() -> Setup<'a> {
     Setup {
         name: "<string>",
@@ -75,10 +75,10 @@ fn made(alloc: Global, given: Given) -> Result<Value, Error> {
     }
 }
 
-/// A source, or the name of a template that is kept after `&`; what it writes; how it ends: with
-/// so many charges, `ok` with any, or by a kind of error, with the kinds of its causes after `>`;
-/// and what is asked of the state after it.
-/// Where four ends are given, they are those under each behavior, from the loosest.
+/// A source, or the name of a stored template after `&`; what it writes; how it ends: with a number
+/// of charges, with `ok` for any number, or with a kind of error, followed by the kinds of its
+/// causes after `>`; and a question to the state after it.
+/// Four ends are those under each undefined behavior, from the loosest to the strictest.
 #[derive(Clone, Copy)]
 pub(crate) struct Row<'a> {
     pub(crate) source: &'a str,
@@ -87,7 +87,7 @@ pub(crate) struct Row<'a> {
     pub(crate) left: &'a str,
 }
 
-/// The fields of a row, with ` => ` between them.
+/// The fields of a row, separated by ` => `.
 pub(crate) fn row_of(line: &str) -> Row<'_> {
     let mut fields = line.split(" => ");
     Row {
@@ -110,7 +110,7 @@ pub(crate) fn are(names: &[&str], wanted: &str) -> bool {
     rest.next().is_none()
 }
 
-/// Whether the names that were found are these, or the error is of this kind.
+/// Whether the names are the wanted ones, or the error has the wanted kind.
 pub(crate) fn lists(found: &Result<Vec<&str>, Error>, wanted: &str) -> bool {
     match found {
         Ok(names) => are(names, wanted),
@@ -118,7 +118,7 @@ pub(crate) fn lists(found: &Result<Vec<&str>, Error>, wanted: &str) -> bool {
     }
 }
 
-/// Whether 1 is kept under a name that leads nowhere, and no name is exported.
+/// Whether 1 is kept under a name that isn't bound, and no name is exported.
 fn keeps_apart<P: Parties>(state: &StateOf<'_, P>, name: &str) -> Result<bool, Error> {
     let is_kept = match state.get_temp(name) {
         Some(kept) => *kept == Value::number(1),
@@ -139,7 +139,7 @@ fn exports<P: Parties>(state: &StateOf<'_, P>, names: &str) -> bool {
     lists(&state.exports(), names)
 }
 
-/// Whether so much fuel is left.
+/// Whether `fuel` is left.
 fn remains<P: Parties>(state: &StateOf<'_, P>, fuel: &str) -> bool {
     match state.fuel_levels() {
         Some((_, remaining)) => fuel.parse() == Ok(remaining),
@@ -147,7 +147,8 @@ fn remains<P: Parties>(state: &StateOf<'_, P>, fuel: &str) -> bool {
     }
 }
 
-/// Whether the template that a name means to a state has the name after it, or the fault is of that kind.
+/// Whether the state's template for the first word has the name in the second, or is an error of
+/// that kind.
 fn gets<P: Parties>(state: &StateOf<'_, P>, wanted: &str) -> bool {
     let (name, found) = wanted.split_once(' ').unwrap_or((wanted, ""));
     match state.get_template(name) {
@@ -156,7 +157,7 @@ fn gets<P: Parties>(state: &StateOf<'_, P>, wanted: &str) -> bool {
     }
 }
 
-/// Whether a name means the first function of the environment.
+/// Whether a name is bound to the environment's first function.
 fn is_first<P: Parties>(state: &StateOf<'_, P>, name: &str) -> bool {
     match state.lookup(name) {
         Ok(found) => found == Some(Value::function(3)),
@@ -164,7 +165,7 @@ fn is_first<P: Parties>(state: &StateOf<'_, P>, name: &str) -> bool {
     }
 }
 
-/// Whether a state is left as a row asks.
+/// Whether a state is as a row asks.
 pub(crate) fn is_left<P: Parties>(state: &StateOf<'_, P>, wanted: &str) -> bool {
     match wanted.split_once(' ').unwrap_or((wanted, "")) {
         ("known", names) => knows(state, names),
@@ -178,7 +179,7 @@ pub(crate) fn is_left<P: Parties>(state: &StateOf<'_, P>, wanted: &str) -> bool 
     }
 }
 
-/// The charges of a render; 0 where none are counted.
+/// The charges of a render, or 0 if none are counted.
 fn charges<P: Parties>(state: &StateOf<'_, P>) -> u64 {
     match state.fuel_levels() {
         Some((consumed, _)) => consumed,
@@ -198,12 +199,12 @@ pub(crate) fn is_chain(error: &Error, kinds: &str) -> bool {
     rest.is_none()
 }
 
-/// Whether a kind says that a fault came through a run.
+/// Whether an error of this kind wraps the fault of a run.
 fn is_wrapping(kind: ErrorKind) -> bool {
     kind == ErrorKind::EvalBlock || kind == ErrorKind::BadInclude
 }
 
-/// How many runs of blocks and of templates that were included an error came through, and what it was inside them.
+/// The number of block runs and includes that an error came through, and the error inside them.
 pub(crate) fn fault_of(error: &Error) -> (usize, &Error) {
     let mut fault = error;
     for depth in 0..usize::MAX {
@@ -215,7 +216,7 @@ pub(crate) fn fault_of(error: &Error) -> (usize, &Error) {
     (usize::MAX, fault)
 }
 
-/// How a render ends: by its charges, and whether its state is left as a row asks; or by an error.
+/// How a render ends: with its charges and whether its state is as a row asks, or with an error.
 type End = Result<(u64, bool), Error>;
 
 fn end_of<P: Parties>(
@@ -233,7 +234,8 @@ fn end_of<P: Parties>(
     }
 }
 
-/// The template of a source under a name, or the one that is kept. BadStream where a stream of the source is refused.
+/// The template of a source under a name, or the stored one. BadStream if a stream of the source is
+/// refused.
 pub(crate) fn template_of<'env, 'source, P: Parties>(
     alloc: Global,
     environment: &'env EnvironmentOf<'source, P>,
@@ -264,7 +266,7 @@ fn ended<'source, P: Parties>(
     }
 }
 
-/// The end that is wanted under a behavior.
+/// The end that is expected under a behavior.
 fn wanted(end: &str, behavior: UndefinedBehavior) -> &str {
     let place = match behavior {
         UndefinedBehavior::Lenient => 0,
@@ -279,12 +281,12 @@ fn is_end(end: &End, wanted: &str) -> bool {
     match end {
         Ok((charges, is_left)) => *is_left
             && (wanted == "ok" || wanted.parse().ok() == Some(*charges)),
-        // A kind alone says nothing of causes.
+        // A single kind says nothing about causes.
         Err(error) => error.kind().name() == wanted || is_chain(error, wanted),
     }
 }
 
-/// Renders the source of a row, and compares what it writes, how it ends and what it leaves.
+/// Renders the source of a row and compares what it writes, how it ends and its state.
 pub(crate) fn expect_row<P: Parties>(
     alloc: Global,
     environment: &EnvironmentOf<'_, P>,
@@ -308,7 +310,7 @@ pub(crate) fn expect_row<P: Parties>(
     );
     let is_ended = is_end(&end, wanted(row.end, environment.undefined_behavior()));
     let written = writer.inner().bytes.as_slice();
-    // What stands before a use that is refused under some behaviors alone is none of the row's.
+    // A row doesn't state the text before a use that only some behaviors refuse.
     let is_written = written == row.text.as_bytes() || end.is_err() && row.end.contains(' ');
     let fails = setup.width == 0 || setup.room < usize::MAX;
     let failures = (row.end == "WriteFailure" && fails) as u64;

@@ -1,4 +1,4 @@
-//! Rows of expected renders: what a source gives, and what it is charged. A row is proved as one text.
+//! Rows of expected renders: a source, its text and its charges. A row is proved as one text.
 
 /// Texts, branches, names, and blanks beside tags.
 pub(crate) const TEXTS: &str = r#"Texts, branches, names, and blanks beside tags.
@@ -103,7 +103,7 @@ pub(crate) const FILTERS: &str = r#"Filters and tests of the caller.
 - {{ 1 is not not }} =>  => UnknownTest
 - {{ 1 is in in [1] }} => true => 6"#;
 
-/// Filters of what bodies write.
+/// Filter blocks.
 pub(crate) const FILTER_BLOCKS: &str = r#"Filters of what bodies write.
 - {% filter upper %}a{{ 1 }}b{% endfilter %} => A1B => 7
 - {% filter upper|substr(1) %}ab{% endfilter %} => B => 6

@@ -10,7 +10,7 @@ use std::alloc::Global;
 use std::test::Fail;
 use template_machine::*;
 
-/// Other delimiters, with both trims of blocks, and with the last line's end.
+/// Other delimiters, with both trims of blocks and a kept final newline.
 fn angles(alloc: Global) -> Result<SyntaxConfig, Error> {
     let block = String::from_str(alloc, "<%")?;
     let block_end = String::from_str(alloc, "%>")?;
@@ -37,7 +37,8 @@ fn behavior(name: &str) -> UndefinedBehavior {
     }
 }
 
-/// Whether an environment has this fuel, limit and behavior, and keeps the last line's end or not.
+/// Whether an environment has this fuel, limit, undefined behavior, and setting for the final
+/// newline.
 fn is_set<P: Parties>(environment: &EnvironmentOf<'_, P>, wanted: &str) -> bool {
     let mut fields = wanted.split(' ');
     let fuel = fields.next().unwrap_or("").parse().ok();
@@ -62,7 +63,7 @@ fn has_globals<P: Parties>(
     Ok(are(&names, wanted))
 }
 
-/// Whether a source that spells no template is refused at the name before it.
+/// Whether a source that spells no template is refused under the name before it.
 fn is_refused<'source, P: Parties>(
     environment: &mut EnvironmentOf<'source, P>,
     rest: &'source str,
@@ -74,13 +75,13 @@ fn is_refused<'source, P: Parties>(
     }
 }
 
-/// The fuel that pays for `charges` charges and no more.
+/// The fuel that is just enough for `charges` charges.
 pub(crate) fn fuel_for(charges: u64) -> u64 {
     charges
 }
 
-/// Whether a source, or the template that is kept after `&`, runs out of fuel if each number of charges
-/// up to the number before it is paid. The fuel for the last of them is set after it.
+/// Whether a source, or the stored template after `&`, runs out of fuel with enough for 0, 1, and
+/// so on up to the given number of charges. The fuel for the last of these stays set.
 fn is_short<'source, P: Parties>(
     alloc: Global,
     environment: &mut EnvironmentOf<'source, P>,
@@ -106,7 +107,7 @@ fn rendered<'source, P: Parties>(
     template.render(&mut StateIds::new(), Value::undefined())
 }
 
-/// Whether it does, be it in a block or a template that another one runs.
+/// Whether it runs out of fuel, possibly in a block or template that it runs.
 fn runs_out<'source, P: Parties>(
     alloc: Global,
     environment: &EnvironmentOf<'source, P>,
@@ -118,8 +119,8 @@ fn runs_out<'source, P: Parties>(
     }
 }
 
-/// Changes a setting of an environment, or asks for them; false where they aren't so, or there is
-/// no such word.
+/// Changes a setting of an environment, or checks the settings; false if the check fails or the
+/// word is unknown.
 fn set<P: Parties>(environment: &mut EnvironmentOf<'_, P>, word: &str, rest: &str) -> bool {
     match word {
         "fuel" => environment.set_fuel(rest.parse().ok()),
@@ -133,7 +134,7 @@ fn set<P: Parties>(environment: &mut EnvironmentOf<'_, P>, word: &str, rest: &st
     true
 }
 
-/// Gives an environment an object; false where there is no such word.
+/// Sets an object of an environment; false if the word is unknown.
 fn set_object(environment: &mut Rows<'_>, word: &str, rest: &str) -> bool {
     match word {
         "methods" => environment.set_unknown_method_callback(method_of(rest)),
@@ -145,7 +146,7 @@ fn set_object(environment: &mut Rows<'_>, word: &str, rest: &str) -> bool {
     true
 }
 
-/// Adds what is named first in the rest to an environment, or sets other delimiters. BadStream where a stream of a
+/// Adds to an environment what the word says, or sets other delimiters. BadStream if a stream of a
 /// template's source is refused.
 fn add<'source, P: Parties>(
     alloc: Global,
@@ -169,7 +170,7 @@ fn add<'source, P: Parties>(
     }
 }
 
-/// Changes an environment, or asks how it is; false where it isn't so, or there is no such word.
+/// Changes or checks an environment; false if the check fails or the word is unknown.
 fn change<'source>(
     alloc: Global,
     environment: &mut Rows<'source>,
@@ -192,7 +193,7 @@ fn change<'source>(
     }
 }
 
-/// Changes how rows are rendered; false where no such change is there.
+/// Changes how rows are rendered; false if the word is unknown.
 fn change_setup<'source>(setup: &mut Setup<'source>, word: &str, rest: &'source str) -> bool {
     match word {
         "name" => setup.name = rest,
@@ -207,7 +208,7 @@ fn change_setup<'source>(setup: &mut Setup<'source>, word: &str, rest: &'source 
     true
 }
 
-/// Whether a line is a setting, which is made, or one that is asked for. It begins with `@` then.
+/// Performs the setting or check that a line with `@` names; false if that fails.
 fn is_setting<'source>(
     alloc: Global,
     environment: &mut Rows<'source>,
@@ -218,8 +219,8 @@ fn is_setting<'source>(
     Ok(change_setup(setup, word, rest) || change(alloc, environment, word, rest)?)
 }
 
-/// Renders a table's rows after its heading. A row that begins with `@` is a setting, and one that begins with `?` asks
-/// a state.
+/// Renders a table's rows after its heading. A row that begins with `@` is a setting, and one that
+/// begins with `?` asks a state.
 pub(crate) fn expect_table<'source>(
     alloc: Global,
     environment: &mut Rows<'source>,
@@ -271,7 +272,7 @@ static TABLES: [&str; 26] = [
     SETTINGS,
 ];
 
-/// Renders all tables. A setting holds until the next one, also in the tables after its own.
+/// Renders all tables. A setting stays in force until the next one, even in later tables.
 pub(crate) fn expect_tables(alloc: Global, environment: &mut Rows<'_>) -> Result<(), Fail> {
     add_objects(environment)?;
     blocks::add_layouts(alloc, environment)?;
@@ -283,9 +284,10 @@ pub(crate) fn expect_tables(alloc: Global, environment: &mut Rows<'_>) -> Result
     Ok(())
 }
 
-// The test lends its environment, which is dropped in one place: each way out that drops one is
-// dear to prove.
-/// Asks an environment without functions, and gives it what joins names, a method object and formatters.
+// The test lends its environment, so that it is dropped in one place: each exit that drops one is
+// expensive to prove.
+/// Checks an environment without functions, and then sets an object that joins names, a method
+/// object and formatters.
 pub(crate) fn expect_empty(alloc: Global, environment: &mut Rows<'_>) -> Result<(), Fail> {
     expect_table(alloc, environment, EMPTY)?;
     expect_table(alloc, environment, blocks::JOINED)?;
@@ -347,7 +349,7 @@ const FORMATTERS: &str = r#"Formatters, under strict undefined values.
 - {{ 1 if false }} => F => ok
 - {{ "<" ~ 1 }}{% set t %}{{ 1 }}{% endset %}{{ t }} => FF => ok"#;
 
-/// Settings, globals, names that are known, templates by name, and escapes by names.
+/// Settings, globals, known names, templates by name, and escapes by name.
 const SETTINGS: &str =
     r#"Settings, globals, names that are known, templates by name, and escapes by names.
 - @set none 500 lenient drops

@@ -1,4 +1,4 @@
-//! What states serve.
+//! What states can be asked.
 use crate::blocks::expect;
 use crate::macros::are_bounded;
 use crate::party::{Rows, add_filters};
@@ -6,8 +6,8 @@ use crate::settings::expect_table;
 use std::alloc::Global;
 use std::test::Fail;
 
-/// What states serve: a render's, that of a template of which nothing ran, and that of no template. In `t` one macro
-/// faults where it stands deep.
+/// Questions to states: that of a render, that of a template that hasn't run, and that without a
+/// template. In `t` one macro has a fault inside nested scopes.
 const SERVED: &str = r#"What states serve.
 - {% set a = 1 %}{% set _b = 2 %} =>  => ok
 - ?{% set a = 1 %}{% set _b = 2 %} => <string> => a => known _b a dict namespace range; find _b -> 2; find no -> nothing

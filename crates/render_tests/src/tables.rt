@@ -1,4 +1,4 @@
-//! All tables, in environments that are new where a table needs one.
+//! All tables, in new environments for the tables that need one.
 
 use crate::blocks::expect;
 use crate::bounds::expect_long;

@@ -1,4 +1,4 @@
-//! Rows of operations on values, and of what the functions of the language answer.
+//! Rows of operations on values and of the functions of the language.
 
 /// Operations on values.
 pub(crate) const OPERATIONS: &str = r#"Operations on values.
@@ -126,7 +126,7 @@ pub(crate) const OPERATIONS: &str = r#"Operations on values.
 - {% set s %}<b>{% endset %}{{ s ~ '' }}{{ s + '' }}{{ s }} => &lt;b&gt;&lt;b&gt;<b> => ok
 - {% set s %}1{% endset %}{{ s == '1' }} => true => ok"#;
 
-/// Undefined operands under each behavior, from the loosest.
+/// Undefined operands under each behavior, from the loosest to the strictest.
 pub(crate) const UNDEFINED: &str = r#"Undefined operands under each behavior, from the loosest.
 - {% for x in u %}{% endfor %} =>  => ok ok UndefinedError UndefinedError
 - {{ u['a'] }} =>  => UndefinedError ok UndefinedError UndefinedError

@@ -1,14 +1,15 @@
-//! Streams that `generate` writes, as streams of a host: `verify` accepts each.
+//! Verifies the streams that `generate` writes as if a host had made them: `verify` accepts each.
 
 use std::alloc::Global;
 use std::mem;
 use std::rc::RcStr;
 use template_machine::*;
 
-/// How long a source is at most whose streams are verified: those of a longer one are of many instructions, and of few kinds.
+/// The greatest length of a source whose streams are verified: the streams of longer ones have many
+/// instructions, but of few kinds.
 const LONGEST: usize = 100_000;
 
-/// The names of blocks, apart from the blocks.
+/// Copies of the blocks' names.
 fn names_of<T: Drop>(alloc: Global, blocks: &NameMap<T>) -> Result<Vec<String>, Error> {
     let mut names = Vec::new(alloc);
     for name in blocks.names(alloc)? {
@@ -17,7 +18,8 @@ fn names_of<T: Drop>(alloc: Global, blocks: &NameMap<T>) -> Result<Vec<String>, 
     Ok(names)
 }
 
-/// Verifies each stream of a tree, with nothing that is proved of it. BadStream where one is refused.
+/// Verifies each stream of a tree, without anything that is proved about it. BadStream if one is
+/// refused.
 pub(crate) fn verify_tree(alloc: Global, tree: &Tree, form: Form) -> Result<(), Error> {
     let Streams { root, mut blocks } = generate(alloc, tree)?;
     let _root = verify(alloc, root.into_instructions(), form)?;
@@ -30,8 +32,8 @@ pub(crate) fn verify_tree(alloc: Global, tree: &Tree, form: Form) -> Result<(), 
     Ok(())
 }
 
-/// Verifies each stream of what a source spells in these delimiters, unless it is very long. BadStream where one is refused;
-/// a source that spells no template has none.
+/// Verifies each stream of the template that a source spells with these delimiters, unless the
+/// source is very long. BadStream if one is refused; a source that spells no template has none.
 pub(crate) fn verify_source(
     alloc: Global,
     source: &str,

@@ -1,11 +1,12 @@
-//! Long streams: each of them would take minutes if what ways have in common were copied or compared one by one.
+//! Long streams that would take minutes to verify if what several ways share were copied, or
+//! compared one by one.
 use crate::words::{Word, is_accepted};
 use std::alloc::Global;
 use std::test::Fail;
 use tm_shapes::Form;
 use tm_values::Error;
 
-/// So many pairs of pushes, and as many branches, each of which takes all that was pushed.
+/// Pushes `count` pairs of values, followed by `count` branches, each of which takes all of them.
 fn branches(alloc: Global, count: usize, first: Word, second: Word) -> Result<Vec<Word>, Error> {
     let all = count.saturating_mul(2);
     let mut words = Vec::new(alloc);
@@ -26,7 +27,7 @@ fn branches(alloc: Global, count: usize, first: Word, second: Word) -> Result<Ve
     Ok(words)
 }
 
-/// The same scopes by two ways, and then as many ways back from one to the other.
+/// Two ways to the same `count` scopes, and then `count` jumps from the second way into the first.
 fn meetings(alloc: Global, count: usize) -> Result<Vec<Word>, Error> {
     let mut words = Vec::new(alloc);
     words.push(Word::Number(1))?;

@@ -1,4 +1,5 @@
-//! Tests of streams that no compiler wrote: which are accepted, and that many places and many ways take no long time.
+//! Tests of streams that no compiler wrote: which are accepted, and that many places and many ways
+//! don't take long.
 #![tactic(auto)]
 
 #[cfg(test)]

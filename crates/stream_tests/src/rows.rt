@@ -1,11 +1,12 @@
-//! Streams, and whether they are accepted. `tools/refusals` refuses each growth of these tests, so where one is refused they ask again.
+//! Streams, and whether they are accepted. `tools/refusals` refuses each growth of these tests, so
+//! they ask again if one is refused.
 use crate::words::{Word, is_accepted};
 use std::alloc::Global;
 use std::test::Fail;
 use tm_shapes::Form;
 use tm_values::{Error, ErrorKind};
 
-/// Whether a stream is accepted; a growth may be refused once.
+/// Whether a stream is accepted; one growth may be refused.
 fn is_of_form(alloc: Global, words: &[Word], form: Form) -> Result<bool, Error> {
     match is_accepted(alloc, words, form) {
         Err(error) if error.kind() == ErrorKind::OutOfMemory => is_accepted(alloc, words, form),

@@ -1,4 +1,4 @@
-//! Instructions in short.
+//! Short names for instructions.
 use std::alloc::Global;
 use tm_shapes::{Form, verify};
 use tm_syntax::{CaptureMode, Instruction, LoopFlags, Name};
@@ -9,7 +9,7 @@ use tm_values::{Error, ErrorKind, Value};
 pub(crate) enum Word {
     /// Pushes a number.
     Number(i128),
-    /// Pushes a list of nothing, or of a list of nothing.
+    /// Pushes an empty list, or a list that contains one.
     Nothing,
     OneList,
     /// Looks up the name `a`.
@@ -25,23 +25,23 @@ pub(crate) enum Word {
     UnpackList(usize),
     Jump(usize),
     JumpIfFalse(usize),
-    /// Begins a loop; whether it can be called.
+    /// Begins a loop; the flag tells whether it can be called.
     PushLoop(bool),
     Iterate(usize),
     PopLoopFrame,
     FastRecurse,
     PushWith,
     PopFrame,
-    /// Begins a capture; whether its text is dropped.
+    /// Begins a capture; the flag tells whether its text is dropped.
     BeginCapture(bool),
     EndCapture,
     PushAutoEscape,
     PopAutoEscape,
     GetClosure,
-    /// Builds the macro `m` that is entered at a place.
+    /// Builds the macro `m` that is entered at this place.
     BuildMacro(usize),
     Return,
-    /// The filter or the test of a name, with its cache number.
+    /// Calls the filter or test of this name, with a cache number.
     Filter(&'static str, u8),
     Test(&'static str, u8),
     IncludeModule,
@@ -128,7 +128,7 @@ fn instruction(alloc: Global, word: Word) -> Result<Instruction, Error> {
     }
 }
 
-/// Whether a stream is accepted; other errors than BadStream are passed on.
+/// Whether a stream is accepted; errors other than BadStream are passed on.
 pub(crate) fn is_accepted(alloc: Global, words: &[Word], form: Form) -> Result<bool, Error> {
     let mut instructions = Vec::new(alloc);
     for word in words {

@@ -1,4 +1,4 @@
--- Environments and templates as plain data, over all objects of the caller as one.
+-- Environments and templates as plain data, with the caller's objects as one value.
 use Rattle.std.specs.Prelude.{◌≡◌, ℕ, List, [], map as each, Ok, Err, Option, Some, None, codes}
 use Rattle.tm_values.specs.Answer.{Answer, refused}
 use Rattle.tm_values.specs.declared.error.ErrorKind.TheVariants.{TemplateNotFound}
@@ -20,8 +20,8 @@ use Rattle.tm_templates.specs.Templates.{Compiled, IsExpression, IsOfTree, IsTem
 use Rattle.tm_templates.specs.declared.defaults.EscapeSetting.{EscapeSetting}
 use Rattle.tm_templates.specs.declared.defaults.EscapeSetting.TheVariants as escapes
 
--- The templates by name, the delimiters of later ones, the caller's objects, the globals, what is done with undefined
--- values, the fuel that is set, and how deep scopes may lie.
+-- The templates by name, the delimiters for later ones, the caller's objects, the globals, how
+-- undefined values behave, the fuel that is set, and the greatest depth of scopes.
 pub record EnvironmentValue (O : Type 0) : Type 0 where
   pub templates : Named Compiled
   pub syntax : Syntax
@@ -31,7 +31,7 @@ pub record EnvironmentValue (O : Type 0) : Type 0 where
   pub fuel : Option ℕ
   pub limit : ℕ
 
--- A template, the environment that it is of, and what it is there: the entry of a name, or none of its entries.
+-- A template, its environment, and its id there: the entry of a name, or `Own` if it is no entry.
 pub record TemplateValue (O : Type 0) : Type 0 where
   pub environment : EnvironmentValue O
   pub id : TemplateId
@@ -56,27 +56,28 @@ empty_environment objects = record {
 abbrev pub expected_environment : {O : Type 0} → O → EnvironmentValue O
 expected_environment objects = record (empty_environment objects) { globals = language_globals }
 
--- and with what a template may expect: it is escaped as its name asks
+-- and with the usual settings: the escape depends on the template's name
 abbrev pub new_environment : {C M F R J : Type 0} → EnvironmentValue (Table C M F (EscapeSetting R) J)
 new_environment = expected_environment (language_functions escapes.ByName)
 
--- the template that a source is in an environment, under a name
+-- the template that a source spells in an environment, under a name
 abbrev pub IsTemplateOf : {O : Type 0} → (O → StatedObjects) → EnvironmentValue O → List ℕ → List ℕ → Compiled → Type 0
 IsTemplateOf stated e name source t = IsTemplate e.syntax ((stated e.objects).escapes name) name source t
 
--- The template is what the environment has at a name.
+-- The template is the environment's entry of this name.
 abbrev pub IsEntryOf : {O : Type 0} → EnvironmentValue O → List ℕ → TemplateValue O → Type 0
 IsEntryOf e name t = (t.environment ≡ e) × (t.id ≡ Entry name) × (find name e.templates ≡ Some t.template)
 
--- The template is what a source is in the environment, under a name, and none of its entries.
+-- The template is what a source spells in the environment under this name, and no entry of it.
 abbrev pub IsMadeIn : {O : Type 0} → (O → StatedObjects) → EnvironmentValue O → List ℕ → List ℕ → TemplateValue O → Type 0
 IsMadeIn stated e name source t = (t.environment ≡ e) × (t.id ≡ Own) × IsTemplateOf stated e name source t.template
 
--- what no template runs under: one of no statement, under a name that no template has by itself
+-- the rendering without a template: one without statements, under a name that no template has by
+-- default
 abbrev pub unknown_template : {O : Type 0} → EnvironmentValue O → TemplateValue O
 unknown_template e = record { environment = e; id = Own; template = empty_template (codes "<unknown>") }
 
--- what was compiled under a name, as the environment's entry of the name
+-- a compiled template as the environment's entry of its name
 abbrev pub named_entry : {O : Type 0} → EnvironmentValue O → List ℕ × Compiled → List ℕ × TemplateValue O
 named_entry e t = (t.0, record { environment = e; id = Entry t.0; template = t.1 })
 
@@ -84,11 +85,11 @@ named_entry e t = (t.0, record { environment = e; id = Entry t.0; template = t.1
 abbrev pub entries_of : {O : Type 0} → EnvironmentValue O → Named (TemplateValue O)
 entries_of e = each (named_entry e) e.templates
 
--- the value as the global of a name
+-- the value as the global of this name
 abbrev pub with_global : {O : Type 0} → List ℕ → Val → EnvironmentValue O → EnvironmentValue O
 with_global x value e = record e { globals = put x value e.globals }
 
--- the object under the next number, and the function of that number as the global of a name
+-- the object under the next number, and the function of that number as the global of this name
 abbrev pub with_function : {C M F R J : Type 0} → List ℕ → C → EnvironmentValue (Table C M F R J) → EnvironmentValue (Table C M F R J)
 with_function x object e =
     record e { objects = with_object object e.objects; globals = put x (function (next_number e.objects)) e.globals }
@@ -101,7 +102,7 @@ with_objects objects e = record e { objects = objects }
 abbrev pub templates_in : Named Compiled → Named Template
 templates_in ts = each (λ (t : List ℕ × Compiled). (t.0, told_of t.1)) ts
 
--- What a template's environment gives, where objects state this.
+-- The template's host, made of its environment and of what the caller's objects state.
 abbrev pub host_of : {O : Type 0} → (O → StatedObjects) → TemplateValue O → HostValue
 host_of stated t = record {
   own = told_of t.template;
@@ -117,22 +118,25 @@ host_of stated t = record {
   limit = t.environment.limit;
 }
 
--- the environment's template of a name, by what it has there; TemplateNotFound where it has none
+-- the environment's template of this name, from the lookup's result; TemplateNotFound if there is
+-- none
 abbrev pub entry_at : {O : Type 0} → EnvironmentValue O → List ℕ → Option Compiled → Answer (TemplateValue O)
 entry_at e x None = refused TemplateNotFound
 entry_at e x (Some t) = Ok (record { environment = e; id = Entry x; template = t })
 
--- the environment's template of a joined name; the fault of what joins
+-- the environment's template of a joined name; the fault of the join
 abbrev pub joined_entry : {O : Type 0} → EnvironmentValue O → Answer (List ℕ) → Answer (TemplateValue O)
 joined_entry e (Ok x) = entry_at e x (find x e.templates)
 joined_entry e (Err chain) = Err chain
 
--- The template that a name means in a state: the environment's of the name that is joined to that of the template that runs.
+-- The template that a name means in a state: the environment's of this name joined with the running
+-- template's name.
 abbrev pub named_template : {O : Type 0} → (O → StatedObjects) → TemplateValue O → List ℕ → World → Answer (TemplateValue O)
 named_template stated t x w =
     joined_entry t.environment ((stated t.environment.objects).join x (name_of (host_of stated t) w))
 
--- the template that is meant: the rendered one, or the environment's of a name, and the rendered one where there is none
+-- the template that an id means: the rendered one, or the environment's entry, and the rendered one
+-- if there is no such entry
 abbrev pub meant : {O : Type 0} → TemplateValue O → TemplateId → Compiled
 meant t Own = t.template
 meant t (Entry x) = or_is (find x t.environment.templates) t.template
@@ -142,11 +146,11 @@ abbrev pub code : {O : Type 0} → TemplateValue O → StreamId → List Instruc
 code t s = part_code (meant t s.template) s.block
 
 -- ---------------------------------------------------------------- trees
--- Each of the templates is that of a tree.
+-- Each of the templates has a tree.
 abbrev pub AreOfTrees : Named Compiled → Type 0
 AreOfTrees ts = AllByRecursion (λ (t : List ℕ × Compiled). IsOfTree t.1) ts
 
--- So are a template and all of its environment, so what it runs means what trees mean.
+-- A template and all of its environment have trees, so that what it runs means what the trees mean.
 pub record IsOfTrees {O : Type 0} (t : TemplateValue O) : Type 0 where
   pub own : IsOfTree t.template
   pub others : AreOfTrees t.environment.templates
@@ -157,6 +161,6 @@ trees_in ts = each (λ (t : List ℕ × Compiled). (t.0, tree_of t.1)) ts
 abbrev pub trees : {O : Type 0} → TemplateValue O → Trees
 trees t = trees_of (tree_of t.template) (trees_in t.environment.templates)
 
--- The expression is what a source is, of the environment.
+-- The expression is what a source spells, in this environment.
 abbrev pub IsExpressionIn : {O : Type 0} → EnvironmentValue O → List ℕ → TemplateValue O → Type 0
 IsExpressionIn e source x = (x.environment ≡ e) × (x.id ≡ Own) × IsExpression source x.template

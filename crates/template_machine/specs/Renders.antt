@@ -37,51 +37,51 @@ use Rattle.tm_safety.specs.Runs.{stream_of}
 use Rattle.tm_vm.specs.Nested.{WroteBeginning}
 use Rattle.template_machine.specs.Environment.{AreOfTrees, EnvironmentValue, TemplateValue, IsTemplateOf, code, host_of, trees}
 
--- a template that is rendered, and the world that it leaves
+-- a rendered template, and the world after the render
 pub record StateValue (O : Type 0) : Type 0 where
   pub template : TemplateValue O
   pub world : World
 
--- a text that went to no writer, and the state that is left
+-- a text that went to no writer, and the state after the render
 pub record CapturedValue (S : Type 0) : Type 0 where
   pub output : List ℕ
   pub state : S
 
--- the state, with a value that is kept at a name
+-- the state with a value kept under a name
 abbrev pub with_temp : {O : Type 0} → List ℕ → Val → StateValue O → StateValue O
 with_temp x value s = record s { world = record s.world { temps = put x value s.world.temps } }
 
--- the state, with another world
+-- the state with another world
 abbrev pub with_world : {O : Type 0} → World → StateValue O → StateValue O
 with_world w s = record s { world = w }
 
--- the greatest u64: a counter of state ids that stands there is full, and a count of failures stays there
+-- the greatest u64: a counter of state ids is full there, and a count of failures stays there
 abbrev pub greatest : ℕ
 greatest = 2 ^ 64 - 1
 
 -- ---------------------------------------------------------------- meanings
--- the world that a render starts from, as the state of this number over this context value
+-- the world at the start of a render, of the state with this number over this context value
 abbrev pub first : {O : Type 0} → (O → StatedObjects) → TemplateValue O → ℕ → Val → World
 first stated t id context = first_world (host_of stated t) t.id id t.environment.fuel context
 
--- the world of a state of this number in which nothing runs: that of a render, without its scope
+-- the world of a state with this number in which nothing runs: that of a render, without its scope
 abbrev pub idle : {O : Type 0} → (O → StatedObjects) → TemplateValue O → ℕ → World
 idle stated t id = record (first stated t id (undefined false)) { scopes = record { frames = []; outer = 0 } }
 
--- what a template means from a world, where objects state this
+-- what a template means from a world, with what the objects state
 abbrev pub meaning_from : {O : Type 0} → (O → StatedObjects) → TemplateValue O → World → Outcome
 meaning_from stated t w = rendered (host_of stated t) (trees t) w
 
--- What a template means, rendered as the state of this number over this context value: its tree, under what its environment gives, from the
--- environment's fuel.
+-- What a template means, rendered in the state with this number over this context value: its tree,
+-- run in its environment's host with the environment's fuel.
 abbrev pub meaning : {O : Type 0} → (O → StatedObjects) → TemplateValue O → ℕ → Val → Outcome
 meaning stated t id context = meaning_from stated t (first stated t id context)
 
--- the run of a callee, heard, over no text
+-- the run of a callee, heard, with an empty text
 abbrev pub callee_run : {O : Type 0} → (O → StatedObjects) → TemplateValue O → Callee → World → Outcome
 callee_run stated t k w = let host = host_of stated t in nests_of host (trees t) (host.limit + 1) k true [] w
 
--- what a call comes to where no template runs, as a value
+-- the value of a call while no template runs
 abbrev pub called_value : {O : Type 0} → (O → StatedObjects) → TemplateValue O → Asked → Res Val
 called_value stated t asked = called (host_of stated t) (trees t) asked
 
@@ -89,7 +89,7 @@ abbrev pub answer_by : Ending → World → Answer World
 answer_by (fault chain) w = Err chain
 answer_by e w = Ok w
 
--- The world that is left, or the chain of the fault.
+-- The world at the end, or the chain of the fault.
 abbrev pub answer_of : Outcome → Answer World
 answer_of m = answer_by m.ending m.world
 
@@ -99,12 +99,13 @@ abbrev pub IsMemory : {A : Type 0} → Result A (List ErrorKind) → Type 0
 IsMemory (Ok x) = ⊥
 IsMemory (Err chain) = is_want_of_memory chain ≡ true
 
--- The answer is the end that was meant: the template's state with its world and no text of its own, or an error of its chain.
+-- The answer is the end that was meant: the template's state with the final world and no text of
+-- its own, or an error with the fault's chain.
 abbrev pub IsEnd : {O : Type 0} → TemplateValue O → Result (CapturedValue (StateValue O)) (List ErrorKind) → Outcome → Type 0
 IsEnd t (Ok c) m = (c.output ≡ []) × (c.state.template ≡ t) × (answer_of m ≡ Ok c.state.world)
 IsEnd t (Err answer) m = answer_of m ≡ Err answer
 
--- The answer is the text that was meant, or an error of its chain.
+-- The answer is the text that was meant, or an error with the fault's chain.
 abbrev pub IsRenderedText : Result (String Global) (List ErrorKind) → Outcome → Type 0
 IsRenderedText (Ok text) m = (string_bytes text ≡ m.text) × (w : World) × (answer_of m ≡ Ok w)
 IsRenderedText (Err answer) m = answer_of m ≡ Err answer
@@ -120,24 +121,26 @@ pub data Rendered {O : Type 0} (t : TemplateValue O) (m : Outcome) (result : Res
   -- no memory was found, after a beginning of the text
   by_memory : IsMemory result → AppendsBeginning told.bytes now.bytes m.text → NoFailure told now → Rendered t m result told now
 
--- How a render to a text ended: as was meant, or since no memory was found.
+-- How a render to a text ended: as was meant, or because memory ran out.
 pub data RenderedText (m : Outcome) (result : Result (String Global) (List ErrorKind)) : Type 0 where
   text_as_meant : IsRenderedText result m → RenderedText m result
   text_by_memory : IsMemory result → RenderedText m result
 
--- The answer is the whole text that was meant, with the template's state and its world, or an error of its chain.
+-- The answer is the whole text that was meant, with the template's state and its world, or an error
+-- with the fault's chain.
 abbrev pub IsCapturedEnd : {O : Type 0} → TemplateValue O → Result (CapturedValue (StateValue O)) (List ErrorKind) → Outcome → Type 0
 IsCapturedEnd t (Ok c) m = (c.output ≡ m.text) × (c.state.template ≡ t) × (answer_of m ≡ Ok c.state.world)
 IsCapturedEnd t (Err answer) m = answer_of m ≡ Err answer
 
--- How a render to a text and a state ended: as was meant, or since no memory was found.
+-- How a render to a text and a state ended: as was meant, or because memory ran out.
 pub data RenderedCaptured {O : Type 0} (t : TemplateValue O) (m : Outcome)
     (result : Result (CapturedValue (StateValue O)) (List ErrorKind)) : Type 0 where
   captured_as_meant : IsCapturedEnd t result m → RenderedCaptured t m result
   captured_by_memory : IsMemory result → RenderedCaptured t m result
 
--- How a render of a source ended, whose template has this name: refused, since it spells no template or no memory was found, and no state
--- was numbered; or rendered, as the template that it spells, where those of the environment are of trees too.
+-- How a render of a source under this name ended: it was refused because it spells no template or
+-- memory ran out, and no state was numbered; or it was rendered as the template that it spells, if
+-- those of the environment have trees too.
 pub data RenderedSource {O : Type 0} (stated : O → StatedObjects) (e : EnvironmentValue O)
     (name source : List ℕ) (old new : ℕ) (context : Val)
     (result : Result (String Global) (List ErrorKind)) : Type 0 where
@@ -147,15 +150,15 @@ pub data RenderedSource {O : Type 0} (stated : O → StatedObjects) (e : Environ
       (AreOfTrees e.templates → RenderedText (meaning stated (record { environment = e; id = Own; template = t }) old context) result) →
       new ≡ old + 1 → RenderedSource stated e name source old new context result
 
--- What is answered to a source where the counter is full, whose template has this name: why it was refused, or InvalidOperation, since no
--- state can be numbered.
+-- The answer for a source under this name if the counter is full: why the source was refused, or
+-- InvalidOperation because no state can be numbered.
 abbrev pub IsUnnumbered :
     {O : Type 0} → (O → StatedObjects) → EnvironmentValue O → List ℕ → List ℕ → Result (String Global) (List ErrorKind) → Type 0
 IsUnnumbered stated e name source (Ok text) = ⊥
 IsUnnumbered stated e name source (Err chain) =
     IsRefused e.syntax source chain ⊎ ((t : Compiled) × IsTemplateOf stated e name source t × (chain ≡ InvalidOperation ∷ []))
 
--- what a state is asked for by the name of a filter, of a test, of a function or of a block
+-- what a state is asked for by the name of a filter, a test, a function or a block
 abbrev pub filter_asked : {O : Type 0} → (O → StatedObjects) → StateValue O → List ℕ → List Val → Asked
 filter_asked stated s x args = apply_filter (host_of stated s.template) x args s.world
 
@@ -168,22 +171,24 @@ name_asked stated s x args = call_by_name (host_of stated s.template) x args s.w
 abbrev pub block_asked : {O : Type 0} → (O → StatedObjects) → StateValue O → List ℕ → Asked
 block_asked stated s b = enter_block (host_of stated s.template) b s.world
 
--- What a call of a state answered, apart from running out of memory: the value that was meant, or the fault, and the world after it.
+-- The result of a state's call: the value that was meant, or the fault, and the world after it;
+-- unless memory ran out.
 abbrev pub IsMacroCall : Result Val (List ErrorKind) → Res Val → World → Type 0
 IsMacroCall (Ok v) meant w = meant ≡ Good v w
 IsMacroCall (Err chain) meant w = is_want_of_memory chain ≡ false → meant ≡ Bad chain w
 
--- The same of a test, whose value is a truth value.
+-- The same for a test, whose value is a boolean.
 abbrev pub IsTested : Result Bool (List ErrorKind) → Res Val → World → Type 0
 IsTested (Ok b) meant w = meant ≡ Good (boolean b) w
 IsTested (Err chain) meant w = is_want_of_memory chain ≡ false → meant ≡ Bad chain w
 
--- What a run in a capture of its own answered, apart from running out of memory: the text that was meant, or the fault, and the world after it.
+-- The result of a run in a capture of its own: the text that was meant, or the fault, and the world
+-- after it; unless memory ran out.
 abbrev pub IsCapturedRun : Result (String Global) (List ErrorKind) → Outcome → World → Type 0
 IsCapturedRun (Ok text) m w = (string_bytes text ≡ m.text) × (answer_of m ≡ Ok w)
 IsCapturedRun (Err chain) m w = is_want_of_memory chain ≡ false → (m.ending ≡ fault chain) × (m.world ≡ w)
 
--- The same of a run over one capture.
+-- The same for a run with one capture.
 abbrev pub RanApart : Result (List Capture) Halt → Outcome → World → Type 0
 RanApart (Ok new) m w = (answer_of m ≡ Ok w) × (new ≡ record { heard = true; text = m.text } ∷ [])
 RanApart (Err halt.Writer) m w = ⊥
@@ -191,11 +196,12 @@ RanApart (Err halt.Stuck) m w = ⊥
 RanApart (Err (halt.Fault chain)) m w = is_want_of_memory chain ≡ false → (m.ending ≡ fault chain) × (m.world ≡ w)
 
 -- ---------------------------------------------------------------- runs
--- No capture is open, or one without text.
+-- No capture is open, or one that is empty.
 abbrev pub IsFresh : List Capture → Type 0
 IsFresh captures = (captures ≡ []) ⊎ (captures ≡ new_capture true ∷ [])
 
--- The answer of a run over captures: done, with the text put, or a fault of the chain; and the world that is left.
+-- The answer of a run with captures: finished, with the text added, or a fault with the chain; and
+-- the world at the end.
 abbrev pub IsRun : Result (List Capture) Halt → World → List Capture → Outcome → Type 0
 IsRun (Ok new) left old m = (answer_of m ≡ Ok left) × (new ≡ put_in old m.text)
 IsRun (Err (halt.Fault chain)) left old m = (answer_of m ≡ Err chain) × (m.world ≡ left)
@@ -211,16 +217,17 @@ pub data Ran (m : Outcome) (result : Result (List Capture) Halt) (left : World) 
       AppendsBeginning told.bytes now.bytes (put_out old m.text) → NoFailure told now → Ran m result left old told now
 
 -- ---------------------------------------------------------------- blocks
--- what the block of a name means that a state is asked for, from its world
+-- what the block of a name means, called from a state's world
 abbrev pub block_meaning : {O : Type 0} → (O → StatedObjects) → TemplateValue O → List ℕ → World → Outcome
 block_meaning stated t b w = rendered_block (host_of stated t) (trees t) b w
 
--- The block's run is what is asked for, from this world; what is put back after it is of the world before.
+-- The block's run is what is asked for, from the new world; what is restored after it is from the
+-- old one.
 abbrev pub IsEntered : Asked → SavedBlock → World → World → Type 0
 IsEntered asked saved old new =
     (saved ≡ saved_of old) × ((s : StreamId) × (asked ≡ runs_block s old new)) × HasOneMore old new × (new.places ≡ old.places)
 
--- The answer is the end that was meant, in the world that is left.
+-- The answer is the end that was meant, in the final world.
 abbrev pub IsBlockEnd : Result (Unit {0}) (List ErrorKind) → World → Outcome → Type 0
 IsBlockEnd (Ok x) left m = answer_of m ≡ Ok left
 IsBlockEnd (Err chain) left m = (answer_of m ≡ Err chain) × (m.world ≡ left)
@@ -235,26 +242,26 @@ pub data BlockWritten (m : Outcome) (result : Result (Unit {0}) (List ErrorKind)
       BlockWritten m result left told now
 
 -- ---------------------------------------------------------------- expressions
--- What an expression means, evaluated as the state of this number over this context value.
+-- What an expression means, evaluated from this world.
 abbrev pub value_meant : {O : Type 0} → (O → StatedObjects) → TemplateValue O → World → Res Val
 value_meant stated t w = maps_in (evaluated (host_of stated t) (trees t) w)
 
--- The answer is the value that was meant, or an error of its chain.
+-- The answer is the value that was meant, or an error with the fault's chain.
 abbrev pub IsValue : Result Val (List ErrorKind) → Res Val → Type 0
 IsValue (Ok v) m = (w : World) × (m ≡ Good v w)
 IsValue (Err chain) m = (w : World) × (m ≡ Bad chain w)
 
--- How an evaluation ended: as was meant, or since no memory was found.
+-- How an evaluation ended: as was meant, or because memory ran out.
 pub data Evaluated (m : Res Val) (result : Result Val (List ErrorKind)) : Type 0 where
   value_as_meant : IsValue result m → Evaluated m result
   value_by_memory : IsMemory result → Evaluated m result
 
 -- ---------------------------------------------------------------- lists
--- The lists of blocks and the loaded names are those from before.
+-- The lists of blocks and the loaded names are the same as before.
 abbrev pub SameLists : World → World → Type 0
 SameLists old new = (new.blocks ≡ old.blocks) × (new.loaded ≡ old.loaded)
 
--- Whether a block's run is asked for: it stands in these lists, and may extend a template.
+-- Whether the run of a block is asked for; it uses these lists, and may extend a template.
 abbrev pub is_of_block : Undo → Bool
 is_of_block (of_block b) = true
 is_of_block _ = false
@@ -263,41 +270,44 @@ abbrev pub runs_a_block : Asked → Bool
 runs_a_block (runs c w) = is_of_block c.undo
 runs_a_block _ = false
 
--- They are, or are put back after the run that is needed, which is a macro's.
+-- They are the same, or are restored after the run that is needed, which is a macro's.
 abbrev pub KeepsLists : CallResult → World → World → Type 0
 KeepsLists (outcome.Run e) before w = e.value.saved ≡ saved.Macro (saved_scopes before)
 KeepsLists _ before w = SameLists before w
 
 -- ---------------------------------------------------------------- streams
--- what a template runs, under what its environment gives
+-- the program of a template: its streams, run in its environment's host
 abbrev pub program_of : {O : Type 0} → (O → StatedObjects) → TemplateValue O → Program
 program_of stated t = record { host = host_of stated t; code = code t }
 
--- Where shapes fit all streams, each loop of which a world has a record is entered in the shape of its place. A world without records is so.
+-- If shapes fit all streams, each loop record of the world is for a loop that is entered in the
+-- shape of its place. A world without records satisfies this.
 abbrev pub SoundRecords : {O : Type 0} → TemplateValue O → World → Type 0
 SoundRecords t w = (shapes : StreamId → Shapes) → ((s : StreamId) → IsShaped (code t s) (shapes s)) → AllEnter (code t) shapes (ids_of w.loops)
 
--- A callee, heard and over these captures, comes to this end and writes this text: by the machine's steps, whoever made the streams.
+-- A callee, heard and with these captures, comes to this end and writes this text, by the machine's
+-- steps, whoever made the streams.
 abbrev pub RunEnds : {O : Type 0} → (O → StatedObjects) → TemplateValue O → Callee → List Capture → World → List ℕ → End → Type 0
 RunEnds stated t k captures w text e =
     let f = base_of true captures w in Leads (program_of stated t) f [] (begins (program_of stated t) f k captures w) (final text e)
 
--- So does the stream that a world names.
+-- The same for the stream of a world.
 abbrev pub StreamEnds : {O : Type 0} → (O → StatedObjects) → TemplateValue O → List Capture → World → List ℕ → End → Type 0
 StreamEnds stated t captures w text e = RunEnds stated t (whole w.stream) captures w text e
 
--- A writer got a beginning of what it writes.
+-- A writer received a prefix of what that stream writes.
 abbrev pub StreamBegins : {O : Type 0} → (O → StatedObjects) → TemplateValue O → List Capture → World → Option (List ℕ) → Option (List ℕ) → Type 0
 StreamBegins stated t captures w told now =
     let f = base_of true captures w in WroteBeginning (program_of stated t) f (begins (program_of stated t) f (whole w.stream) captures w) told now
 
--- The answer of a run over captures is this end: done, or a fault.
+-- The answer of a run with captures is this end: finished, or a fault.
 abbrev pub IsStreamRun : Result (List Capture) Halt → World → (End → Type 0) → Type 0
 IsStreamRun (Ok new) left Ends = (vs : List Val) × Ends (Finished vs new left)
 IsStreamRun (Err (halt.Fault chain)) left Ends = Ends (Failed chain left)
 IsStreamRun (Err _) left Ends = ⊥
 
--- How the run of a stream over captures ended: as its steps do, or since the writer failed or no memory was found.
+-- How the run of a stream with captures ended: as its steps do, or because the writer failed or
+-- memory ran out.
 pub data StreamRan {O : Type 0} (stated : O → StatedObjects) (t : TemplateValue O) (w : World) (result : Result (List Capture) Halt)
     (left : World) (captures : List Capture) (told now : Told) : Type 0 where
   stream_ran : (text : List ℕ) → IsStreamRun result left (StreamEnds stated t captures w text) → Appends told.bytes now.bytes text → NoFailure told now →
@@ -307,23 +317,24 @@ pub data StreamRan {O : Type 0} (stated : O → StatedObjects) (t : TemplateValu
   stream_by_memory : (chain : List ErrorKind) → result ≡ Err (halt.Fault chain) → is_want_of_memory chain ≡ true →
       StreamBegins stated t captures w told.bytes now.bytes → NoFailure told now → StreamRan stated t w result left captures told now
 
--- The answer is the text in the capture at the end, or its fault.
+-- The answer is the text in the capture at the end, or the fault.
 abbrev pub IsStreamText : Result (String Global) (List ErrorKind) → World → (End → Type 0) → Type 0
 IsStreamText (Ok text) left Ends =
     (vs : List Val) × (heard : Bool) × Ends (Finished vs (record { heard = heard; text = string_bytes text } ∷ []) left)
 IsStreamText (Err chain) left Ends = Ends (Failed chain left)
 
--- How the run of a callee in a capture ended, apart from running out of memory.
+-- How the run of a callee in a capture ended, unless memory ran out.
 abbrev pub RunCaptured :
     {O : Type 0} → (O → StatedObjects) → TemplateValue O → Callee → World → Result (String Global) (List ErrorKind) → World → Type 0
 RunCaptured stated t k w result left =
     IsMemory result ⊎ ((text : List ℕ) × IsStreamText result left (RunEnds stated t k (new_capture true ∷ []) w text))
 
--- How that of a stream did.
+-- The same for a stream.
 abbrev pub StreamCaptured : {O : Type 0} → (O → StatedObjects) → TemplateValue O → World → Result (String Global) (List ErrorKind) → World → Type 0
 StreamCaptured stated t w result left = RunCaptured stated t (whole w.stream) w result left
 
--- How the run of a callee over one capture ended, with the captures that are left, apart from running out of memory.
+-- How the run of a callee with one capture ended, with the remaining captures, unless memory ran
+-- out.
 abbrev pub CalleeRan : {O : Type 0} → (O → StatedObjects) → TemplateValue O → Callee → World → Result (List Capture) Halt → World → Type 0
 CalleeRan stated t k w (Ok new) left =
     (text : List ℕ) × (vs : List Val) × RunEnds stated t k (new_capture true ∷ []) w text (Finished vs new left)
@@ -332,7 +343,7 @@ CalleeRan stated t k w (Err halt.Stuck) left = ⊥
 CalleeRan stated t k w (Err (halt.Fault chain)) left =
     is_want_of_memory chain ≡ false → (text : List ℕ) × RunEnds stated t k (new_capture true ∷ []) w text (Failed chain left)
 
--- How the render of a stream to a text ended.
+-- How the render of a stream to a text ended,
 pub data StreamText {O : Type 0} (stated : O → StatedObjects) (t : TemplateValue O) (w : World)
     (result : Result (String Global) (List ErrorKind)) : Type 0 where
   text_streamed : (left : World) → StreamCaptured stated t w result left → StreamText stated t w result
@@ -350,13 +361,14 @@ pub data StreamState {O : Type 0} (stated : O → StatedObjects) (t : TemplateVa
       StreamState stated t w result
   state_by_memory : IsMemory result → StreamState stated t w result
 
--- The answer is the state at the end, without a text of its own, or its fault.
+-- The answer is the state at the end, without a text of its own, or the fault.
 abbrev pub IsStreamEnd : {O : Type 0} → TemplateValue O → Result (CapturedValue (StateValue O)) (List ErrorKind) → (End → Type 0) → Type 0
 IsStreamEnd t (Ok c) Ends =
     (vs : List Val) × (new : List Capture) × (c.output ≡ []) × (c.state.template ≡ t) × Ends (Finished vs new c.state.world)
 IsStreamEnd t (Err chain) Ends = (left : World) × Ends (Failed chain left)
 
--- How the run of a stream into a writer ended, whose answer says this of an end: so, or since the writer failed or no memory was found.
+-- How the run of a stream into a writer ended, with `Says` as what the answer says about the end:
+-- in this way, or because the writer failed or memory ran out.
 pub data Streamed {O A : Type 0} (stated : O → StatedObjects) (t : TemplateValue O) (w : World) (result : Result A (List ErrorKind))
     (Says : (End → Type 0) → Type 0) (told now : Told) : Type 0 where
   streamed : (text : List ℕ) → Says (StreamEnds stated t [] w text) → Appends told.bytes now.bytes text → NoFailure told now →
@@ -366,7 +378,7 @@ pub data Streamed {O A : Type 0} (stated : O → StatedObjects) (t : TemplateVal
   streamed_by_memory : IsMemory result → StreamBegins stated t [] w told.bytes now.bytes → NoFailure told now →
       Streamed stated t w result Says told now
 
--- the one operand that an expression's stream leaves; where it leaves none or several, InvalidOperation
+-- the one operand that an expression's stream leaves; InvalidOperation if it leaves none or several
 abbrev pub value_at : List Val → World → Res Val
 value_at (v ∷ []) w = Good v w
 value_at vs w = Bad (InvalidOperation ∷ []) w
@@ -383,18 +395,19 @@ pub data StreamValue {O : Type 0} (stated : O → StatedObjects) (t : TemplateVa
   value_without_memory : IsMemory result → StreamValue stated t w result
 
 -- ---------------------------------------------------------------- calls over streams
--- The run that a call needs is of the stream that its world names.
+-- The run that a call needs is of the stream in its world.
 abbrev pub IsStarted : CallResult → World → Type 0
 IsStarted (outcome.Run e) w = w.stream ≡ stream_of (callee_of e.value.run)
 IsStarted _ w = Unit {0}
 
--- What the end of a call's run in a capture makes of it, when what it replaced is put back.
+-- What the end of a call's run in a capture means for the call, after what it replaced is restored.
 abbrev pub IsAfterRun : NestedCall → End → Res Val → Type 0
 IsAfterRun c (Finished vs (k ∷ []) w) m = m ≡ Good (run_value c.text k.text (undone c.undo w)) (undone c.undo w)
 IsAfterRun c (Failed chain w) m = m ≡ Bad (wrapped c.wrap chain) (undone c.undo w)
 IsAfterRun c _ m = ⊥
 
--- What a call comes to: its value, its fault, or what the end of the run that it needs makes of it. No loop is open that it could call.
+-- What a call leads to: its value, its fault, or what the end of the run that it needs means. No
+-- loop is open that it could call.
 abbrev pub CallComes : {O : Type 0} → (O → StatedObjects) → TemplateValue O → Asked → Res Val → Type 0
 CallComes stated t (has v w) m = m ≡ Good v w
 CallComes stated t (refused chain w) m = m ≡ Bad chain w
@@ -402,14 +415,15 @@ CallComes stated t (recurs n items w) m = m ≡ Bad (InvalidOperation ∷ []) w
 CallComes stated t (runs c w) m =
     (text : List ℕ) × (e : End) × RunEnds stated t c.callee (new_capture true ∷ []) w text e × IsAfterRun c e m
 
--- How a call of a state ended, whose answer says this of what it comes to: so, or since no memory was found.
+-- How a call of a state ended, with `Says` as what the answer says about the result: in this way,
+-- or because memory ran out.
 pub data StreamCalled {O A : Type 0} (stated : O → StatedObjects) (t : TemplateValue O) (asked : Asked) (result : Result A (List ErrorKind))
     (Says : Res Val → Type 0) : Type 0 where
   call_streamed : (m : Res Val) → CallComes stated t asked m → Says m → StreamCalled stated t asked result Says
   call_by_memory : IsMemory result → StreamCalled stated t asked result Says
 
--- How a block ended that a state is asked for. It was refused, or no memory was found, and all is as it was; or it ran from this world, and
--- what it replaced was put back in the world that its run left.
+-- How a block of a state ended. It was refused, or memory ran out, and nothing changed; or it ran
+-- from this world, and what it replaced was restored in the world after the run.
 pub data BlockEnded (asked : Asked) (old new : World) (Fails : List ErrorKind → Type 0) (Ran : World → World → Type 0) : Type 0 where
   block_refused : (chain : List ErrorKind) → Fails chain → (is_want_of_memory chain ≡ false → asked ≡ refused chain old) → new ≡ old →
       BlockEnded asked old new Fails Ran
@@ -429,7 +443,7 @@ abbrev pub BlockText : {O : Type 0} → (O → StatedObjects) → StateValue O �
 BlockText stated s b result new =
     BlockEnded (block_asked stated s b) s.world new (λ chain. result ≡ Err chain) (λ w left. StreamCaptured stated s.template w result left)
 
--- The answer is the end of the run, or its fault.
+-- The answer is the end of the run, or the fault.
 abbrev pub IsBlockDone : Result (Unit {0}) (List ErrorKind) → World → (End → Type 0) → Type 0
 IsBlockDone (Ok x) left Ends = (vs : List Val) × (new : List Capture) × Ends (Finished vs new left)
 IsBlockDone (Err chain) left Ends = Ends (Failed chain left)
@@ -442,13 +456,13 @@ BlockStreamed stated s b result new told now =
     (λ w left. Streamed stated s.template w result (IsBlockDone result left) told now)
 
 -- ---------------------------------------------------------------- runs that are cut short
--- Its writer failed, or no memory was found.
+-- The writer failed, or memory ran out.
 abbrev pub is_cut : Halt → Bool
 is_cut halt.Writer = true
 is_cut halt.Stuck = false
 is_cut (halt.Fault chain) = is_want_of_memory chain
 
--- the world that is left, without its loops if it was so
+-- the world after a run, without its loops if the run was cut short
 abbrev pub forgetting : Bool → World → World
 forgetting true w = record w { loops = [] }
 forgetting false w = w

@@ -1,4 +1,4 @@
--- A template that is held, whoever keeps it.
+-- A template, borrowed or owned.
 use Rattle.std.specs.Prelude.{◌≡◌, ℕ, List, Option, None, Some}
 use Rattle.std.specs.Borrow.{Bor}
 use Rattle.tm_syntax.specs.Named.{Named, find}
@@ -18,7 +18,7 @@ abbrev pub own_template : OwnTemplate → Compiled
 own_template (own.Lent t) = t.now
 own_template (own.Owned t) = t.value
 
--- An entry of the environment is known by its name.
+-- An entry of the environment is identified by its name.
 abbrev pub entry_id : Option (Bor (List ℕ)) → TemplateId
 entry_id None = Own
 entry_id (Some x) = Entry x.now
@@ -27,7 +27,7 @@ abbrev pub held_id : TemplateRef → TemplateId
 held_id (Lent x t) = Entry x.now
 held_id (Owned t) = Own
 
--- What is lent is what the environment has at the name.
+-- A borrowed template is the environment's entry of this name.
 abbrev pub IsHeldOf : Named Compiled → TemplateRef → Type 0
 IsHeldOf ts (Lent x t) = find x.now ts ≡ Some t.now
 IsHeldOf ts (Owned t) = Unit {0}

@@ -1,4 +1,5 @@
-//! Runs that are cut short: by a writer that fails, or for want of memory. What they leave open of loops isn't known.
+//! Runs that are cut short because the writer fails or memory runs out. Which loops they leave open
+//! isn't known.
 ghost use Rattle.std.specs.Prelude.{◌≡◌};
 ghost use Rattle.tm_meaning.specs.Memory.{is_want_of_memory, is_wrapping};
 ghost use Rattle.template_machine.specs.Renders.{forgetting, is_cut};
@@ -7,7 +8,7 @@ use tm_parts::Halt;
 use tm_state::StateData;
 use tm_values::{Error, ErrorKind};
 
-/// Whether a kind may stand before a fault of something else.
+/// Whether errors of this kind can wrap another fault.
 fn is_wrapping(kind: ErrorKind) -> bool
     ensures { result ≡ is_wrapping kind }
 {
@@ -17,7 +18,7 @@ fn is_wrapping(kind: ErrorKind) -> bool
     )
 }
 
-/// Whether an error is OutOfMemory, after kinds alone that may stand before it.
+/// Whether an error is OutOfMemory, directly or as the cause of kinds that only wrap.
 fn is_want_of_memory(error: &Error) -> bool
     ensures { result ≡ is_want_of_memory error.now }
 {
@@ -34,7 +35,7 @@ fn is_want_of_memory(error: &Error) -> bool
     matches!(kind, ErrorKind::OutOfMemory)
 }
 
-/// Gives the fault of a call. If it is for want of memory, the loops of the state are forgotten.
+/// Passes on the fault of a call. If memory ran out, the state forgets its loops.
 pub(crate) fn faulted(state: &mut StateData, error: Error) -> Error
     ensures same { result ≡ error }
     ensures state { state.new ≡ forgetting (is_want_of_memory error) state.old }
@@ -45,7 +46,7 @@ pub(crate) fn faulted(state: &mut StateData, error: Error) -> Error
     error
 }
 
-/// Gives why a run halted. If it was cut short, the loops of the state are forgotten.
+/// Passes on why a run halted. If it was cut short, the state forgets its loops.
 pub(crate) fn halted(state: &mut StateData, halt: Halt) -> Halt
     ensures same { result ≡ halt }
     ensures state { state.new ≡ forgetting (is_cut halt) state.old }

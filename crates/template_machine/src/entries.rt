@@ -1,4 +1,4 @@
-//! The templates and the globals of an environment, in the order of their names.
+//! The templates and globals of an environment, ordered by name.
 ghost use Rattle.std.specs.Iterator.{item_count, YieldsFirstBy};
 ghost use Rattle.std.specs.Prelude.{◌≡◌};
 ghost use Rattle.template_machine.specs.Environment.{entries_of};
@@ -9,7 +9,8 @@ use std::marker::Model;
 use tm_templates::GlobalMap;
 use tm_values::Value;
 
-/// The templates of an environment with their names, in the order of the names. A contract sees those that are left.
+/// An iterator over the templates of an environment, with their names and in the order of these. A
+/// contract sees those that are left.
 #[derive(Drop)]
 pub struct TemplatesOf<'env, 'source, O: Drop> {
     environment: &'env EnvironmentOf<'source, O>,
@@ -36,7 +37,7 @@ impl<'env, 'source, O: Drop> Model for TemplatesOf<'env, 'source, O> {
 }
 
 impl<'env, 'source, O: Drop> TemplatesOf<'env, 'source, O> {
-    /// All templates of an environment.
+    /// All templates of `environment`.
     pub(crate) fn new(environment: &'env EnvironmentOf<'source, O>) -> TemplatesOf<'env, 'source, O>
         ensures { result ≡ entries_of environment.entry.now }
     {
@@ -67,7 +68,8 @@ impl<'env, 'source, O: Drop> Iterator for TemplatesOf<'env, 'source, O> {
     }
 }
 
-/// The globals of an environment with their values, in the order of their names. A contract sees those that are left.
+/// An iterator over the globals of an environment, with their names and in the order of these. A
+/// contract sees those that are left.
 #[derive(Drop)]
 pub struct Globals<'env> {
     globals: &'env GlobalMap,
@@ -88,7 +90,7 @@ impl<'env> Model for Globals<'env> {
 }
 
 impl<'env> Globals<'env> {
-    /// All of these globals.
+    /// All of `globals`.
     pub(crate) fn new(globals: &'env GlobalMap) -> Globals<'env>
         ensures { result ≡ globals.entry.now }
     {

@@ -27,10 +27,10 @@ use tm_tables::{
 use tm_templates::{CompiledTemplate, EscapeSetting, GlobalMap, Source, Templates};
 use tm_values::{Error, ErrorKind, UndefinedBehavior, Value};
 
-/// How deep scopes may lie at most.
+/// The greatest depth of scopes that can be set.
 const GREATEST_LIMIT: usize = 500;
 
-/// The name of the template of a state that is of none.
+/// The name for states without a template.
 const UNKNOWN: &str = "<unknown>";
 
 /// Templates by name, the caller's objects, and the settings of renders.
@@ -45,7 +45,8 @@ pub struct EnvironmentOf<'source, O: Drop> {
     limit: usize,
 }
 
-// By hand, so that the crates above need no proof of their own that all of it can be dropped.
+// Written by hand, so that the crates above need no proof of their own that all of it can be
+// dropped.
 impl<O: Drop> Drop for EnvironmentOf<'_, O> {
     fn drop(self) {
         let EnvironmentOf {
@@ -61,7 +62,7 @@ impl<O: Drop> Drop for EnvironmentOf<'_, O> {
     }
 }
 
-/// The objects of a program: each is boxed.
+/// The objects of a program, each boxed.
 pub type BoxedObjects = Objects<
     Box<dyn Callable>,
     Box<dyn MethodFallback>,
@@ -70,7 +71,7 @@ pub type BoxedObjects = Objects<
     Box<dyn PathJoin>,
 >;
 
-/// The environment of a program: its objects are boxed.
+/// The environment of a program, with boxed objects.
 pub type Environment<'source> = EnvironmentOf<'source, BoxedObjects>;
 
 impl<'source, O: Drop> Model for EnvironmentOf<'source, O> {
@@ -96,7 +97,7 @@ impl<'source, O: Drop> Model for EnvironmentOf<'source, O> {
 }
 
 impl<'source, O: Drop> EnvironmentOf<'source, O> {
-    /// The template of a name; TemplateNotFound where there is none.
+    /// The template named `name`; TemplateNotFound if there is none.
     pub fn get_template(&self, name: &str) -> Result<TemplateOf<'_, 'source, O>, Error>
         ensures { MatchResult result (IsEntryOf self.now name.now)
             (λ e. (e ≡ ErrorKind.TemplateNotFound ∷ [])
@@ -111,7 +112,7 @@ impl<'source, O: Drop> EnvironmentOf<'source, O> {
         }
     }
 
-    /// Drops the template of a name, if there is one; other names keep theirs.
+    /// Removes the template named `name`, if there is one.
     pub fn remove_template(&mut self, name: &str)
         ensures rest { self.new ≡ record self.old { templates = without name.now self.old.templates } }
         ensures absent { find name.now self.old.templates ≡ None → self.new ≡ self.old }
@@ -122,14 +123,14 @@ impl<'source, O: Drop> EnvironmentOf<'source, O> {
         self.templates.remove(name);
     }
 
-    /// Drops all templates.
+    /// Removes all templates.
     pub fn clear_templates(&mut self)
         ensures { self.new ≡ record self.old { templates = [] } }
     {
         self.templates.clear();
     }
 
-    /// The templates with their names, each once, in the order of the names. This takes no memory.
+    /// The templates with their names, each once, in the order of the names. Allocates nothing.
     pub fn templates(&self) -> TemplatesOf<'_, 'source, O>
         ensures entries { result ≡ entries_of self.now }
         ensures order { AreOrdered self.now.templates }
@@ -138,64 +139,65 @@ impl<'source, O: Drop> EnvironmentOf<'source, O> {
         TemplatesOf::new(self)
     }
 
-    /// Sets the fuel of each later render; none is the greatest u64.
+    /// Sets the fuel of each later render; None means `u64::MAX`.
     pub fn set_fuel(&mut self, fuel: Option<u64>)
         ensures { self.new ≡ record self.old { fuel = fuel } }
     {
         self.fuel = fuel;
     }
 
-    /// The fuel that is set.
+    /// The fuel that is set, if any.
     pub fn fuel(&self) -> Option<u64>
         ensures { result ≡ self.now.fuel }
     {
         self.fuel
     }
 
-    /// Sets how deep scopes may lie in each later render, at most 500.
+    /// Sets the greatest depth of scopes in each later render, at most 500.
     pub fn set_recursion_limit(&mut self, limit: usize)
         ensures { self.new ≡ record self.old { limit = min limit greatest_limit } }
     {
         self.limit = limit.min(GREATEST_LIMIT);
     }
 
-    /// How deep scopes may lie.
+    /// The greatest depth of scopes.
     pub fn recursion_limit(&self) -> usize
         ensures { result ≡ self.now.limit }
     {
         self.limit
     }
 
-    /// Sets what is done with undefined values in each later render.
+    /// Sets how undefined values behave in each later render.
     pub fn set_undefined_behavior(&mut self, behavior: UndefinedBehavior)
         ensures { self.new ≡ record self.old { undefined = behavior } }
     {
         self.undefined = behavior;
     }
 
-    /// What is done with undefined values.
+    /// How undefined values behave.
     pub fn undefined_behavior(&self) -> UndefinedBehavior
         ensures { result ≡ self.now.undefined }
     {
         self.undefined
     }
 
-    /// Sets the delimiters of templates that are compiled from now on; those that are there stay as they are.
+    /// Sets the delimiters for templates that are compiled from now on; compiled templates stay as
+    /// they are.
     pub fn set_syntax(&mut self, syntax: SyntaxConfig)
         ensures { self.new ≡ record self.old { syntax = syntax } }
     {
         self.syntax = syntax;
     }
 
-    /// The delimiters of templates that are compiled from now on.
+    /// The delimiters for templates that are compiled from now on.
     pub fn syntax(&self) -> &SyntaxConfig
         ensures { result.now ≡ self.now.syntax }
     {
         &self.syntax
     }
 
-    /// Makes a value a global: its name stands for it, in place of what stood there, a function too. Where
-    /// there is no memory, OutOfMemory, and the environment stays as it was.
+    /// Binds the global `name` to `value` and replaces an older binding, even that of a function.
+    /// OutOfMemory if memory runs out; then nothing changes.
     pub fn add_global(&mut self, name: &str, value: Value) -> Result<(), Error>
         ensures ok { OnOk result (self.new ≡ with_global name.now value self.old) }
         ensures kind { IfErr result (λ e. e ≡ ErrorKind.OutOfMemory ∷ []) }
@@ -205,8 +207,8 @@ impl<'source, O: Drop> EnvironmentOf<'source, O> {
         self.globals.insert(name, value)
     }
 
-    /// Drops the global of a name, a function's too; the functions keep their numbers. Other names stand for
-    /// what they did, and a name that isn't there changes nothing.
+    /// Removes the global `name`, if there is one, even that of a function; functions keep their
+    /// numbers.
     pub fn remove_global(&mut self, name: &str)
         ensures rest { self.new ≡ record self.old { globals = without name.now self.old.globals } }
         ensures absent { find name.now self.old.globals ≡ None → self.new ≡ self.old }
@@ -217,7 +219,8 @@ impl<'source, O: Drop> EnvironmentOf<'source, O> {
         self.globals.remove(name);
     }
 
-    /// The globals with their values, functions among them, each once, in the order of the names. This takes no memory.
+    /// The globals with their values, including functions, each once, in the order of the names.
+    /// Allocates nothing.
     pub fn globals(&self) -> Globals<'_>
         ensures pairs { result ≡ self.now.globals }
         ensures order { AreOrdered self.now.globals }
@@ -226,7 +229,7 @@ impl<'source, O: Drop> EnvironmentOf<'source, O> {
         Globals::new(&self.globals)
     }
 
-    /// The allocator of what the environment makes.
+    /// The environment's allocator.
     pub(crate) fn allocator(&self) -> Global {
         self.alloc
     }
@@ -245,14 +248,14 @@ impl<'source, O: Drop> EnvironmentOf<'source, O> {
         self.globals.values()
     }
 
-    /// The template of a state that is of none. Fails by OutOfMemory alone.
+    /// The template for states without one. Fails only with OutOfMemory.
     pub(crate) fn unknown(&self) -> Result<CompiledTemplate<'source>, Error>
         ensures { OkOrOutOfMemory result (λ t. t ≡ empty_template (codes "<unknown>")) }
     {
         CompiledTemplate::empty(self.alloc, UNKNOWN)
     }
 
-    /// All that its templates run is accepted; this takes no step.
+    /// Proves that all streams of the templates are accepted; does nothing.
     pub(crate) fn accepted(&self)
         ensures { EachAccepted self.now.templates }
     {
@@ -266,7 +269,8 @@ impl<'source, O: Drop> EnvironmentOf<'source, O> {
         &self.templates
     }
 
-    /// What was compiled under a name, where it was, wherever it stands, with its place and the name that it stands at.
+    /// The template named `name`, if there is one, with its place and the shared name; `place` is
+    /// only a hint.
     #[inline(always)]
     pub(crate) fn find_entry(
         &self,
@@ -280,7 +284,7 @@ impl<'source, O: Drop> EnvironmentOf<'source, O> {
         self.templates.entry(place, name)
     }
 
-    /// What was compiled under a name, where it was, wherever it stands.
+    /// The template named `name`, if there is one; `place` is only a hint.
     #[inline(always)]
     pub(crate) fn find_template(
         &self,
@@ -294,8 +298,9 @@ impl<'source, O: Drop> EnvironmentOf<'source, O> {
 }
 
 impl<'source, O: Parties> EnvironmentOf<'source, O> {
-    /// Compiles a source and puts it at a name, in place of the template that is there. SyntaxError where the
-    /// source spells no template, OutOfMemory where there is no memory; then the environment stays as it was.
+    /// Compiles `source` and adds it as the template `name`, which replaces an older one.
+    /// SyntaxError if the source spells no template, OutOfMemory if memory runs out; then nothing
+    /// changes.
     pub fn add_template(&mut self, name: &str, source: &'source str) -> Result<(), Error>
         ensures ok { OnOk result ((t : Compiled) × IsTemplateOf O.stated self.old name.now source.entry.now t
             × (self.new ≡ record self.old { templates = put name.now t self.old.templates })) }
@@ -305,7 +310,7 @@ impl<'source, O: Parties> EnvironmentOf<'source, O> {
         self.put_template(name, Source::Lent(source))
     }
 
-    /// Compiles a source of its own and puts it at a name, as `add_template` does.
+    /// `add_template` for an owned source.
     pub fn add_template_owned(&mut self, name: &str, source: String) -> Result<(), Error>
         ensures ok { OnOk result ((t : Compiled)
             × IsTemplateOf O.stated self.old name.now (string_bytes source) t
@@ -317,7 +322,7 @@ impl<'source, O: Parties> EnvironmentOf<'source, O> {
         self.put_template(name, source)
     }
 
-    /// Compiles a source under a name, with the escape that is chosen for it.
+    /// Compiles `source` under `name`, with the escape that the environment chooses for it.
     pub(crate) fn compile(
         &self,
         name: &str,
@@ -331,7 +336,7 @@ impl<'source, O: Parties> EnvironmentOf<'source, O> {
         CompiledTemplate::with_escape(self.alloc, name, source, &self.syntax, escape)
     }
 
-    /// Compiles a source and puts it at a name.
+    /// Compiles `source` and adds it as the template `name`.
     fn put_template(&mut self, name: &str, source: Source<'source>) -> Result<(), Error>
         ensures ok { OnOk result ((t : Compiled)
             × IsTemplateOf O.stated self.old name.now (source_bytes source.entry) t
@@ -349,9 +354,9 @@ impl<'source, C: Drop, M: Drop, F: Drop, R: Drop, J: Drop> EnvironmentOf<
     'source,
     Objects<C, M, F, EscapeSetting<R>, J>,
 > {
-    /// An environment with what a template may expect: what it emits is escaped as its name asks
-    /// (`default_auto_escape_callback`), and the functions of the language are the globals of their names; else
-    /// the same as `empty`. Fails by OutOfMemory alone.
+    /// An environment with the usual settings: the escape depends on the template's name
+    /// (`default_auto_escape_callback`), and the functions of the language are globals. Otherwise
+    /// the same as `empty`. Fails only with OutOfMemory.
     pub fn new(
         alloc: Global,
     ) -> Result<EnvironmentOf<'source, Objects<C, M, F, EscapeSetting<R>, J>>, Error>
@@ -365,8 +370,8 @@ impl<'source, C: Drop, M: Drop, F: Drop, R: Drop, J: Drop> EnvironmentOf<
         ))
     }
 
-    /// No templates, the default delimiters, nothing escaped, no functions, lenient undefined values, no fuel
-    /// set, and scopes at most 500 deep.
+    /// An environment without templates, with the default delimiters, no escape, no functions,
+    /// lenient undefined values, no fuel set, and scopes at most 500 deep.
     pub fn empty(alloc: Global) -> EnvironmentOf<'source, Objects<C, M, F, EscapeSetting<R>, J>>
         ensures { result ≡ empty_environment (no_functions EscapeSetting.Never) }
     {
@@ -377,7 +382,7 @@ impl<'source, C: Drop, M: Drop, F: Drop, R: Drop, J: Drop> EnvironmentOf<
         )
     }
 
-    /// The same, with these objects and globals.
+    /// The same with these objects and globals.
     fn with(
         alloc: Global,
         objects: Objects<C, M, F, EscapeSetting<R>, J>,
@@ -397,8 +402,8 @@ impl<'source, C: Drop, M: Drop, F: Drop, R: Drop, J: Drop> EnvironmentOf<
         }
     }
 
-    /// Makes an object a function: it gets the next number, and the global of the name is the function of
-    /// that number. Where there is no memory, OutOfMemory, and the environment stays as it was.
+    /// Adds a function: `object` gets the next number, and the global `name` is bound to the
+    /// function of this number. OutOfMemory if memory runs out; then nothing changes.
     pub fn add_function(&mut self, name: &str, object: C) -> Result<(), Error>
         ensures ok { OnOk result (self.new ≡ with_function name.now object self.old) }
         ensures kind { IfErr result (λ e. e ≡ ErrorKind.OutOfMemory ∷ []) }
@@ -416,8 +421,8 @@ impl<'source, C: Drop, M: Drop, F: Drop, R: Drop, J: Drop> EnvironmentOf<
         Ok(())
     }
 
-    /// Makes an object the filter of a name, in place of what was; templates call it as `a|name(b)`, with a as its
-    /// first argument. Where there is no memory, OutOfMemory, and the environment stays as it was.
+    /// Sets the filter `name` and replaces an older one. Templates call it as `a|name(b)`, with `a`
+    /// as its first argument. OutOfMemory if memory runs out; then nothing changes.
     pub fn add_filter(&mut self, name: &str, object: C) -> Result<(), Error>
         ensures ok { OnOk result
             (self.new ≡ with_objects (with_filter name.now object self.old.objects) self.old) }
@@ -428,16 +433,16 @@ impl<'source, C: Drop, M: Drop, F: Drop, R: Drop, J: Drop> EnvironmentOf<
         self.objects.add_filter(name, object)
     }
 
-    /// Drops the filter of a name, if there is one.
+    /// Removes the filter `name`, if there is one.
     pub fn remove_filter(&mut self, name: &str)
         ensures { self.new ≡ with_objects (without_filter name.now self.old.objects) self.old }
     {
         self.objects.remove_filter(name);
     }
 
-    /// Makes an object the test of a name, in place of what was; templates call it as `a is name(b)`, with a as
-    /// its first argument, and its answer counts by its truth. Where there is no memory, OutOfMemory, and the
-    /// environment stays as it was.
+    /// Sets the test `name` and replaces an older one. Templates call it as `a is name(b)`, with
+    /// `a` as its first argument, and use the truth of its answer. OutOfMemory if memory runs out;
+    /// then nothing changes.
     pub fn add_test(&mut self, name: &str, object: C) -> Result<(), Error>
         ensures ok { OnOk result
             (self.new ≡ with_objects (with_test name.now object self.old.objects) self.old) }
@@ -448,31 +453,31 @@ impl<'source, C: Drop, M: Drop, F: Drop, R: Drop, J: Drop> EnvironmentOf<
         self.objects.add_test(name, object)
     }
 
-    /// Drops the test of a name, if there is one.
+    /// Removes the test `name`, if there is one.
     pub fn remove_test(&mut self, name: &str)
         ensures { self.new ≡ with_objects (without_test name.now self.old.objects) self.old }
     {
         self.objects.remove_test(name);
     }
 
-    /// Lets an object answer where a value has no method of a name, in place of what did; where none does, that is
-    /// UnknownMethod.
+    /// Sets the object that answers for methods that a value lacks, and replaces an older one.
+    /// Without one, calling such a method fails with UnknownMethod.
     pub fn set_unknown_method_callback(&mut self, object: M)
         ensures { self.new ≡ with_objects (with_fallback object self.old.objects) self.old }
     {
         self.objects.set_fallback(object);
     }
 
-    /// Lets a formatter say what emitted values are written as, in place of what did; where none does, the escape
-    /// says it (`escape_formatter`).
+    /// Sets the formatter, which turns emitted values into text, and replaces an older one. Without
+    /// one, the escape decides (`escape_formatter`).
     pub fn set_formatter(&mut self, formatter: F)
         ensures { self.new ≡ with_objects (with_formatter formatter self.old.objects) self.old }
     {
         self.objects.set_formatter(formatter);
     }
 
-    /// Lets a rule choose, by their names, how templates are escaped that are compiled from now on; those that are there
-    /// stay as they are.
+    /// Sets the rule that chooses the escape by a template's name. It applies to templates that are
+    /// compiled from now on; compiled templates stay as they are.
     pub fn set_auto_escape_callback(&mut self, rule: R)
         ensures { self.new ≡ with_objects
             (with_escaping (EscapeSetting.Own rule) self.old.objects) self.old }
@@ -480,8 +485,9 @@ impl<'source, C: Drop, M: Drop, F: Drop, R: Drop, J: Drop> EnvironmentOf<
         self.objects.set_escaping(EscapeSetting::Own(rule));
     }
 
-    /// Lets an object join the names of templates, in place of what did: it says which template a name means where
-    /// another one runs. Where none does, a name means the template of that name.
+    /// Sets the object that joins template names, and replaces an older one: it tells which
+    /// template a name means in the running template. Without one, a name means the template of
+    /// that name.
     pub fn set_path_join_callback(&mut self, object: J)
         ensures { self.new ≡ with_objects (with_joining object self.old.objects) self.old }
     {

@@ -1,4 +1,4 @@
-//! Expressions of an environment.
+//! Expressions in an environment.
 ghost use Rattle.std.specs.BTreeSet.{keys};
 ghost use Rattle.std.specs.Prelude.{◌≡◌, ◌+◌, ◌<◌, [], ◌∷◌, Err, IfOk, IfErr, map as each, string_bytes};
 ghost use Rattle.tm_meaning.specs.declared.stream.TemplateId.TheVariants.{Own};
@@ -15,13 +15,13 @@ use tm_tables::Parties;
 use tm_templates::CompiledTemplate;
 use tm_values::{Error, ErrorKind, Value};
 
-/// A compiled expression of an environment.
+/// A compiled expression in an environment.
 pub struct ExpressionOf<'env, 'source, O: Drop> {
     environment: &'env EnvironmentOf<'source, O>,
     compiled: Box<CompiledTemplate<'source>>,
 }
 
-// By hand, as the environment's.
+// Written by hand, like the environment's.
 impl<O: Drop> Drop for ExpressionOf<'_, '_, O> {
     fn drop(self) {
         let ExpressionOf {
@@ -54,7 +54,7 @@ impl<'env, 'source, O: Drop> Model for ExpressionOf<'env, 'source, O> {
 }
 
 impl<'env, 'source, O: Drop> ExpressionOf<'env, 'source, O> {
-    /// An expression of an environment.
+    /// Binds a compiled expression to its environment.
     pub(crate) fn new(
         environment: &'env EnvironmentOf<'source, O>,
         compiled: Box<CompiledTemplate<'source>>,
@@ -71,8 +71,8 @@ impl<'env, 'source, O: Drop> ExpressionOf<'env, 'source, O> {
         }
     }
 
-    /// The names that the expression reads, each as its text; with what is nested in them, as `a.b.c`, where that is
-    /// asked for. OutOfMemory where there is no memory.
+    /// The names that the expression reads, as texts. If `nested` is true, they include attributes,
+    /// as in `a.b.c`. OutOfMemory if memory runs out.
     pub fn undeclared_variables(&self, nested: bool) -> Result<BTreeSet<String>, Error>
         ensures ok { IfOk result (λ names. each string_bytes (keys names)
             ≡ undeclared_by nested self.now.template.tree) }
@@ -84,9 +84,11 @@ impl<'env, 'source, O: Drop> ExpressionOf<'env, 'source, O> {
 }
 
 impl<'env, 'source, O: Parties> ExpressionOf<'env, 'source, O> {
-    /// The value of the expression over a context value, as the next state of the counter; at any depth but in keys
-    /// its namespaces are maps. InvalidOperation, and nothing runs, where the counter is full, and where a namespace
-    /// in the value holds itself or is another state's; OutOfMemory; else the fault that was meant.
+    /// Evaluates the expression over `context`, in a state with the next number of `ids`.
+    /// Namespaces in the value become maps at any depth, except in keys. InvalidOperation if the
+    /// counter is full, and then nothing runs; InvalidOperation if a namespace in the value
+    /// contains itself or belongs to another state; OutOfMemory; otherwise the fault of the
+    /// evaluation.
     pub fn eval(&self, ids: &mut StateIds, context: Value) -> Result<Value, Error>
         ensures full { ids.old ≡ greatest →
             (result ≡ Err (ErrorKind.InvalidOperation ∷ [])) × (ids.new ≡ ids.old) }

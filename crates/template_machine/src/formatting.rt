@@ -1,4 +1,4 @@
-//! What values are written as where nothing else is said.
+//! How values are written by default.
 ghost use Rattle.std.specs.Prelude.{None};
 ghost use Rattle.tm_meaning.specs.World.{formatted};
 ghost use Rattle.tm_objects.specs.Stated.{IsFormatted};
@@ -8,8 +8,8 @@ use tm_printing::emission_text;
 use tm_tables::View;
 use tm_values::{Error, Value};
 
-/// What a value is emitted as where no formatter is set, under the escape that is seen. InvalidOperation or
-/// BadSerialization where that refuses it; OutOfMemory.
+/// The text of an emitted value without a formatter, under the escape of `view`. InvalidOperation
+/// or BadSerialization if the escape refuses the value; OutOfMemory.
 #[tactic(auto, using(tm_state::proofs::Formatted::by_escape))]
 pub fn escape_formatter(alloc: Global, value: &Value, view: &View<'_>) -> Result<String, Error>
     ensures { IsFormatted result (formatted None value.now view.now) }

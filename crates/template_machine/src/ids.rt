@@ -4,7 +4,7 @@ ghost use Rattle.std.specs.Prelude.{◌≡◌, ◌+◌, ◌-◌, ◌^◌, ◌<�
 use std::marker::Model;
 use tm_values::{Error, ErrorKind};
 
-/// A counter that gives each state a number of its own. A contract sees the next number.
+/// A counter that numbers states, each uniquely. A contract sees the next number.
 #[derive(Drop)]
 pub struct StateIds {
     next: u64,
@@ -37,14 +37,15 @@ impl StateIds {
         StateIds { next: 0 }
     }
 
-    /// A counter whose next number is this, as of one that was kept. With the greatest u64 it is full.
+    /// A counter that continues a saved one at the number `next`. At `u64::MAX` it is full.
     pub fn resume(next: u64) -> StateIds
         ensures { result ≡ next }
     {
         StateIds { next }
     }
 
-    /// The next number, which is never given again. InvalidOperation, and nothing changes, where it is the greatest u64.
+    /// The next number, which is never returned again. InvalidOperation if it is `u64::MAX`; then
+    /// nothing changes.
     pub fn next(&mut self) -> Result<u64, Error>
         ensures { MatchResult result
             (λ id. (id ≡ self.old) × (id < 2 ^ 64 - 1) × (self.new ≡ self.old + 1))

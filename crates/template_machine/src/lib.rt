@@ -1,4 +1,5 @@
-//! Templates in an environment, and their renders. All public names of the project come from here.
+//! Templates in an environment, and how they are rendered. All public names of the project come
+//! from here.
 #![tactic(auto)]
 
 mod cuts;

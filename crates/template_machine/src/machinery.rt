@@ -1,4 +1,4 @@
-//! What trees, code and the parts of states are made of, for those that read or build them.
+//! The parts of trees, code and states, for programs that read or build them.
 pub use tm_items::Boxed;
 pub use tm_meaning::TemplateId;
 pub use tm_shapes::BlockCode;

@@ -1,4 +1,4 @@
-//! What a render runs under.
+//! What a render runs under: an environment and a template.
 ghost use Rattle.std.specs.Prelude.{◌≡◌, [], ◌∷◌, IfErr, IfOk, length};
 ghost use Rattle.tm_state.specs.Answers.{KeepsFixed};
 ghost use Rattle.template_machine.specs.Environment.{IsOfTrees, code, meant, unknown_template};
@@ -24,15 +24,15 @@ use tm_templates::CompiledTemplate;
 use tm_values::{AutoEscape, Error, ErrorKind, UndefinedBehavior, Value};
 use tm_vm::Machine;
 
-/// The template that is rendered, or of which a state is.
+/// The rendered template, or that of a state.
 pub(crate) enum OwnTemplate<'env> {
-    /// One that outlives the state.
+    /// A template that outlives the state.
     Lent(&'env CompiledTemplate<'env>),
-    /// One of the state alone.
+    /// A template that only the state owns.
     Owned(Box<CompiledTemplate<'env>>),
 }
 
-// By hand: one call for each owner, in place of a drop of each part.
+// Written by hand: one drop call per owner instead of dropping each part.
 impl Drop for OwnTemplate<'_> {
     fn drop(self) {
         match self {
@@ -42,7 +42,7 @@ impl Drop for OwnTemplate<'_> {
 }
 
 impl<'env> OwnTemplate<'env> {
-    /// What was compiled.
+    /// The compiled template.
     #[inline(always)]
     fn compiled(&self) -> &CompiledTemplate<'env>
         ensures { result.now ≡ own_template self.now }
@@ -54,7 +54,7 @@ impl<'env> OwnTemplate<'env> {
     }
 }
 
-/// The environment and the template that is rendered: the machine's one party.
+/// The environment and the rendered template: the machine's host.
 #[derive(Drop)]
 pub(crate) struct Rendering<'env, O: Drop> {
     environment: &'env EnvironmentOf<'env, O>,
@@ -83,7 +83,8 @@ impl<'env, O: Drop> Model for Rendering<'env, O> {
 }
 
 impl<'env, O: Drop> Rendering<'env, O> {
-    /// A template that is rendered under an environment, and the name of the entry that it is there.
+    /// A rendering of a template in an environment; `name` is the name of the template's entry
+    /// there, if it is one.
     pub(crate) fn new(
         environment: &'env EnvironmentOf<'env, O>,
         name: Option<&'env Name>,
@@ -102,7 +103,7 @@ impl<'env, O: Drop> Rendering<'env, O> {
         }
     }
 
-    /// What no template runs under. Fails by OutOfMemory alone.
+    /// A rendering without a template. Fails only with OutOfMemory.
     pub(crate) fn unknown(
         environment: &'env EnvironmentOf<'env, O>,
     ) -> Result<Rendering<'env, O>, Error>
@@ -113,7 +114,7 @@ impl<'env, O: Drop> Rendering<'env, O> {
         Ok(Rendering::new(environment, None, OwnTemplate::Owned(owned)))
     }
 
-    /// The allocator of what the environment makes.
+    /// The environment's allocator.
     pub(crate) fn allocator(&self) -> Global {
         self.environment.allocator()
     }
@@ -125,14 +126,14 @@ impl<'env, O: Drop> Rendering<'env, O> {
         self.environment
     }
 
-    /// The template that is meant.
+    /// The template that `template` means.
     fn template(&self, template: &TemplateId) -> &CompiledTemplate<'env>
         ensures { result.now ≡ meant self.now template.now }
     {
         self.template_at(template, NO_PLACE)
     }
 
-    /// The template that is meant, wherever it stands.
+    /// The template that `template` means; `place` is only a hint.
     #[inline(always)]
     fn template_at(&self, template: &TemplateId, place: usize) -> &CompiledTemplate<'env>
         ensures { result.now ≡ meant self.now template.now }
@@ -146,7 +147,7 @@ impl<'env, O: Drop> Rendering<'env, O> {
             .unwrap_or(own)
     }
 
-    /// All that it can run is accepted; this takes no step.
+    /// Proves that all streams that can run are accepted; does nothing.
     pub(crate) fn accepted(&self)
         ensures { (stream : _) → IsAccepted (code self.now stream) }
     {
@@ -154,7 +155,7 @@ impl<'env, O: Drop> Rendering<'env, O> {
         self.own.compiled().accepted();
     }
 
-    /// What the template is in its environment. OutOfMemory where the owners of a name can't be counted.
+    /// The template's id in its environment. OutOfMemory if a reference count overflows.
     fn id(&self) -> Result<TemplateId, Error>
         ensures ok { IfOk result (λ id. id ≡ self.now.id) }
         ensures memory { IfErr result (λ e. e ≡ ErrorKind.OutOfMemory ∷ []) }
@@ -167,7 +168,7 @@ impl<'env, O: Drop> Rendering<'env, O> {
 }
 
 impl<O: Parties> Rendering<'_, O> {
-    /// The state of a number that a render starts from. Fails by OutOfMemory alone.
+    /// The state at the start of a render, with the number `id`. Fails only with OutOfMemory.
     pub(crate) fn state_at(&self, id: u64, context: Value) -> Result<StateData, Error>
         requires { meant self.now self.now.id ≡ self.now.template }
         ensures { OkOrOutOfMemory result (λ s. s ≡ first O.stated self.now id context) }
@@ -188,7 +189,7 @@ impl<O: Parties> Rendering<'_, O> {
         Ok(state)
     }
 
-    /// Where the template stands in its environment, as a hint.
+    /// The template's place in its environment, as a hint.
     fn place(&self) -> usize {
         let Some(name) = self.name else {
             return NO_PLACE;
@@ -199,8 +200,8 @@ impl<O: Parties> Rendering<'_, O> {
         }
     }
 
-    /// Runs the stream that a state names, heard, over captures and a writer, and gives the captures that are left. A run that is
-    /// cut short leaves no loops.
+    /// Runs the state's stream, heard, with these captures and this writer, and returns the
+    /// remaining captures. If the run is cut short, the state forgets its loops.
     pub(crate) fn run<W: Sink>(
         &self,
         state: &mut StateData,
@@ -235,7 +236,8 @@ impl<O: Parties> Rendering<'_, O> {
         }
     }
 
-    /// The value of the expression whose stream a state names, with its namespaces as maps. The state is left as the run leaves it.
+    /// The value of the expression that is the state's stream, with its namespaces as maps. The
+    /// state stays as the run left it.
     pub(crate) fn evaluate(&self, state: &mut StateData) -> Result<Value, Error>
         ensures evaluated { IsOfTrees self.now →
             Evaluated (value_meant O.stated self.now state.old) result }

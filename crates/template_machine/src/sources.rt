@@ -1,4 +1,4 @@
-//! Templates and expressions that the environment doesn't keep, and states of no template.
+//! Templates and expressions outside the environment, and states without a template.
 ghost use Rattle.std.specs.Prelude.{◌≡◌, ◌+◌, ◌<◌, [], ◌∷◌, codes, IfOk, IfErr};
 ghost use Rattle.tm_templates.specs.Templates.{IsRefused, IsRefusedExpression};
 ghost use Rattle.tm_meaning.specs.declared.stream.TemplateId.TheVariants.{Own};
@@ -18,12 +18,12 @@ use tm_tables::Parties;
 use tm_templates::{CompiledTemplate, Source};
 use tm_values::{Error, ErrorKind, Value};
 
-/// The name of a template that was given none.
+/// The name of a template that has none.
 const UNNAMED: &str = "<string>";
 
 impl<'source, O: Parties> EnvironmentOf<'source, O> {
-    /// The template of a source, which the environment doesn't keep, under the name `<string>`. SyntaxError
-    /// where the source spells no template, OutOfMemory where there is no memory.
+    /// Compiles `source` under the name `<string>`, without adding it to the environment.
+    /// SyntaxError if the source spells no template, OutOfMemory if memory runs out.
     pub fn template_from_str(
         &self,
         source: &'source str,
@@ -34,8 +34,8 @@ impl<'source, O: Parties> EnvironmentOf<'source, O> {
         self.template_from_named_str(UNNAMED, source)
     }
 
-    /// The template of a source, which the environment doesn't keep, under a name. SyntaxError where the
-    /// source spells no template, OutOfMemory where there is no memory.
+    /// Compiles `source` under `name`, without adding it to the environment. SyntaxError if the
+    /// source spells no template, OutOfMemory if memory runs out.
     pub fn template_from_named_str(
         &self,
         name: &str,
@@ -49,7 +49,7 @@ impl<'source, O: Parties> EnvironmentOf<'source, O> {
         Ok(TemplateOf::new(self, TemplateRef::Owned(owned)))
     }
 
-    /// A template that was compiled already, which the environment doesn't keep. OutOfMemory.
+    /// A template made of a compiled one, without adding it to the environment. OutOfMemory.
     pub fn template_from_compiled(
         &self,
         compiled: CompiledTemplate<'source>,
@@ -64,8 +64,8 @@ impl<'source, O: Parties> EnvironmentOf<'source, O> {
         Ok(TemplateOf::new(self, TemplateRef::Owned(owned)))
     }
 
-    /// Compiles an expression's source, without delimiters, under the name `<expression>`; nothing that it writes is
-    /// escaped. SyntaxError where the source spells no expression, OutOfMemory.
+    /// Compiles an expression's source, which has no delimiters, under the name `<expression>` and
+    /// without an escape. SyntaxError if the source spells no expression; OutOfMemory.
     pub fn compile_expression(
         &self,
         source: &'source str,
@@ -76,7 +76,7 @@ impl<'source, O: Parties> EnvironmentOf<'source, O> {
         self.expression(Source::Lent(source))
     }
 
-    /// The same of a source that the expression owns.
+    /// `compile_expression` for an owned source.
     pub fn compile_expression_owned(
         &self,
         source: String,
@@ -97,7 +97,7 @@ impl<'source, O: Parties> EnvironmentOf<'source, O> {
         Ok(ExpressionOf::new(self, owned))
     }
 
-    /// Renders a source, which the environment doesn't keep, under the name `<string>`, as `render_named_str` does.
+    /// Renders `source` under the name `<string>`, as `render_named_str` does.
     pub fn render_str(
         &self,
         ids: &mut StateIds,
@@ -114,9 +114,10 @@ impl<'source, O: Parties> EnvironmentOf<'source, O> {
         self.render_named_str(ids, UNNAMED, source, context)
     }
 
-    /// Renders a source, which the environment doesn't keep, under a name, as the next state of the counter.
-    /// SyntaxError where the source spells no template; InvalidOperation, and nothing runs, where the counter
-    /// is full; else as a template's `render`.
+    /// Compiles and renders `source` under `name`, in a state with the next number of `ids` and
+    /// without adding it to the environment. SyntaxError if the source spells no template;
+    /// InvalidOperation if the counter is full, and then nothing runs; otherwise the errors of a
+    /// template's `render`.
     pub fn render_named_str(
         &self,
         ids: &mut StateIds,
@@ -134,8 +135,9 @@ impl<'source, O: Parties> EnvironmentOf<'source, O> {
         template.render(ids, context)
     }
 
-    /// The next state of the counter, of no template: under the name `<unknown>`, without blocks, and nothing is escaped. No
-    /// scope is open. InvalidOperation where the counter is full, OutOfMemory where there is no memory.
+    /// A state without a template, with the next number of `ids`: its name is `<unknown>`, and it
+    /// has no blocks, no escape and no open scope. InvalidOperation if the counter is full,
+    /// OutOfMemory if memory runs out.
     pub fn empty_state(&self, ids: &mut StateIds) -> Result<StateOf<'_, O>, Error>
         ensures full { ids.old ≡ greatest →
             (result ≡ Err (ErrorKind.InvalidOperation ∷ [])) × (ids.new ≡ ids.old) }

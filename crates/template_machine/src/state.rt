@@ -1,4 +1,4 @@
-//! States, and what a render leaves.
+//! States, and the results of renders.
 ghost use Rattle.std.specs.Fn.{FnOnceReturnsAtMut};
 ghost use Rattle.std.specs.List.Sorted.{IsStrictlySortedBy};
 ghost use Rattle.std.specs.Prelude.{◌≡◌, ◌+◌, [], ◌∷◌, Some, IfErr, IfOk, IfSome, Ok, OnErr, OnOk, false, length, string_bytes, true};
@@ -37,14 +37,14 @@ use tm_tables::{Host, NO_PLACE, Parties};
 use tm_values::{AutoEscape, Error, ErrorKind, UndefinedBehavior, Value};
 use tm_vm::{Machine, run_value};
 
-/// The state of a render. A contract sees the template that was rendered, and a world of the definitions. The loops of
-/// which it has a record are of its streams, so that they can be called in each run of it.
+/// The state of a render. A contract sees the rendered template and a world of the definitions. The
+/// loops with a record belong to the state's streams, so that each of its runs can call them.
 pub struct StateOf<'env, O: Drop> {
     rendering: Rendering<'env, O>,
     kept: StateData,
 }
 
-// By hand, as the environment's.
+// Written by hand, like the environment's.
 impl<O: Drop> Drop for StateOf<'_, O> {
     fn drop(self) {
         let StateOf {
@@ -76,7 +76,7 @@ impl<'env, O: Drop> Model for StateOf<'env, O> {
 }
 
 impl<'env, O: Drop> StateOf<'env, O> {
-    /// A state of what a render ran under.
+    /// A state of a rendering.
     pub(crate) fn new(rendering: Rendering<'env, O>, kept: StateData) -> StateOf<'env, O>
         requires { SoundRecords rendering kept }
         ensures { result ≡ record { template = rendering.entry; world = kept } }
@@ -84,21 +84,22 @@ impl<'env, O: Drop> StateOf<'env, O> {
         StateOf { rendering, kept }
     }
 
-    /// The environment that the state is of.
+    /// The state's environment.
     pub fn env(&self) -> &'env EnvironmentOf<'env, O>
         ensures { result.now ≡ self.now.template.environment }
     {
         self.rendering.environment()
     }
 
-    /// What is done with undefined values.
+    /// How undefined values behave.
     pub fn undefined_behavior(&self) -> UndefinedBehavior
         ensures { result ≡ self.now.template.environment.undefined }
     {
         self.env().undefined_behavior()
     }
 
-    /// The fuel consumed and the fuel left, which together are the fuel that was set; none where no fuel was set.
+    /// The fuel consumed and the fuel left, whose sum is the fuel that was set; None if no fuel was
+    /// set.
     pub fn fuel_levels(&self) -> Option<(u64, u64)>
         ensures levels { result ≡ fuel_levels self.now.world }
         ensures sum { IfSome result (λ p. Some (p.0 + p.1) ≡ self.now.world.fuel_set) }
@@ -106,15 +107,15 @@ impl<'env, O: Drop> StateOf<'env, O> {
         self.kept.fuel_levels()
     }
 
-    /// The value that was kept at a name, where there is one.
+    /// The value that is kept under `name`, if any.
     pub fn get_temp(&self, name: &str) -> Option<&Value>
         ensures { IsLent result (find name.now self.now.world.temps) }
     {
         self.kept.get_temp(name)
     }
 
-    /// Keeps a value at a name, and gives the one that was kept there. Where there is no memory, OutOfMemory,
-    /// and the state stays as it was.
+    /// Keeps `value` under `name` and returns the value that was kept there. OutOfMemory if memory
+    /// runs out; then nothing changes.
     pub fn set_temp(&mut self, name: &str, value: Value) -> Result<Option<Value>, Error>
         ensures before { IfOk result (λ before. before ≡ find name.now self.old.world.temps) }
         ensures ok { OnOk result (self.new ≡ with_temp name.now value self.old) }
@@ -125,14 +126,15 @@ impl<'env, O: Drop> StateOf<'env, O> {
         self.kept.set_temp(name, value)
     }
 
-    /// How what is emitted is escaped.
+    /// How output is escaped.
     pub fn auto_escape(&self) -> AutoEscape
         ensures { result ≡ self.now.world.escape }
     {
         self.kept.escape()
     }
 
-    /// The names that the outermost scope exports, in their order: those of its own that don't begin with `_`. Fails by OutOfMemory alone.
+    /// The names that the outermost scope exports, in order: its own names that don't begin with
+    /// `_`. Fails only with OutOfMemory.
     pub fn exports(&self) -> Result<Vec<&str>, Error>
         ensures { OkOrOutOfMemory result
             (λ names. texts_of names.items ≡ exported self.now.world) }
@@ -142,7 +144,7 @@ impl<'env, O: Drop> StateOf<'env, O> {
 }
 
 impl<'env, O: Parties> StateOf<'env, O> {
-    /// The name of the template that runs.
+    /// The name of the running template.
     pub fn name(&self) -> &str
         ensures { result.now ≡ name_of (host_of O.stated self.now.template) self.now.world }
     {
@@ -150,8 +152,9 @@ impl<'env, O: Parties> StateOf<'env, O> {
             .template_name(&self.kept.stream().template, self.kept.template_place())
     }
 
-    /// The template that a name means here: the environment's of the name that is joined to the running template's.
-    /// The fault of what joins them; TemplateNotFound where there is no such template; OutOfMemory.
+    /// The environment's template that `name`, joined with the running template's name, means. The
+    /// fault of the object that joins names; TemplateNotFound if there is no such template;
+    /// OutOfMemory.
     pub fn get_template(&self, name: &str) -> Result<TemplateOf<'env, 'env, O>, Error>
         ensures { IsAnswer result
             (named_template O.stated self.now.template name.now self.now.world) }
@@ -161,8 +164,8 @@ impl<'env, O: Parties> StateOf<'env, O> {
         self.rendering.environment().get_template(joined.as_str())
     }
 
-    /// The value of a name: of the scopes, an inner one's first, else of the globals. InvalidOperation where
-    /// a scope on the way is over a namespace whose record isn't there; OutOfMemory.
+    /// The value that `name` is bound to: in the scopes, innermost first, else among the globals.
+    /// InvalidOperation if the search meets a scope over a namespace without a record; OutOfMemory.
     pub fn lookup(&self, name: &str) -> Result<Option<Value>, Error>
         ensures { IsAnswer result (find_name
             (view_of (host_of O.stated self.now.template) self.now.world) name.now) }
@@ -171,10 +174,11 @@ impl<'env, O: Parties> StateOf<'env, O> {
         self.kept.lookup(&self.rendering, &hashed)
     }
 
-    /// What the filter of a name gives for these values, the first of which is the one that is filtered; what it
-    /// keeps is kept, also where it answers a fault. The name is looked up as it is: UnknownFilter where there is
-    /// none, InvalidOperation for a further call beyond the limit, and the fault of what is called; OutOfMemory.
-    /// However it ends, the state stands where it stood.
+    /// Calls the filter `name`, looked up as written, with `args`; the first of these is the
+    /// filtered value. The values that it keeps are kept even if it answers a fault. UnknownFilter
+    /// if there is no such filter, InvalidOperation for a further call beyond the recursion limit,
+    /// and the fault of the call; OutOfMemory. However it ends, the state's scopes, stream, block
+    /// and escape are as before.
     pub fn apply_filter(&mut self, name: &str, args: &[Value]) -> Result<Value, Error>
         ensures called { IsOfTrees self.old.template → IsMacroCall result
             (called_value O.stated self.old.template
@@ -199,10 +203,11 @@ impl<'env, O: Parties> StateOf<'env, O> {
         self.value_of(called)
     }
 
-    /// Whether what the test of a name answers to these values is true, the first of which is the one that is
-    /// tested; what it keeps is kept, also where it answers a fault. The name is looked up as it is: UnknownTest
-    /// where there is none, InvalidOperation for a further call beyond the limit, and the fault of what is called;
-    /// OutOfMemory. However it ends, the state stands where it stood.
+    /// Calls the test `name`, looked up as written, with `args`, and returns whether its answer is
+    /// true; the first argument is the tested value. The values that it keeps are kept even if it
+    /// answers a fault. UnknownTest if there is no such test, InvalidOperation for a further call
+    /// beyond the recursion limit, and the fault of the call; OutOfMemory. However it ends, the
+    /// state's scopes, stream, block and escape are as before.
     pub fn perform_test(&mut self, name: &str, args: &[Value]) -> Result<bool, Error>
         ensures called { IsOfTrees self.old.template → IsTested result
             (called_value O.stated self.old.template
@@ -228,11 +233,12 @@ impl<'env, O: Parties> StateOf<'env, O> {
         Ok(value.is_true())
     }
 
-    /// The text of what the value of a name gives for these arguments, called as a function: that of a macro, as
-    /// of `m` after `{% macro m() %}`, or of a function. The name is looked up as it is: UnknownFunction where
-    /// there is none, InvalidOperation where its value can't be called, where a macro isn't of this state or its run
-    /// stands too deep, or where the answer can't be printed, and the fault of what is called; OutOfMemory. However
-    /// it ends, the state stands where it stood, and what the call kept is kept.
+    /// Calls the macro or function that `name`, looked up as written, is bound to, and returns the
+    /// text of the result. For example, `m` is bound to a macro after `{% macro m() %}`.
+    /// UnknownFunction if the name isn't bound; InvalidOperation if its value can't be called, if a
+    /// macro belongs to another state or would run too deep, or if the result can't be printed; and
+    /// the fault of the call; OutOfMemory. However it ends, the state's scopes, stream, block and
+    /// escape are as before, and values that the call kept stay kept.
     #[tactic(auto, using(crate::proofs::CallLists::macro_runs_none))]
     pub fn call_macro(&mut self, name: &str, args: &[Value]) -> Result<String, Error>
         ensures called { IsOfTrees self.old.template → IsEmitted result
@@ -259,10 +265,11 @@ impl<'env, O: Parties> StateOf<'env, O> {
         to_text(alloc, &value, &self.kept)
     }
 
-    /// The text of the block of a name, which runs where the state stands, in a scope of its own. UnknownBlock where
-    /// there is none, InvalidOperation where it is required and nothing fills it or its scope would lie deeper than the
-    /// limit, and the fault of its run; OutOfMemory. However it ends, the state stands where it stood, and what the run
-    /// kept is kept.
+    /// Renders the block `name` from the present state, in a scope of its own. UnknownBlock if
+    /// there is no such block, InvalidOperation if it is required and not overridden, or if its
+    /// scope would exceed the depth limit, and the fault of its run; OutOfMemory. However it ends,
+    /// the state's scopes, stream, block and escape are as before, and values that the run kept
+    /// stay kept.
     pub fn render_block(&mut self, name: &str) -> Result<String, Error>
         ensures called { IsOfTrees self.old.template → IsCapturedRun result
             (block_meaning O.stated self.old.template name.now self.old.world) self.new.world }
@@ -281,8 +288,8 @@ impl<'env, O: Parties> StateOf<'env, O> {
         }
     }
 
-    /// Renders the block of a name into a writer, as `render_block` does. WriteFailure where the writer fails or takes
-    /// nothing, and its other errors; then the writer holds a beginning of the text.
+    /// Renders the block `name` into `writer`, as `render_block` does. Also WriteFailure if the
+    /// writer fails or accepts no bytes. After an error the writer has a prefix of the text.
     pub fn render_block_to_write<W: Sink>(
         &mut self,
         name: &str,
@@ -302,8 +309,8 @@ impl<'env, O: Parties> StateOf<'env, O> {
         Ok(())
     }
 
-    /// Runs the block of a name over captures and a writer, puts back what that replaced, and gives the captures that
-    /// are left.
+    /// Runs the block `name` with these captures and this writer, restores what the run replaced,
+    /// and returns the remaining captures.
     fn run_block<W: Sink>(
         &mut self,
         name: &str,
@@ -328,7 +335,8 @@ impl<'env, O: Parties> StateOf<'env, O> {
         result
     }
 
-    /// Enters the block of a name, and gives what is put back after it. As `render_block`, before its run.
+    /// Enters the block `name` and returns what is restored after it. Errors as in `render_block`
+    /// before the block runs.
     fn enter_block(&mut self, name: &str) -> Result<SavedBlock, Error>
         ensures ok { IfOk result (λ saved. IsEntered (block_asked O.stated self.old name.now)
             saved self.old.world self.new.world) }
@@ -344,15 +352,16 @@ impl<'env, O: Parties> StateOf<'env, O> {
         Ok(saved)
     }
 
-    /// The name of the block that runs, where one does.
+    /// The name of the running block, if any.
     pub fn current_block(&self) -> Option<&str>
         ensures { IsLent result self.now.world.block }
     {
         self.kept.current_block()
     }
 
-    /// What a call came to, as a value: the run that it needs is run, and what that replaced is put back after it.
-    /// The run's fault; InvalidOperation for a loop, since none is open; OutOfMemory.
+    /// The value of a call: if the call needs a run, it is run, and what it replaced is restored.
+    /// The run's fault; InvalidOperation for the call of a loop, since no loop is open;
+    /// OutOfMemory.
     fn value_of(&mut self, called: CallResult) -> Result<Value, Error>
         requires { IsStarted called self.old.world }
         ensures called { IsOfTrees self.old.template →
@@ -375,7 +384,8 @@ impl<'env, O: Parties> StateOf<'env, O> {
         }
     }
 
-    /// The text of a run as a value; what it replaced is put back. The run's fault; OutOfMemory.
+    /// The text of a run as a value; what the run replaced is restored. The run's fault;
+    /// OutOfMemory.
     fn value_of_run(&mut self, run: NestedRun) -> Result<Value, Error>
         requires { self.old.world.stream ≡ stream_of (callee_of run.run) }
         ensures called { IsOfTrees self.old.template →
@@ -404,7 +414,7 @@ impl<'env, O: Parties> StateOf<'env, O> {
         run_value(alloc, text, captured.as_str(), self.kept.escape())
     }
 
-    /// Runs what is called from where the state stands, and gives its text. The run's fault, InvalidOperation where
+    /// Runs `run` in the present state and returns its text. The run's fault, InvalidOperation if
     /// there is no such run; OutOfMemory.
     fn run_in_capture(&mut self, run: RunOf) -> Result<String, Error>
         requires { self.old.world.stream ≡ stream_of (callee_of run) }
@@ -426,8 +436,8 @@ impl<'env, O: Parties> StateOf<'env, O> {
         }
     }
 
-    /// Runs what is called over a capture, from where the state stands, and gives the captures that are left.
-    /// InvalidOperation where there is no such run.
+    /// Runs `run` in the present state, with a capture, and returns the remaining captures.
+    /// InvalidOperation if there is no such run.
     fn run_over(&mut self, run: RunOf, captures: Captures) -> Result<Captures, Halt>
         requires fresh { captures ≡ new_capture true ∷ [] }
         requires named { self.old.world.stream ≡ stream_of (callee_of run) }
@@ -465,7 +475,7 @@ impl<'env, O: Parties> StateOf<'env, O> {
         }
     }
 
-    /// Puts data in the place of those that are there.
+    /// Replaces the state's data.
     fn put(&mut self, kept: StateData)
         requires { SoundRecords self.old.template kept }
         ensures { self.new ≡ with_world kept self.old }
@@ -473,8 +483,9 @@ impl<'env, O: Parties> StateOf<'env, O> {
         self.kept = kept;
     }
 
-    /// What a value is emitted as. UndefinedError where it is undefined and the behaviour refuses that, else what the
-    /// formatter answers, where there is one, and else what the escape refuses; OutOfMemory.
+    /// The text of an emitted value. UndefinedError if it is undefined and may not be emitted; then
+    /// the formatter's fault, if there is a formatter, or else the error of the escape;
+    /// OutOfMemory.
     pub fn format(&self, value: &Value) -> Result<String, Error>
         ensures { IsEmitted result
             (emitted (host_of O.stated self.now.template) value.now self.now.world)
@@ -484,8 +495,8 @@ impl<'env, O: Parties> StateOf<'env, O> {
         self.kept.format(alloc, &self.rendering, value)
     }
 
-    /// The names that a look-up finds, of the scopes and of the globals, each once, in their order.
-    /// InvalidOperation where a scope is over a namespace whose record isn't there; OutOfMemory.
+    /// The names that a lookup finds, in the scopes and among the globals, each once, in order.
+    /// InvalidOperation if a scope is over a namespace without a record; OutOfMemory.
     pub fn known_variables(&self) -> Result<Vec<&str>, Error>
         ensures order { IfOk result
             (λ names. IsStrictlySortedBy name_cmp (texts_of names.items)) }
@@ -500,14 +511,14 @@ impl<'env, O: Parties> StateOf<'env, O> {
     }
 }
 
-/// What a render leaves: the text that went to no writer, and the state.
+/// The result of a render: the text that went to no writer, and the state.
 #[derive(Drop)]
 pub struct CapturedOf<S: Drop> {
     output: String,
     state: S,
 }
 
-/// What a program's render leaves.
+/// The result of a program's render.
 pub type Captured<'env> = CapturedOf<State<'env>>;
 
 impl<S: Drop> Model for CapturedOf<S> {
@@ -523,7 +534,7 @@ impl<S: Drop> Model for CapturedOf<S> {
 }
 
 impl<S: Drop> CapturedOf<S> {
-    /// A text and a state.
+    /// A result with this text and state.
     pub(crate) fn new(output: String, state: S) -> CapturedOf<S>
         ensures { result ≡ record { output = string_bytes output; state = state } }
     {
@@ -537,14 +548,14 @@ impl<S: Drop> CapturedOf<S> {
         self.output.as_str()
     }
 
-    /// The state that the render left.
+    /// The state after the render.
     pub fn state(&self) -> &S
         ensures { result.now ≡ self.now.state }
     {
         &self.state
     }
 
-    /// Lets a closure work on the state, and gives what it answers.
+    /// Calls `function` with the state and returns its result.
     pub fn with_state_mut<R, F: FnOnce(&mut S) -> R>(&mut self, function: F) -> R
         requires { F.IsAlwaysCallable function }
         ensures ran { FnOnceReturnsAtMut F.FnOnce function self.old.state result self.new.state }
@@ -561,7 +572,7 @@ impl<S: Drop> CapturedOf<S> {
         output
     }
 
-    /// The text that went to no writer, and the state that the render left, which may be changed from then on.
+    /// The text that went to no writer, and the state after the render.
     pub fn into_parts(self) -> (String, S)
         ensures output { string_bytes result.0 ≡ self.output }
         ensures state { result.1 ≡ self.state }

@@ -1,4 +1,4 @@
-//! Templates of an environment.
+//! Templates in an environment.
 ghost use Rattle.std.specs.BTreeSet.{keys};
 ghost use Rattle.std.specs.Prelude.{◌≡◌, ◌+◌, ◌<◌, [], ◌∷◌, Err, IfOk, IfErr, length, map as each, string_bytes};
 ghost use Rattle.tm_templates.specs.Templates.{undeclared_by};
@@ -22,15 +22,16 @@ use tm_tables::Parties;
 use tm_templates::CompiledTemplate;
 use tm_values::{Error, ErrorKind, Value};
 
-/// A compiled template: the environment's, or one of its own.
+/// A compiled template, borrowed from the environment or owned.
 pub(crate) enum TemplateRef<'env, 'source> {
-    /// The environment's entry of a name.
+    /// The environment's entry of this name.
     Lent(&'env Name, &'env CompiledTemplate<'source>),
-    /// Its own, boxed: whoever owns a template would else have all of its layout in its proof.
+    /// An owned one, boxed: otherwise whoever owns a template would have all of its layout in its
+    /// proof.
     Owned(Box<CompiledTemplate<'source>>),
 }
 
-// By hand: one call for each owner, in place of a drop of each part.
+// Written by hand: one drop call per owner instead of dropping each part.
 impl Drop for TemplateRef<'_, '_> {
     fn drop(self) {
         match self {
@@ -39,13 +40,13 @@ impl Drop for TemplateRef<'_, '_> {
     }
 }
 
-/// A template of an environment.
+/// A template in an environment.
 pub struct TemplateOf<'env, 'source, O: Drop> {
     environment: &'env EnvironmentOf<'source, O>,
     held: TemplateRef<'env, 'source>,
 }
 
-// By hand, as the environment's.
+// Written by hand, like the environment's.
 impl<O: Drop> Drop for TemplateOf<'_, '_, O> {
     fn drop(self) {
         let TemplateOf {
@@ -55,7 +56,7 @@ impl<O: Drop> Drop for TemplateOf<'_, '_, O> {
     }
 }
 
-/// A template of a program's environment.
+/// A template in a program's environment.
 pub type Template<'env, 'source> = TemplateOf<'env, 'source, BoxedObjects>;
 
 impl<'env, 'source, O: Drop> Model for TemplateOf<'env, 'source, O> {
@@ -81,7 +82,7 @@ impl<'env, 'source, O: Drop> Model for TemplateOf<'env, 'source, O> {
 }
 
 impl<'env, 'source, O: Drop> TemplateOf<'env, 'source, O> {
-    /// A template of an environment.
+    /// Binds a compiled template to its environment.
     pub(crate) fn new(
         environment: &'env EnvironmentOf<'source, O>,
         held: TemplateRef<'env, 'source>,
@@ -96,22 +97,22 @@ impl<'env, 'source, O: Drop> TemplateOf<'env, 'source, O> {
         TemplateOf { environment, held }
     }
 
-    /// The name under which it was compiled.
+    /// The template's name.
     pub fn name(&self) -> &str
         ensures { result.now ≡ self.now.template.name }
     {
         self.compiled().name()
     }
 
-    /// The source that it was compiled from.
+    /// The template's source.
     pub fn source(&self) -> &str
         ensures { result.now ≡ self.now.template.source }
     {
         self.compiled().source()
     }
 
-    /// The names that the template reads where no open scope of it has assigned them before, each as its text; with what is
-    /// nested in them, as `a.b.c`, where that is asked for. OutOfMemory where there is no memory.
+    /// The names that the template reads with no earlier assignment in an open scope, as texts. If
+    /// `nested` is true, they include attributes, as in `a.b.c`. OutOfMemory if memory runs out.
     pub fn undeclared_variables(&self, nested: bool) -> Result<BTreeSet<String>, Error>
         ensures ok { IfOk result (λ names. each string_bytes (keys names)
             ≡ undeclared_by nested self.now.template.tree) }
@@ -121,7 +122,7 @@ impl<'env, 'source, O: Drop> TemplateOf<'env, 'source, O> {
             .undeclared_variables(self.environment.allocator(), nested)
     }
 
-    /// What was compiled.
+    /// The compiled template.
     pub(crate) fn compiled(&self) -> &CompiledTemplate<'source>
         ensures { result.now ≡ self.now.template }
     {
@@ -131,7 +132,7 @@ impl<'env, 'source, O: Drop> TemplateOf<'env, 'source, O> {
         }
     }
 
-    /// The name of the entry that it is, where it is one.
+    /// The name of its entry in the environment, if it is an entry.
     fn entry_name(&self) -> Option<&Name>
         ensures { entry_id result ≡ self.now.id }
     {
@@ -141,7 +142,7 @@ impl<'env, 'source, O: Drop> TemplateOf<'env, 'source, O> {
         }
     }
 
-    /// What its renders run under.
+    /// The rendering of this template.
     pub(crate) fn rendering(&self) -> Rendering<'_, O>
         ensures same { result ≡ self.now }
         ensures meant { meant self.now self.now.id ≡ self.now.template }
@@ -152,9 +153,9 @@ impl<'env, 'source, O: Drop> TemplateOf<'env, 'source, O> {
 }
 
 impl<'env, 'source, O: Parties> TemplateOf<'env, 'source, O> {
-    /// Renders the template over a context value, as the next state of the counter, and gives the text.
-    /// InvalidOperation, and nothing runs, where the counter is full; OutOfMemory where there is no memory;
-    /// else the fault that was meant.
+    /// Renders the template over `context`, in a state with the next number of `ids`, and returns
+    /// the text. InvalidOperation if the counter is full, and then nothing runs; OutOfMemory if
+    /// memory runs out; otherwise the fault of the render.
     pub fn render(&self, ids: &mut StateIds, context: Value) -> Result<String, Error>
         ensures full { ids.old ≡ greatest →
             (result ≡ Err (ErrorKind.InvalidOperation ∷ [])) × (ids.new ≡ ids.old) }
@@ -168,7 +169,7 @@ impl<'env, 'source, O: Parties> TemplateOf<'env, 'source, O> {
         self.run_in_capture(&mut state)
     }
 
-    /// Renders the template as `render` does, and gives the text with the state that is left.
+    /// Renders the template as `render` does, and returns the text with the state after the render.
     pub fn render_captured(
         &self,
         ids: &mut StateIds,
@@ -187,9 +188,10 @@ impl<'env, 'source, O: Parties> TemplateOf<'env, 'source, O> {
         Ok(CapturedOf::new(text, StateOf::new(self.rendering(), state)))
     }
 
-    /// Renders the template over a context value, as the next state of the counter, into a writer.
-    /// InvalidOperation, and nothing runs, where the counter is full; WriteFailure where the writer fails or
-    /// takes nothing; OutOfMemory where there is no memory; else the fault that was meant.
+    /// Renders the template over `context`, in a state with the next number of `ids`, into
+    /// `writer`. InvalidOperation if the counter is full, and then nothing runs; WriteFailure if
+    /// the writer fails or accepts no bytes; OutOfMemory if memory runs out; otherwise the fault of
+    /// the render.
     pub fn render_captured_to<W: Sink>(
         &self,
         ids: &mut StateIds,
@@ -214,8 +216,9 @@ impl<'env, 'source, O: Parties> TemplateOf<'env, 'source, O> {
         Ok(CapturedOf::new(String::new(alloc), StateOf::new(self.rendering(), first)))
     }
 
-    /// The next state of the counter, of this template, in which nothing runs: as at the start of a render, but
-    /// without a scope. InvalidOperation where the counter is full, OutOfMemory where there is no memory.
+    /// A state of this template with the next number of `ids`, in which nothing runs: as at the
+    /// start of a render, but without a scope. InvalidOperation if the counter is full, OutOfMemory
+    /// if memory runs out.
     pub fn new_state(&self, ids: &mut StateIds) -> Result<StateOf<'_, O>, Error>
         ensures full { ids.old ≡ greatest →
             (result ≡ Err (ErrorKind.InvalidOperation ∷ [])) × (ids.new ≡ ids.old) }
@@ -229,7 +232,8 @@ impl<'env, 'source, O: Parties> TemplateOf<'env, 'source, O> {
         Ok(StateOf::new(self.rendering(), state))
     }
 
-    /// The state that a render starts from. InvalidOperation where the counter is full, OutOfMemory where there is no memory.
+    /// The state at the start of a render. InvalidOperation if the counter is full, OutOfMemory if
+    /// memory runs out.
     fn first_state(&self, ids: &mut StateIds, context: Value) -> Result<StateData, Error>
         ensures full { ids.old ≡ greatest →
             (result ≡ Err (ErrorKind.InvalidOperation ∷ [])) × (ids.new ≡ ids.old) }
@@ -241,7 +245,7 @@ impl<'env, 'source, O: Parties> TemplateOf<'env, 'source, O> {
         self.rendering().state_at(id, context)
     }
 
-    /// Runs the stream that a state names in a capture, and gives its text.
+    /// Runs the state's stream in a capture and returns its text.
     fn run_in_capture(&self, state: &mut StateData) -> Result<String, Error>
         ensures captured { IsOfTrees self.now →
             IsCapturedRun result (meaning_from O.stated self.now state.old) state.new }
@@ -259,7 +263,8 @@ impl<'env, 'source, O: Parties> TemplateOf<'env, 'source, O> {
         }
     }
 
-    /// Runs the stream that a state names over captures and a writer, and gives the captures that are left.
+    /// Runs the state's stream with these captures and this writer, and returns the remaining
+    /// captures.
     fn run_over<W: Sink>(
         &self,
         state: &mut StateData,

@@ -10,11 +10,11 @@ pub record LayerValue : Type 0 where
   pub template : TemplateId
   pub names : List (List ℕ)
 
--- The names of each one's blocks ascend.
+-- Each template's block names ascend.
 abbrev pub AreAscending : List LayerValue → Type 0
 AreAscending layers = AllByRecursion (λ (l : LayerValue). IsStrictlySortedBy name_cmp l.names) layers
 
--- whether one has a block of a name, and the templates of those that have it
+-- whether a template has a block of the name, and the templates that have it
 abbrev pub has_block : List ℕ → LayerValue → Bool
 has_block x l = is_among x l.names
 
@@ -22,7 +22,7 @@ abbrev pub having : List ℕ → List LayerValue → List TemplateId
 having x [] = []
 having x (l ∷ more) = cond (has_block x l) (l.template ∷ having x more) (having x more)
 
--- The layer whose template stands at a place among those that have a block of a name.
+-- The index of the layer that is n-th among those that have a block of the name.
 abbrev pub IsLayerOf : Option ℕ → List ℕ → ℕ → List LayerValue → Type 0
 IsLayerOf None x n layers = slice_get (having x layers) n ≡ None
 IsLayerOf (Some i) x n layers =

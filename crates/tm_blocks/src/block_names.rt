@@ -12,7 +12,7 @@ use tm_shapes::BlockCode;
 use tm_syntax::{Name, NameMap};
 use tm_values::Error;
 
-/// The names of these blocks, in their order. AllocError when out of memory.
+/// The names of the blocks, in order. AllocError if memory runs out.
 fn names_of(alloc: Global, blocks: &NameMap<BlockCode>) -> Result<Vec<Name>, AllocError>
     ensures { IfOk result (λ names. names.items ≡ keys_of blocks.now) }
 {
@@ -23,7 +23,7 @@ fn names_of(alloc: Global, blocks: &NameMap<BlockCode>) -> Result<Vec<Name>, All
     Ok(names)
 }
 
-/// The names of a template's blocks, in the order of their hashes. A contract sees them in the order of the texts, each
+/// The names of a template's blocks, sorted by hash. A contract sees them sorted by text, each
 /// once.
 #[derive(Drop)]
 pub struct BlockNames {
@@ -44,7 +44,7 @@ impl Model for BlockNames {
 }
 
 impl BlockNames {
-    /// The names of these blocks, which ascend. Fails by OutOfMemory alone.
+    /// The names of `blocks`, in ascending order. Fails only with OutOfMemory.
     pub fn of(alloc: Global, blocks: &NameMap<BlockCode>) -> Result<BlockNames, Error>
         requires { IsStrictlySortedBy name_cmp (keys_of blocks.now) }
         ensures { OkOrOutOfMemory result (λ names. names ≡ keys_of blocks.now) }
@@ -61,14 +61,15 @@ impl BlockNames {
         self.by_hash.as_slice().is_empty()
     }
 
-    /// Whether a name is among them. Compares the hashes of log n names for n names, and seldom more than one text.
+    /// Whether `name` is among them. Compares log n hashes for n names, and seldom more than one
+    /// text.
     pub fn contains(&self, name: &Name) -> bool
         ensures { result ≡ is_among name.now self.now }
     {
         self.by_hash.binary_search(name).is_ok()
     }
 
-    /// The names ascend; this takes no step.
+    /// Proves that the names ascend; does nothing.
     #[inline(always)]
     pub(crate) fn ascend(&self)
         ensures { IsStrictlySortedBy name_cmp self.now }

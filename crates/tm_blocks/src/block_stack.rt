@@ -1,4 +1,4 @@
-//! The block of one name in a chain of templates.
+//! The blocks of one name in a chain of templates.
 ghost use Rattle.std.specs.Prelude.{◌≡◌, ◌<◌, ◌+◌, ◌-◌, ◌↔◌, IsTrue, ℕ, [], ◌∷◌, ◌++◌, length, slice_get, None, Some, MatchOption, IfErr, IfOk, OnErr, OnOk};
 ghost use Rattle.tm_values.specs.Answer.{IsLent, OkOrOutOfMemory, OrStays};
 ghost use Rattle.tm_values.specs.declared.error.ErrorKind.TheVariants.{OutOfMemory};
@@ -8,8 +8,8 @@ use std::marker::Model;
 use tm_meaning::TemplateId;
 use tm_values::Error;
 
-/// The templates that have a block of one name, from child to root, and the place of the one whose block is meant. A
-/// contract sees them with their place.
+/// The templates that have a block of one name, from child to root, and the place of the current
+/// one. A contract sees both.
 #[derive(Drop)]
 pub struct BlockStack {
     templates: Vec<TemplateId>,
@@ -25,7 +25,7 @@ impl Model for BlockStack {
 }
 
 impl BlockStack {
-    /// A template's block alone. Fails by OutOfMemory alone.
+    /// A stack of one template's block. Fails only with OutOfMemory.
     pub fn new(alloc: Global, template: TemplateId) -> Result<BlockStack, Error>
         ensures { OkOrOutOfMemory result
             (λ s. s ≡ record { templates = template ∷ []; place = 0 }) }
@@ -38,14 +38,14 @@ impl BlockStack {
         })
     }
 
-    /// The template whose block is meant, where there is one at the place.
+    /// The current template, if there is one at the place.
     pub fn template(&self) -> Option<&TemplateId>
         ensures { IsLent result (slice_get self.now.templates self.now.place) }
     {
         self.templates.get(self.place)
     }
 
-    /// The place after that one, toward the root, and the template there, where there is one.
+    /// The next place toward the root and its template, if there is one.
     pub fn next(&self) -> Option<(usize, &TemplateId)>
         ensures { MatchOption result (slice_get self.now.templates (self.now.place + 1) ≡ None)
             (λ r. (r.0 ≡ self.now.place + 1)
@@ -61,8 +61,8 @@ impl BlockStack {
         }
     }
 
-    /// Means the block of the next template, toward the root. False where there is none after the present one, and then
-    /// all stays as it was.
+    /// Moves to the next template toward the root. If there is none, nothing changes and the result
+    /// is false.
     pub fn push(&mut self) -> bool
         ensures moved { OrStays result self.old self.new
             (self.new ≡ record self.old { place = self.old.place + 1 }) }
@@ -75,35 +75,35 @@ impl BlockStack {
         true
     }
 
-    /// Means the block of the template before, toward the child; the first one stays.
+    /// Moves to the previous template toward the child; at the first one nothing changes.
     pub fn pop(&mut self)
         ensures { self.new ≡ record self.old { place = self.old.place - 1 } }
     {
         self.place = self.place.saturating_sub(1);
     }
 
-    /// How many templates have the block.
+    /// The number of templates that have the block.
     pub fn len(&self) -> usize
         ensures { result ≡ length self.now.templates }
     {
         self.templates.len()
     }
 
-    /// The place.
+    /// The place of the current template.
     pub fn place(&self) -> usize
         ensures { result ≡ self.now.place }
     {
         self.place
     }
 
-    /// Means the block of the template at a place.
+    /// Makes the template at `place` current.
     pub fn move_to(&mut self, place: usize)
         ensures { self.new ≡ record self.old { place = place } }
     {
         self.place = place;
     }
 
-    /// The same templates and place. AllocError when out of memory.
+    /// A copy. AllocError if memory runs out.
     pub fn copy(&self, alloc: Global) -> Result<BlockStack, AllocError>
         ensures { IfOk result (λ s. s ≡ self.now) }
     {
@@ -117,7 +117,7 @@ impl BlockStack {
         })
     }
 
-    /// One template more at the root's end. Fails by OutOfMemory alone, and then all stays as it was.
+    /// Appends `template` at the root's end. Fails only with OutOfMemory; then nothing changes.
     pub fn append(&mut self, template: TemplateId) -> Result<(), Error>
         ensures ok { OnOk result
             (self.new ≡ record self.old { templates = self.old.templates ++ template ∷ [] }) }

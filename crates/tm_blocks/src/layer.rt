@@ -15,7 +15,7 @@ pub(crate) struct Layer {
     pub names: Rc<BlockNames>,
 }
 
-// By hand: one call for each owner, in place of a drop of each part.
+// Written by hand: one drop call per owner instead of dropping each part.
 impl Drop for Layer {
     fn drop(self) {
         let Layer {
@@ -42,7 +42,7 @@ impl Layer {
         &self.template
     }
 
-    /// Whether it has a block of a name.
+    /// Whether it has a block named `name`.
     #[inline(always)]
     pub(crate) fn has(&self, name: &Name) -> bool
         ensures { result ≡ has_block name.now self.now }
@@ -50,7 +50,7 @@ impl Layer {
         self.names.as_ref().contains(name)
     }
 
-    /// The same template, and an owner more of the names. AllocError where the owners can't be counted.
+    /// Shares the template and the names. AllocError if the reference count overflows.
     pub(crate) fn share(&self) -> Result<Layer, AllocError>
         ensures { IfOk result (λ layer. layer ≡ self.now) }
     {

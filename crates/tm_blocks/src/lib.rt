@@ -1,4 +1,5 @@
-//! The blocks of a chain of templates: their lists by name, their places in these, and the names of what was loaded.
+//! The blocks of a chain of templates: their lists by name, the places in these lists, and the
+//! names of the loaded templates.
 #![tactic(auto)]
 
 mod block_names;

@@ -1,4 +1,5 @@
-//! The lists of blocks that a state has, their places, and the names of the templates that it loaded.
+//! The lists of blocks of a state, its places in them, and the names of the templates that it
+//! loaded.
 ghost use Rattle.std.specs.Prelude.{◌≡◌, ◌+◌, ◌∷◌, ◌++◌, [], slice_get, List, Some, MatchOption, IfErr, IfOk, OnErr, OnOk};
 ghost use Rattle.tm_meaning.specs.Inheritance.{place_in};
 ghost use Rattle.tm_meaning.specs.declared.stream.TemplateId.{TemplateId as Template};
@@ -19,7 +20,7 @@ use tm_scopes::NameTable;
 use tm_syntax::Name;
 use tm_values::{Error, ErrorKind};
 
-/// What is loaded, with an owner more. Fails by OutOfMemory alone.
+/// Moves `loaded` into an Rc. Fails only with OutOfMemory.
 fn shared(alloc: Global, loaded: Loaded) -> Result<Rc<Loaded>, Error>
     ensures { OkOrOutOfMemory result (λ made. made.value ≡ loaded) }
 {
@@ -29,14 +30,15 @@ fn shared(alloc: Global, loaded: Loaded) -> Result<Rc<Loaded>, Error>
     }
 }
 
-/// The lists of blocks by name, the places in them that aren't the child's, and the names of the templates that were
-/// loaded, in order. Copies share the lists and the names, until one of them gets more. A contract sees all three.
+/// The lists of blocks by name, the places in them that differ from the child's, and the names of
+/// the loaded templates, in order. Copies share the lists and the names until one of them adds to
+/// them. A contract sees all three.
 pub struct Lists {
     loaded: Option<Rc<Loaded>>,
     places: NameTable<usize>,
 }
 
-// By hand: one call for each owner, in place of a drop of each part.
+// Written by hand: one drop call per owner instead of dropping each part.
 impl Drop for Lists {
     fn drop(self) {
         let Lists {
@@ -59,7 +61,7 @@ impl Model for Lists {
 }
 
 impl Lists {
-    /// No lists and no names; this takes no memory.
+    /// No lists and no names; allocates nothing.
     pub fn new(alloc: Global) -> Lists
         ensures { result ≡ no_lists }
     {
@@ -69,7 +71,8 @@ impl Lists {
         }
     }
 
-    /// The template at a place of the list of a name, where there is one, and whether it is alone there.
+    /// The template at `place` in the list of `name`, if there is one, and whether the list has no
+    /// other.
     pub fn at(&self, name: &Name, place: usize) -> Option<(&TemplateId, bool)>
         ensures { MatchOption result (listed_at name.now place self.now.blocks ≡ None)
             (λ r. IsListed r.0.now r.1 name.now place self.now.blocks) }
@@ -80,7 +83,8 @@ impl Lists {
         }
     }
 
-    /// The place after this one in the list of a name, toward the root, and the template there, where there is one.
+    /// The place after `place` in the list of `name`, toward the root, and its template, if there
+    /// is one.
     pub fn after(&self, name: &Name, place: usize) -> Option<(usize, &TemplateId)>
         ensures { MatchOption result (listed_at name.now (place + 1) self.now.blocks ≡ None)
             (λ r. (r.0 ≡ place + 1) × ((l : List Template) × (find name.now self.now.blocks ≡ Some l)
@@ -92,7 +96,7 @@ impl Lists {
         }
     }
 
-    /// The place in the list of a name.
+    /// The current place in the list of `name`.
     pub fn place(&self, name: &str) -> usize
         ensures { result ≡ place_in name.now self.now.places }
     {
@@ -102,7 +106,7 @@ impl Lists {
         }
     }
 
-    /// Whether a name was loaded. Makes log n comparisons for n names.
+    /// Whether the template `name` was loaded. Makes log n comparisons for n names.
     pub fn is_loaded(&self, name: &str) -> bool
         ensures { result ≡ is_among name.now self.now.loaded }
     {
@@ -112,7 +116,7 @@ impl Lists {
         }
     }
 
-    /// The places, with this one in the list of a name. Fails by OutOfMemory alone.
+    /// A copy of the places in which the list of `name` has `place`. Fails only with OutOfMemory.
     pub fn places_with(
         &self,
         alloc: Global,
@@ -126,7 +130,7 @@ impl Lists {
         Ok(places)
     }
 
-    /// These are the places from here on; gives those that were.
+    /// Replaces the places and returns the old ones.
     pub fn replace_places(&mut self, places: NameTable<usize>) -> NameTable<usize>
         ensures before { result ≡ self.old.places }
         ensures now { self.new ≡ record self.old { places = places } }
@@ -134,7 +138,7 @@ impl Lists {
         mem::replace(&mut self.places, places)
     }
 
-    /// These are the places from here on, and those that were stand in their place.
+    /// Swaps the places with `places`.
     pub fn swap_places(&mut self, places: &mut NameTable<usize>)
         ensures before { places.new ≡ self.old.places }
         ensures now { self.new ≡ record self.old { places = places.old } }
@@ -142,8 +146,8 @@ impl Lists {
         mem::swap(&mut self.places, places);
     }
 
-    /// A template's blocks of these names stand after those that are there. Fails by OutOfMemory alone, and then all
-    /// stays as it was.
+    /// Appends `template` to the list of each block in `names`. Fails only with OutOfMemory; then
+    /// nothing changes.
     pub fn append(
         &mut self,
         alloc: Global,
@@ -170,7 +174,8 @@ impl Lists {
         Ok(())
     }
 
-    /// The name is loaded from here on. Fails by OutOfMemory alone, and then all stays as it was.
+    /// Records that the template `name` was loaded. Fails only with OutOfMemory; then nothing
+    /// changes.
     pub fn add_loaded(&mut self, alloc: Global, name: Name) -> Result<(), Error>
         ensures ok { OnOk result
             (self.new ≡ record self.old { loaded = self.old.loaded ++ name ∷ [] }) }
@@ -188,8 +193,8 @@ impl Lists {
         Ok(())
     }
 
-    /// The lists of a template's blocks alone, of these names, with no places; the names that were loaded stay. Fails by
-    /// OutOfMemory alone.
+    /// The lists for the blocks of `template` alone, without places; the names of the loaded
+    /// templates stay. Fails only with OutOfMemory.
     #[tactic(auto, using(crate::proofs::Alone::each_alone))]
     pub fn own(
         &self,
@@ -213,7 +218,7 @@ impl Lists {
         Ok(own)
     }
 
-    /// The names that were loaded, without lists and places. Fails by OutOfMemory alone.
+    /// The names of the loaded templates, without lists and places. Fails only with OutOfMemory.
     fn names_alone(&self, alloc: Global) -> Result<Lists, Error>
         ensures { OkOrOutOfMemory result
             (λ alone. alone ≡ record no_lists { loaded = self.now.loaded }) }
@@ -228,7 +233,7 @@ impl Lists {
         })
     }
 
-    /// A copy of what is loaded, which nothing else owns. Fails by OutOfMemory alone.
+    /// A copy of the loaded part, not shared with another state. Fails only with OutOfMemory.
     fn copy_loaded(&self, alloc: Global) -> Result<Loaded, Error>
         ensures { OkOrOutOfMemory result (λ copy. copy ≡ loaded_part self.now) }
     {
@@ -238,7 +243,7 @@ impl Lists {
         }
     }
 
-    /// The same lists and names, which are shared, and a copy of the places. Fails by OutOfMemory alone.
+    /// Shares the lists and names, and copies the places. Fails only with OutOfMemory.
     #[inline(always)]
     pub fn copy(&self, alloc: Global) -> Result<Lists, Error>
         ensures { OkOrOutOfMemory result (λ copy. copy ≡ self.now) }

@@ -1,4 +1,4 @@
-//! What states share of the templates that they loaded.
+//! What states share about the templates that they loaded.
 ghost use Rattle.std.specs.Prelude.{◌≡◌, ◌+◌, ◌∷◌, ◌++◌, [], drop, slice_get, List, Some, MatchOption, IfErr, IfOk, OnErr, OnOk};
 ghost use Rattle.std.specs.List.{list_any};
 ghost use Rattle.tm_syntax.specs.Named.{find};
@@ -19,7 +19,7 @@ use tm_meaning::TemplateId;
 use tm_syntax::Name;
 use tm_values::{Error, ErrorKind};
 
-/// The layer whose template stands at a place of the list of a name.
+/// The index of the layer whose template is at `place` in the list of `name`.
 fn layer_of(layers: &[Layer], name: &Name, place: usize) -> Option<usize>
     ensures { IsLayerOf result name.now place layers.now }
 {
@@ -37,7 +37,8 @@ fn layer_of(layers: &[Layer], name: &Name, place: usize) -> Option<usize>
     None
 }
 
-/// Whether a layer has a block of a name, of those from one on. The root's is asked first, as layouts have most blocks.
+/// Whether one of the layers at `from` or later has a block named `name`. Starts at the root, since
+/// layouts have most blocks.
 fn has_from(layers: &[Layer], from: usize, name: &Name) -> bool
     ensures { result ≡ list_any (has_block name.now) (drop from layers.now) }
 {
@@ -51,7 +52,7 @@ fn has_from(layers: &[Layer], from: usize, name: &Name) -> bool
     false
 }
 
-/// The same layers. AllocError when out of memory.
+/// A copy of the layers. AllocError if memory runs out.
 fn copy_layers(alloc: Global, layers: &[Layer]) -> Result<Vec<Layer>, AllocError>
     ensures { IfOk result (λ copy. copy.items ≡ layers.now) }
 {
@@ -62,7 +63,7 @@ fn copy_layers(alloc: Global, layers: &[Layer]) -> Result<Vec<Layer>, AllocError
     Ok(copy)
 }
 
-/// Names that were loaded, with an owner more. Fails by OutOfMemory alone.
+/// Moves `names` into an Rc. Fails only with OutOfMemory.
 fn shared(alloc: Global, names: LoadedNames) -> Result<Rc<LoadedNames>, Error>
     ensures { OkOrOutOfMemory result (λ made. made.value ≡ names) }
 {
@@ -72,15 +73,15 @@ fn shared(alloc: Global, names: LoadedNames) -> Result<Rc<LoadedNames>, Error>
     }
 }
 
-/// The templates with the names of their blocks, from child to root, and the names of the templates that were loaded,
-/// in order. Copies share the latter, until one of them gets more. A contract sees the lists of the templates by the
-/// names of their blocks, and the latter.
+/// The chain of templates with the names of their blocks, from child to root, and the names of the
+/// loaded templates, in order. Copies share these names until one of them adds a name. A contract
+/// sees for each block name the list of its templates, and the names of the loaded templates.
 pub(crate) struct Loaded {
     layers: Vec<Layer>,
     names: Option<Rc<LoadedNames>>,
 }
 
-// By hand: one call for each owner, in place of a drop of each part.
+// Written by hand: one drop call per owner instead of dropping each part.
 impl Drop for Loaded {
     fn drop(self) {
         let Loaded {
@@ -103,7 +104,7 @@ impl Model for Loaded {
 }
 
 impl Loaded {
-    /// No lists and no names; this takes no memory.
+    /// No lists and no names; allocates nothing.
     pub(crate) fn new(alloc: Global) -> Loaded
         ensures { result ≡ nothing_loaded }
     {
@@ -113,7 +114,8 @@ impl Loaded {
         }
     }
 
-    /// The template at a place of the list of a name, where there is one, and whether it is alone there.
+    /// The template at `place` in the list of `name`, if there is one, and whether the list has no
+    /// other.
     pub(crate) fn at(&self, name: &Name, place: usize) -> Option<(&TemplateId, bool)>
         ensures { MatchOption result (listed_at name.now place self.now.blocks ≡ None)
             (λ r. IsListed r.0.now r.1 name.now place self.now.blocks) }
@@ -127,7 +129,8 @@ impl Loaded {
         }
     }
 
-    /// The place after this one in the list of a name, toward the root, and the template there, where there is one.
+    /// The place after `place` in the list of `name`, toward the root, and its template, if there
+    /// is one.
     pub(crate) fn after(&self, name: &Name, place: usize) -> Option<(usize, &TemplateId)>
         ensures { MatchOption result (listed_at name.now (place + 1) self.now.blocks ≡ None)
             (λ r. (r.0 ≡ place + 1) × ((l : List Template) × (find name.now self.now.blocks ≡ Some l)
@@ -143,7 +146,7 @@ impl Loaded {
         }
     }
 
-    /// Whether a name was loaded. Makes log n comparisons for n names.
+    /// Whether the template `name` was loaded. Makes log n comparisons for n names.
     pub(crate) fn has(&self, name: &str) -> bool
         ensures { result ≡ is_among name.now self.now.names }
     {
@@ -153,8 +156,8 @@ impl Loaded {
         }
     }
 
-    /// A template's blocks of these names stand after those that are there. Fails by OutOfMemory alone, and then all
-    /// stays as it was.
+    /// Appends `template` to the list of each block in `names`. Fails only with OutOfMemory; then
+    /// nothing changes.
     pub(crate) fn append(
         &mut self,
         template: &TemplateId,
@@ -175,7 +178,8 @@ impl Loaded {
         Ok(())
     }
 
-    /// The name is loaded from here on. Fails by OutOfMemory alone, and then all stays as it was.
+    /// Records that the template `name` was loaded. Fails only with OutOfMemory; then nothing
+    /// changes.
     pub(crate) fn add(&mut self, alloc: Global, name: Name) -> Result<(), Error>
         ensures ok { OnOk result
             (self.new ≡ record self.old { names = self.old.names ++ name ∷ [] }) }
@@ -193,7 +197,7 @@ impl Loaded {
         Ok(())
     }
 
-    /// A copy of the names, which nothing else owns. Fails by OutOfMemory alone.
+    /// A copy of the names, not shared with another state. Fails only with OutOfMemory.
     fn copy_names(&self, alloc: Global) -> Result<LoadedNames, Error>
         ensures { OkOrOutOfMemory result (λ copy. copy ≡ self.now.names) }
     {
@@ -203,7 +207,7 @@ impl Loaded {
         }
     }
 
-    /// The same names, which are shared, and no lists. Fails by OutOfMemory alone.
+    /// Shares the names, without lists. Fails only with OutOfMemory.
     pub(crate) fn names_alone(&self, alloc: Global) -> Result<Loaded, Error>
         ensures { OkOrOutOfMemory result (λ copy. copy ≡ record self.now { blocks = [] }) }
     {
@@ -217,7 +221,7 @@ impl Loaded {
         })
     }
 
-    /// The same lists and names. Fails by OutOfMemory alone.
+    /// A copy of the lists that shares the names. Fails only with OutOfMemory.
     pub(crate) fn copy(&self, alloc: Global) -> Result<Loaded, Error>
         ensures { OkOrOutOfMemory result (λ copy. copy ≡ self.now) }
     {

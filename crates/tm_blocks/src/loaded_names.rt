@@ -1,4 +1,4 @@
-//! The names of the templates that were loaded.
+//! The names of the loaded templates.
 ghost use Rattle.std.specs.Prelude.{◌≡◌, ◌∷◌, ◌++◌, [], IfErr, OnErr, OnOk};
 ghost use Rattle.tm_syntax.specs.Names.{is_among};
 ghost use Rattle.tm_values.specs.Answer.{OkOrOutOfMemory};
@@ -10,7 +10,8 @@ use tm_scopes::NameTable;
 use tm_syntax::Name;
 use tm_values::{Error, ErrorKind};
 
-/// The names of the templates that were loaded, in order, and a table of them. A contract sees the names.
+/// The names of the loaded templates, in order, with a table for lookups. A contract sees the
+/// names.
 #[derive(Drop)]
 pub(crate) struct LoadedNames {
     names: Vec<Name>,
@@ -29,7 +30,7 @@ impl Model for LoadedNames {
 }
 
 impl LoadedNames {
-    /// No names; this takes no memory.
+    /// No names; allocates nothing.
     pub(crate) fn new(alloc: Global) -> LoadedNames
         ensures { result ≡ [] }
     {
@@ -39,14 +40,15 @@ impl LoadedNames {
         }
     }
 
-    /// Whether a name was loaded. Makes log n comparisons for n names.
+    /// Whether the template `name` was loaded. Makes log n comparisons for n names.
     pub(crate) fn has(&self, name: &str) -> bool
         ensures { result ≡ is_among name.now self.now }
     {
         self.known.get(name).is_some()
     }
 
-    /// The name is loaded from here on. Fails by OutOfMemory alone, and then all stays as it was.
+    /// Records that the template `name` was loaded. Fails only with OutOfMemory; then nothing
+    /// changes.
     pub(crate) fn add(&mut self, name: Name) -> Result<(), Error>
         ensures ok { OnOk result (self.new ≡ self.old ++ name ∷ []) }
         ensures kind { IfErr result (λ e. e ≡ OutOfMemory ∷ []) }
@@ -61,7 +63,7 @@ impl LoadedNames {
         Ok(())
     }
 
-    /// The same names. Fails by OutOfMemory alone.
+    /// A copy. Fails only with OutOfMemory.
     pub(crate) fn copy(&self, alloc: Global) -> Result<LoadedNames, Error>
         ensures { OkOrOutOfMemory result (λ copy. copy ≡ self.now) }
     {

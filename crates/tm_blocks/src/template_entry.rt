@@ -1,18 +1,18 @@
-//! A template that the environment has.
+//! An entry of the environment's templates.
 use crate::block_names::BlockNames;
 use std::rc::Rc;
 use tm_syntax::Name;
 use tm_values::AutoEscape;
 
-/// A template that the environment has at a name.
+/// A template of the environment.
 #[derive(Drop)]
 pub struct TemplateEntry<'a> {
-    /// The name, which owners share.
+    /// Its name, which is shared.
     pub name: &'a Name,
-    /// How what it emits is escaped.
+    /// How its output is escaped.
     pub escape: AutoEscape,
     /// The names of its blocks, which states share.
     pub blocks: &'a Rc<BlockNames>,
-    /// Where it stands, as a hint for the look-ups of a host.
+    /// Its place, as a hint for the host's lookups.
     pub place: usize,
 }

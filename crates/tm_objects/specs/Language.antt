@@ -6,7 +6,7 @@ use Rattle.tm_meaning.specs.World.{Bindings}
 use Rattle.tm_syntax.specs.Named.{put}
 use Rattle.tm_values.specs.Val.{function}
 
--- Each with its name, at the place of its number.
+-- Each function with its name, at the index of its number.
 abbrev pub language : List (List ℕ × GlobalFunction)
 language =
     (codes "range", own.Range)
@@ -14,11 +14,11 @@ language =
     ∷ (codes "namespace", own.Namespace)
     ∷ []
 
--- these names are those of the functions from a number on
+-- binds each function's name to its number, counted from n
 abbrev pub named_from : ℕ → List (List ℕ × GlobalFunction) → Bindings → Bindings
 named_from n [] names = names
 named_from n (f ∷ fs) names = named_from (suc n) fs (put f.0 (function n) names)
 
--- the functions of the language by their names
+-- the language's functions by name
 abbrev pub language_globals : Bindings
 language_globals = named_from 0 language []

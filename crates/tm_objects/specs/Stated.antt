@@ -1,4 +1,4 @@
--- What callables answer.
+-- The answers of callables.
 use Rattle.std.specs.Prelude.{◌≡◌, ◌+◌, ℕ, Bool, true, false, List, [], ◌∷◌, ◌++◌, length, map as each, Option, None, Some, option_map}
 use Rattle.std.specs.Prelude.{Result, Ok, Err, String, string_bytes}
 use Rattle.std.specs.declared.alloc.Global.{Global}
@@ -30,7 +30,7 @@ abbrev pub IsFormatted : Result (String Global) (List ErrorKind) → Answer (Lis
 IsFormatted (Ok text) stated = stated ≡ Ok (string_bytes text)
 IsFormatted (Err chain) stated = is_want_of_memory chain ≡ false → stated ≡ Err chain
 
--- What joins the names of templates: the name of the template that a name means, by the name of the template that runs.
+-- A name joined with that of the running template: the name of the template that is meant.
 abbrev pub Join : Type 0
 Join = List ℕ → List ℕ → Answer (List ℕ)
 
@@ -38,12 +38,13 @@ Join = List ℕ → List ℕ → Answer (List ℕ)
 abbrev pub as_written : Join
 as_written name parent = Ok name
 
--- what joins names, where there is one, and else each name as it is written
+-- the join of this object, if there is one; otherwise each name as it is written
 abbrev pub join_of : {J : Type 0} → (J → Join) → Option J → Join
 join_of joins None = as_written
 join_of joins (Some j) = joins j
 
--- what was called is this function: an object of the caller answered as it states
+-- This function was called: an object of the caller gave its stated answer, or a function of the
+-- language is to run.
 abbrev pub IsCalled : Called → Function → List Val → View → Type 0
 IsCalled (called.Answered answer) (callers f) args view = IsStated answer (f args view)
 IsCalled (called.Answered answer) (languages g) args view = ⊥
@@ -54,12 +55,13 @@ IsCalled (called.Language g) (languages h) args view = g ≡ h
 abbrev pub just : Reply → Stated
 just reply = record { temps = []; reply = reply }
 
--- an answer that keeps one value more
+-- an answer that keeps one more value
 abbrev pub keeping : List ℕ → Val → Stated → Stated
 keeping x v stated = record stated { temps = stated.temps ++ (x, v) ∷ [] }
 
--- The functions by number: those of the language first, where they are there, and then the objects of the caller. The filters and the
--- tests by name; the method object and the formatter, where there is one; what chooses escapes; and what joins names, where there is one.
+-- The functions by number: the language's first, if the table has them, and then the caller's. The
+-- filters and tests by name, the method object and the formatter, if set, the rule that chooses
+-- escapes, and the object that joins names, if set.
 pub record Table (C M F R J : Type 0) : Type 0 where
   pub language : Bool
   pub objects : List C
@@ -80,7 +82,7 @@ no_functions escaping = no_objects false escaping
 abbrev pub language_functions : {C M F R J : Type 0} → R → Table C M F R J
 language_functions escaping = no_objects true escaping
 
--- an object more, after all others
+-- one more function, after all others
 abbrev pub with_object : {C M F R J : Type 0} → C → Table C M F R J → Table C M F R J
 with_object object t = record t { objects = t.objects ++ object ∷ [] }
 
@@ -88,7 +90,7 @@ abbrev pub language_count : Bool → ℕ
 language_count false = 0
 language_count true = length language
 
--- an object as the filter or the test of a name, in place of what was; and none of that name
+-- a filter or a test set under a name, or removed
 abbrev pub with_filter : {C M F R J : Type 0} → List ℕ → C → Table C M F R J → Table C M F R J
 with_filter x object t = record t { filters = put x object t.filters }
 
@@ -101,26 +103,26 @@ with_test x object t = record t { tests = put x object t.tests }
 abbrev pub without_test : {C M F R J : Type 0} → List ℕ → Table C M F R J → Table C M F R J
 without_test x t = record t { tests = without x t.tests }
 
--- this method object, or this formatter, in place of what was
+-- the method object set, or the formatter
 abbrev pub with_fallback : {C M F R J : Type 0} → M → Table C M F R J → Table C M F R J
 with_fallback fallback t = record t { fallback = Some fallback }
 
 abbrev pub with_formatter : {C M F R J : Type 0} → F → Table C M F R J → Table C M F R J
 with_formatter formatter t = record t { formatter = Some formatter }
 
--- what chooses escapes from here on
+-- the rule that chooses escapes set
 abbrev pub with_escaping : {C M F R J : Type 0} → R → Table C M F R J → Table C M F R J
 with_escaping escaping t = record t { escaping = escaping }
 
--- what joins names from here on
+-- the object that joins names set
 abbrev pub with_joining : {C M F R J : Type 0} → J → Table C M F R J → Table C M F R J
 with_joining joining t = record t { joining = Some joining }
 
--- the number of an object that is added now
+-- the number of the next function that is added
 abbrev pub next_number : {C M F R J : Type 0} → Table C M F R J → ℕ
 next_number t = language_count t.language + length t.objects
 
--- what callables are to the machine, by what they answer
+-- the machine's view of callables, from their answers
 abbrev pub callables : {C : Type 0} → (C → Object) → List C → List Function
 callables answers cs = each (λ c. callers (answers c)) cs
 
@@ -131,11 +133,11 @@ after_language true fs = each (λ f. languages f.1) language ++ fs
 abbrev pub functions_of : {C M F R J : Type 0} → (C → Object) → Table C M F R J → List Function
 functions_of answers t = after_language t.language (callables answers t.objects)
 
--- what callables by name are
+-- the same for callables by name
 abbrev pub named_objects : {C : Type 0} → (C → Object) → Named C → Named Object
 named_objects {C = C} answers cs = each (λ (c : List ℕ × C). (c.0, answers c.1)) cs
 
--- All that the objects of an environment are to the machine.
+-- All that the machine sees of an environment's objects.
 pub record StatedObjects : Type 0 where
   pub functions : List Function
   pub filters : Named Object
@@ -158,7 +160,7 @@ stated_of answers falls formats rules joins t = record {
   join = join_of joins t.joining;
 }
 
--- the functions of the language, these escapes, names as they are written, and no object of the caller
+-- the language's functions, these escapes, names as they are written, and no object of the caller
 abbrev pub language_alone : (List ℕ → AutoEscape) → StatedObjects
 language_alone escapes = record {
   functions = after_language true [];
@@ -170,12 +172,12 @@ language_alone escapes = record {
   join = as_written;
 }
 
--- An object answered as it states; none did where there is none.
+-- An object gave its stated answer, or there is no object and no answer.
 abbrev pub IsNamedAnswer : Option Stated → Option Object → List Val → View → Type 0
 IsNamedAnswer None found args view = found ≡ None
 IsNamedAnswer (Some answer) found args view = (f : Object) × (found ≡ Some f) × IsStated answer (f args view)
 
--- The formatter answered as it states; none did where there is none.
+-- The formatter gave its stated answer, or there is no formatter and no answer.
 abbrev pub IsFormatterAnswer : Option (Result (String Global) (List ErrorKind)) → Option Format → Val → View → Type 0
 IsFormatterAnswer None found v view = found ≡ None
 IsFormatterAnswer (Some answer) found v view = (f : Format) × (found ≡ Some f) × IsFormatted answer (f v view)

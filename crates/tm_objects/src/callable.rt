@@ -1,4 +1,4 @@
-//! What callables of the caller answer.
+//! What the caller's callables answer.
 ghost use Rattle.std.specs.Prelude.{◌≡◌, ◌++◌, [], ◌∷◌, List, OnOk, IfErr};
 ghost use Rattle.tm_values.specs.Val.{Val};
 ghost use Rattle.tm_meaning.specs.World.{View as Seen, Stated};
@@ -15,13 +15,13 @@ use tm_meaning::{Call, GlobalFunction, Reply};
 use tm_syntax::Name;
 use tm_values::{Error, Value};
 
-/// What a callable answers: values that the state keeps by name, in order, and its reply. They are kept first, also where the reply is
-/// a fault or a further call.
+/// The answer of a callable: values for the state to keep by name, in order, and a reply. The state
+/// keeps the values first, even if the reply is a fault or a further call.
 #[derive(Drop)]
 pub struct CallableAnswer {
-    /// What is kept.
+    /// The values to keep, by name.
     pub temps: Vec<(Name, Value)>,
-    /// Its reply.
+    /// The reply.
     pub result: Reply,
 }
 
@@ -38,7 +38,7 @@ impl Model for CallableAnswer {
 }
 
 impl CallableAnswer {
-    /// A value, and nothing to keep.
+    /// Replies with a value and keeps nothing.
     pub fn value(alloc: Global, value: Value) -> CallableAnswer
         ensures { result ≡ just (gives value) }
     {
@@ -48,7 +48,7 @@ impl CallableAnswer {
         }
     }
 
-    /// A fault, and nothing to keep.
+    /// Replies with a fault and keeps nothing.
     pub fn fault(alloc: Global, error: Error) -> CallableAnswer
         ensures { result ≡ just (faults error) }
     {
@@ -58,9 +58,9 @@ impl CallableAnswer {
         }
     }
 
-    /// A further call of the filter of a name with these values, and nothing to keep; a fault of OutOfMemory where
-    /// there is no memory for the name. The machine makes the call, one deeper than that which is answered, and its
-    /// end is that of the call which is answered.
+    /// Asks for a further call of the filter `name` with `args` and keeps nothing; a fault of
+    /// OutOfMemory if there is no memory for the name. The machine makes the call one level deeper
+    /// than the answered call, whose result is that of the further call.
     pub fn further_filter(alloc: Global, name: &str, args: Vec<Value>) -> CallableAnswer
         ensures { IsStated result (just (asks_for (further.Filter name.now args.items))) }
     {
@@ -70,8 +70,9 @@ impl CallableAnswer {
         }
     }
 
-    /// A further call of what a name stands for, a macro or a function, with these values, as `further_filter` is
-    /// one of a filter. Its value is the text of what that gives, and not safe.
+    /// Asks for a further call of the macro or function that `name` is bound to, as
+    /// `further_filter` does for a filter. The value of the call is its result as text, not marked
+    /// safe.
     pub fn further_macro(alloc: Global, name: &str, args: Vec<Value>) -> CallableAnswer
         ensures { IsStated result (just (asks_for (further.Macro name.now args.items))) }
     {
@@ -81,8 +82,8 @@ impl CallableAnswer {
         }
     }
 
-    /// A further call of the block of a name, as `further_filter` is one of a filter. Its value is the block's text,
-    /// and not safe.
+    /// Asks for a further call of the block `name`, as `further_filter` does for a filter. The
+    /// value of the call is the block's text, not marked safe.
     pub fn further_block(alloc: Global, name: &str) -> CallableAnswer
         ensures { IsStated result (just (asks_for (further.Block name.now))) }
     {
@@ -92,7 +93,7 @@ impl CallableAnswer {
         }
     }
 
-    /// A further call, and nothing to keep.
+    /// Asks for a further call and keeps nothing.
     fn further(alloc: Global, call: Call) -> CallableAnswer
         ensures { result ≡ just (asks_for call) }
     {
@@ -102,7 +103,8 @@ impl CallableAnswer {
         }
     }
 
-    /// One value more to keep, after the others; a fault of OutOfMemory where there is no memory for it.
+    /// Adds a value to keep under `name`, after the others. The answer becomes a fault of
+    /// OutOfMemory if memory runs out.
     pub fn keep(self, alloc: Global, name: &str, value: Value) -> CallableAnswer
         ensures { IsStated result (keeping name.now value self) }
     {
@@ -117,20 +119,21 @@ impl CallableAnswer {
     }
 }
 
-/// What the function of a number is to a call.
+/// What a call of a function by number finds.
 #[derive(Drop)]
 pub enum Called {
-    /// An object of the caller, which answered.
+    /// An object of the caller, with its answer.
     Answered(CallableAnswer),
-    /// A function of the language, which the machine runs.
+    /// A function of the language, for the machine to run.
     Language(GlobalFunction),
 }
 
-/// An object of the caller that templates call. What it means is a function of its arguments and of what it sees.
+/// An object of the caller that templates call. Its meaning is a function of the arguments and of
+/// the view.
 pub trait Callable: Drop {
     ghost answers: { Self → List Val → Seen → Stated };
 
-    /// What it states of these arguments; OutOfMemory where there is no memory for it, alone or after
+    /// The stated answer for `args`; OutOfMemory if memory runs out, alone or as the cause of
     /// EvalBlock, BadInclude or InvalidOperation.
     fn call(&self, alloc: Global, args: &[Value], view: &View<'_>) -> CallableAnswer
         ensures { IsStated result (answers self.now args.now view.now) };

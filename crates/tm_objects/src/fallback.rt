@@ -1,4 +1,4 @@
-//! What answers where a value has no method of a name.
+//! What answers for methods that a value lacks.
 ghost use Rattle.std.specs.Prelude.{List};
 ghost use Rattle.tm_meaning.specs.World.{Fallback};
 ghost use Rattle.tm_objects.specs.Stated.{IsStated};
@@ -8,13 +8,13 @@ use crate::view::View;
 use std::alloc::Global;
 use tm_values::Value;
 
-/// An object of the caller that answers where a value has no method of a name. What it means is a function of
-/// the value, the name, the arguments and what it sees.
+/// An object of the caller that answers if a value lacks a method. Its meaning is a function of the
+/// value, the method's name, the arguments and the view.
 pub trait MethodFallback: Drop {
     ghost answers: { Self → Fallback };
 
-    /// What it states of a value's method of this name and these arguments; OutOfMemory where there is no memory
-    /// for it, alone or after EvalBlock, BadInclude or InvalidOperation.
+    /// The stated answer for the method `name` of `value` with `args`; OutOfMemory if memory runs
+    /// out, alone or as the cause of EvalBlock, BadInclude or InvalidOperation.
     fn call(
         &self,
         alloc: Global,

@@ -1,4 +1,4 @@
-//! What writes values in place of the default formatter.
+//! What replaces the default formatter.
 ghost use Rattle.std.specs.Prelude.{List};
 ghost use Rattle.tm_meaning.specs.World.{Format};
 ghost use Rattle.tm_objects.specs.Stated.{IsFormatted};
@@ -7,13 +7,13 @@ use crate::view::View;
 use std::alloc::Global;
 use tm_values::{Error, Value};
 
-/// An object of the caller that is asked what an emitted value is written as. What it means is a function of the
-/// value and of what it sees.
+/// An object of the caller that turns an emitted value into text. Its meaning is a function of the
+/// value and of the view.
 pub trait Formatter: Drop {
     ghost formats: { Self → Format };
 
-    /// The text that it states for a value, or the fault that it states; OutOfMemory where there is no memory for
-    /// it, alone or after EvalBlock, BadInclude or InvalidOperation.
+    /// The stated text or fault for `value`; OutOfMemory if memory runs out, alone or as the cause
+    /// of EvalBlock, BadInclude or InvalidOperation.
     fn format(&self, alloc: Global, value: &Value, view: &View<'_>) -> Result<String, Error>
         ensures { IsFormatted result (formats self.now value.now view.now) };
 }

@@ -8,14 +8,14 @@ use tm_meaning::GlobalFunction;
 use tm_syntax::{Name, NameMap};
 use tm_values::{Error, Value};
 
-/// The functions of the language with their names, each at the place of its number.
+/// The language's functions with their names; the index is the function's number.
 pub(crate) const LANGUAGE: [(&str, GlobalFunction); 3] = [
     ("range", GlobalFunction::Range),
     ("dict", GlobalFunction::Dict),
     ("namespace", GlobalFunction::Namespace),
 ];
 
-/// The function of the language that has this number.
+/// The language's function with this number.
 pub(crate) fn language_function(number: usize) -> GlobalFunction
     requires { number < length language }
     ensures { slice_get (map (λ f. f.1) language) number ≡ Some result }
@@ -23,7 +23,7 @@ pub(crate) fn language_function(number: usize) -> GlobalFunction
     LANGUAGE[number].1
 }
 
-/// The name of the function of the language that has this number.
+/// The name of the language's function with this number.
 fn language_name(number: usize) -> &'static str
     requires { number < length language }
     ensures { slice_get (map (λ f. f.0) language) number ≡ Some result.now }
@@ -31,7 +31,8 @@ fn language_name(number: usize) -> &'static str
     LANGUAGE[number].0
 }
 
-/// The functions of the language by number, as the globals of their names. Fails by OutOfMemory alone.
+/// Globals that bind the names of the language's functions to their numbers. Fails only with
+/// OutOfMemory.
 pub fn language_globals(alloc: Global) -> Result<NameMap<Value>, Error>
     ensures { OkOrOutOfMemory result (λ globals. globals ≡ language_globals) }
 {

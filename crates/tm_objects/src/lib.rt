@@ -1,4 +1,5 @@
-//! The objects of the caller: what they see of a state and answer, and what the machine asks of the environment that holds them.
+//! The objects of the caller: what they see of a state and answer, and what the machine asks of the
+//! environment that owns them.
 #![tactic(auto)]
 
 mod callable;

@@ -1,4 +1,4 @@
-//! The functions, filters and tests that templates call, and what stands in for methods and for the formatter.
+//! The functions, filters and tests that templates call, the method object and the formatter.
 ghost use Rattle.std.specs.Prelude.{◌≡◌, ◌<◌, ◌≤◌, ◌^◌, [], ◌∷◌, List, None, OnOk, OnErr, IfErr, IfNone, IfSome};
 ghost use Rattle.std.specs.Prelude.{IsSomeAnd, MatchOption, Ok, Some, false, is_some, length, map, slice_get};
 ghost use Rattle.tm_syntax.specs.Named.{find};
@@ -22,11 +22,12 @@ use tm_scopes::{NO_PLACE, NameTable};
 use tm_syntax::Name;
 use tm_values::{AutoEscape, Error, ErrorKind, Value};
 
-/// All objects of an environment, as one.
+/// All the caller's objects of an environment.
 pub trait Parties: Drop {
     ghost stated: { Self → StatedObjects };
 
-    /// What the function of a number answers, or which one of the language it is; none where there is no such function.
+    /// The answer of the function `number`, or which function of the language it is; None if there
+    /// is no such function.
     fn call_function(
         &self,
         alloc: Global,
@@ -37,10 +38,11 @@ pub trait Parties: Drop {
         ensures { MatchOption (slice_get (stated self.now).functions number) (result ≡ None)
             (λ f. IsSomeAnd result (λ called. IsCalled called f args.now view.now)) };
 
-    /// Where the filter of a name stands, as a hint for `apply_filter`; NO_PLACE where there is none of that name.
+    /// The place of the filter `name`, as a hint for `apply_filter`; NO_PLACE if there is no such
+    /// filter.
     fn filter_place(&self, name: &str) -> usize;
 
-    /// What the filter of a name answers, wherever it stands; none where there is none of that name.
+    /// The answer of the filter `name`; None if there is no such filter. `place` is only a hint.
     fn apply_filter(
         &self,
         alloc: Global,
@@ -52,10 +54,11 @@ pub trait Parties: Drop {
         ensures { IsNamedAnswer result (find name.now (stated self.now).filters)
             args.now view.now };
 
-    /// Where the test of a name stands, as a hint for `perform_test`; NO_PLACE where there is none of that name.
+    /// The place of the test `name`, as a hint for `perform_test`; NO_PLACE if there is no such
+    /// test.
     fn test_place(&self, name: &str) -> usize;
 
-    /// What the test of a name answers, wherever it stands; none where there is none of that name.
+    /// The answer of the test `name`; None if there is no such test. `place` is only a hint.
     fn perform_test(
         &self,
         alloc: Global,
@@ -67,7 +70,8 @@ pub trait Parties: Drop {
         ensures { IsNamedAnswer result (find name.now (stated self.now).tests)
             args.now view.now };
 
-    /// What the method object answers of a value's method of a name; none where there is no such object.
+    /// The method object's answer for the method `name` of `value`; None if there is no method
+    /// object.
     fn call_unknown_method(
         &self,
         alloc: Global,
@@ -83,28 +87,29 @@ pub trait Parties: Drop {
     fn has_formatter(&self) -> bool
         ensures { result ≡ is_some (stated self.now).formatter };
 
-    /// What the formatter answers for a value; none where there is no formatter.
+    /// The formatter's answer for `value`; None if there is no formatter.
     fn format(&self, alloc: Global, value: &Value, view: &View<'_>) -> Option<Result<String, Error>>
         ensures { IsFormatterAnswer result (stated self.now).formatter value.now view.now };
 
-    /// The escape of a template of this name.
+    /// The escape of the template `name`.
     fn escape(&self, name: &str) -> AutoEscape
         ensures { result ≡ (stated self.now).escapes name.now };
 
-    /// Whether something joins the names of templates. Where nothing does, each means the template of that name.
+    /// Whether an object joins template names. Without one, each name means the template of that
+    /// name.
     fn joins_names(&self) -> bool
         ensures { result ≡ false → (name : _) → (parent : _) →
             (stated self.now).join name parent ≡ Ok name };
 
-    /// The name of the template that a name means where a template of the name `parent` runs. The fault of what joins
-    /// them; OutOfMemory.
+    /// The name of the template that `name` means in the template named `parent`. Fails with the
+    /// fault of the object that joins names, or with OutOfMemory.
     fn join(&self, alloc: Global, name: &str, parent: &str) -> Result<Name, Error>
         ensures { IsAnswer result ((stated self.now).join name.now parent.now) };
 }
 
-/// Functions by number, from 0: those of the language, where they are there, and then objects of the caller;
-/// the caller's filters and tests by name; its method object, its formatter and what joins names, where it gave
-/// one; and what chooses escapes.
+/// The objects of an environment: the functions by number, from 0, first the language's, if it has
+/// them, and then the caller's; the caller's filters and tests by name; the method object, the
+/// formatter and the object that joins names, if set; and the rule that chooses escapes.
 pub struct Objects<C: Drop, M: Drop, F: Drop, R: Drop, J: Drop> {
     language: bool,
     functions: Vec<C>,
@@ -116,7 +121,7 @@ pub struct Objects<C: Drop, M: Drop, F: Drop, R: Drop, J: Drop> {
     joining: Option<J>,
 }
 
-// By hand: one call for each owner, in place of a drop of each part.
+// Written by hand: one drop call per owner instead of dropping each part.
 impl<C: Drop, M: Drop, F: Drop, R: Drop, J: Drop> Drop for Objects<C, M, F, R, J> {
     fn drop(self) {
         let Objects {
@@ -153,21 +158,21 @@ impl<C: Drop, M: Drop, F: Drop, R: Drop, J: Drop> Model for Objects<C, M, F, R, 
 }
 
 impl<C: Drop, M: Drop, F: Drop, R: Drop, J: Drop> Objects<C, M, F, R, J> {
-    /// No objects but what chooses escapes.
+    /// No objects but the rule that chooses escapes.
     pub fn new(alloc: Global, escaping: R) -> Objects<C, M, F, R, J>
         ensures { result ≡ no_functions escaping }
     {
         Objects::with(alloc, false, escaping)
     }
 
-    /// The functions of the language, by the numbers of their table, and what chooses escapes.
+    /// The language's functions, by their numbers, and the rule that chooses escapes.
     pub fn of_language(alloc: Global, escaping: R) -> Objects<C, M, F, R, J>
         ensures { result ≡ language_functions escaping }
     {
         Objects::with(alloc, true, escaping)
     }
 
-    /// No objects of the caller, and the functions of the language where they are asked for.
+    /// No objects of the caller; the language's functions if `language` is true.
     fn with(alloc: Global, language: bool, escaping: R) -> Objects<C, M, F, R, J>
         ensures { result ≡ no_objects language escaping }
     {
@@ -183,7 +188,7 @@ impl<C: Drop, M: Drop, F: Drop, R: Drop, J: Drop> Objects<C, M, F, R, J> {
         }
     }
 
-    /// The number of the object that is added next; none where numbers end.
+    /// The number of the next object that is added; None if it overflows.
     pub fn next_number(&self) -> Option<usize>
         ensures some { IfSome result (λ number. number ≡ next_number self.now) }
         ensures none { IfNone result (2 ^ 64 ≤ next_number self.now) }
@@ -192,7 +197,7 @@ impl<C: Drop, M: Drop, F: Drop, R: Drop, J: Drop> Objects<C, M, F, R, J> {
         self.functions.len().checked_add(before)
     }
 
-    /// Gives an object the next number. OutOfMemory where there is no memory, and all stays as it was.
+    /// Adds a function under the next number. OutOfMemory if memory runs out; then nothing changes.
     pub fn add(&mut self, object: C) -> Result<(), Error>
         ensures ok { OnOk result (self.new ≡ with_object object self.old) }
         ensures kind { IfErr result (λ e. e ≡ ErrorKind.OutOfMemory ∷ []) }
@@ -202,7 +207,7 @@ impl<C: Drop, M: Drop, F: Drop, R: Drop, J: Drop> Objects<C, M, F, R, J> {
         Ok(())
     }
 
-    /// Takes the object that was added last.
+    /// Removes and returns the function that was added last.
     pub fn pop(&mut self) -> Option<C>
         ensures { MatchOption result ((self.old.objects ≡ []) × (self.new ≡ self.old))
             (λ object. self.old ≡ with_object object self.new) }
@@ -210,8 +215,8 @@ impl<C: Drop, M: Drop, F: Drop, R: Drop, J: Drop> Objects<C, M, F, R, J> {
         self.functions.pop()
     }
 
-    /// Makes an object the filter of a name, in place of what was. OutOfMemory where there is no memory, and all
-    /// stays as it was.
+    /// Sets the filter `name` and replaces an older one. OutOfMemory if memory runs out; then
+    /// nothing changes.
     pub fn add_filter(&mut self, name: Name, filter: C) -> Result<(), Error>
         ensures ok { OnOk result (self.new ≡ with_filter name filter self.old) }
         ensures kind { IfErr result (λ e. e ≡ ErrorKind.OutOfMemory ∷ []) }
@@ -221,15 +226,15 @@ impl<C: Drop, M: Drop, F: Drop, R: Drop, J: Drop> Objects<C, M, F, R, J> {
         Ok(())
     }
 
-    /// Drops the filter of a name, if there is one.
+    /// Removes the filter `name`, if there is one.
     pub fn remove_filter(&mut self, name: &str)
         ensures { self.new ≡ without_filter name.now self.old }
     {
         let _removed = self.filters.remove(name);
     }
 
-    /// Makes an object the test of a name, in place of what was. OutOfMemory where there is no memory, and all
-    /// stays as it was.
+    /// Sets the test `name` and replaces an older one. OutOfMemory if memory runs out; then nothing
+    /// changes.
     pub fn add_test(&mut self, name: Name, test: C) -> Result<(), Error>
         ensures ok { OnOk result (self.new ≡ with_test name test self.old) }
         ensures kind { IfErr result (λ e. e ≡ ErrorKind.OutOfMemory ∷ []) }
@@ -239,42 +244,43 @@ impl<C: Drop, M: Drop, F: Drop, R: Drop, J: Drop> Objects<C, M, F, R, J> {
         Ok(())
     }
 
-    /// Drops the test of a name, if there is one.
+    /// Removes the test `name`, if there is one.
     pub fn remove_test(&mut self, name: &str)
         ensures { self.new ≡ without_test name.now self.old }
     {
         let _removed = self.tests.remove(name);
     }
 
-    /// Makes an object the one that is asked for unknown methods, in place of what was.
+    /// Sets the method object.
     pub fn set_fallback(&mut self, fallback: M)
         ensures { self.new ≡ with_fallback fallback self.old }
     {
         self.fallback = Some(fallback);
     }
 
-    /// Makes an object the formatter, in place of what was.
+    /// Sets the formatter.
     pub fn set_formatter(&mut self, formatter: F)
         ensures { self.new ≡ with_formatter formatter self.old }
     {
         self.formatter = Some(formatter);
     }
 
-    /// Lets this choose escapes, in place of what did.
+    /// Sets the rule that chooses escapes.
     pub fn set_escaping(&mut self, escaping: R)
         ensures { self.new ≡ with_escaping escaping self.old }
     {
         self.escaping = escaping;
     }
 
-    /// Lets this join the names of templates, in place of what did.
+    /// Sets the object that joins template names.
     pub fn set_joining(&mut self, joining: J)
         ensures { self.new ≡ with_joining joining self.old }
     {
         self.joining = Some(joining);
     }
 
-    /// The object of a place among the caller's, from 0, where there is one.
+    /// The caller's function at index `number`, if there is one; the language's functions don't
+    /// count.
     fn object(&self, number: usize) -> Option<&C>
         ensures { IsLent result (slice_get self.now.objects number) }
     {
@@ -283,7 +289,7 @@ impl<C: Drop, M: Drop, F: Drop, R: Drop, J: Drop> Objects<C, M, F, R, J> {
 }
 
 impl<C: Callable, M: Drop, F: Drop, R: Drop, J: Drop> Objects<C, M, F, R, J> {
-    /// What the object of a place among the caller's answers; none where there is none.
+    /// The answer of the caller's function at index `place`; None if there is none.
     fn answer(&self, alloc: Global, place: usize, args: &[Value], view: &View<'_>) -> Option<Called>
         ensures { MatchOption (slice_get (callables C.answers self.now.objects) place)
             (result ≡ None)
@@ -296,7 +302,7 @@ impl<C: Callable, M: Drop, F: Drop, R: Drop, J: Drop> Objects<C, M, F, R, J> {
     }
 }
 
-/// What the object of a name answers, wherever it stands; none where there is none of that name.
+/// The answer of the object named `name`; None if there is no such object. `place` is only a hint.
 #[inline(always)]
 #[tactic(auto, using(crate::proofs::NamedObjects::stated))]
 fn named_answer<C: Callable>(

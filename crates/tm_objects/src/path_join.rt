@@ -1,4 +1,4 @@
-//! What joins the names of templates.
+//! How template names are joined.
 ghost use Rattle.std.specs.Prelude.{List};
 ghost use Rattle.tm_objects.specs.Stated.{Join};
 ghost use Rattle.tm_values.specs.Answer.{IsAnswer};
@@ -7,13 +7,13 @@ use std::alloc::Global;
 use tm_syntax::Name;
 use tm_values::Error;
 
-/// An object of the caller that says which template a name means. What it means is a function of the name and of
-/// the name of the template that runs.
+/// An object of the caller that says which template a name means. Its meaning is a function of the
+/// name and of the name of the running template.
 pub trait PathJoin: Drop {
     ghost joins: { Self → Join };
 
-    /// The name of the template that a name means where a template of the name `parent` runs, or the fault that it
-    /// states; OutOfMemory where there is no memory for it.
+    /// The name of the template that `name` means in the template named `parent`, or the stated
+    /// fault; OutOfMemory if memory runs out.
     fn join(&self, alloc: Global, name: &str, parent: &str) -> Result<Name, Error>
         ensures { IsAnswer result (joins self.now name.now parent.now) };
 }

@@ -1,4 +1,4 @@
-//! Callables that look at nothing but their arguments.
+//! Callables that see only their arguments.
 ghost use Rattle.std.specs.Prelude.{◌≡◌, List};
 ghost use Rattle.tm_values.specs.Val.{Val};
 ghost use Rattle.tm_meaning.specs.World.{Stated};
@@ -9,24 +9,24 @@ use crate::view::View;
 use std::alloc::Global;
 use tm_values::Value;
 
-/// What answers by its arguments alone.
+/// An object whose answer depends only on the arguments.
 pub trait Answering: Drop {
     ghost answers: { Self → List Val → Stated };
 
-    /// What it states of these arguments; OutOfMemory where there is no memory for it, alone or after
+    /// The stated answer for `args`; OutOfMemory if memory runs out, alone or as the cause of
     /// EvalBlock, BadInclude or InvalidOperation.
     fn answer(&self, alloc: Global, args: &[Value]) -> CallableAnswer
         ensures { IsStated result (answers self.now args.now) };
 }
 
-/// A callable of what answers by its arguments alone.
+/// A callable made of an object whose answer depends only on the arguments.
 #[derive(Drop)]
 pub struct Plain<F: Drop> {
     answering: F,
 }
 
 impl<F: Drop> Plain<F> {
-    /// A callable of this.
+    /// Makes a callable of `answering`.
     pub fn new(answering: F) -> Plain<F>
         ensures { result ≡ record { answering = answering } }
     {

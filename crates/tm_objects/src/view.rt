@@ -10,7 +10,8 @@ use tm_scopes::{Closures, Context, LoopState, following_at, position_at, previou
 use tm_syntax::{Name, NameMap};
 use tm_values::{AutoEscape, Error, LoopPosition, Records, UndefinedBehavior, Value, ValueMap};
 
-/// What an object of the caller sees of a state: its scopes and loops, what was kept, the environment's globals, and what is running.
+/// What an object of the caller sees of a state: its scopes and loops, the kept values, the
+/// environment's globals, and the running template.
 #[derive(Drop)]
 pub struct View<'a> {
     id: u64,
@@ -49,8 +50,9 @@ impl<'a> Model for View<'a> {
 }
 
 impl<'a> View<'a> {
-    /// A view of a state's id, scopes, closures, namespaces and loops, the environment's globals, the kept values, the
-    /// name of the template that runs, and how it is written.
+    /// A view of a state with this id, its scopes, closures, namespaces and loops, the
+    /// environment's globals, the kept values, the running template's name and escape, and the
+    /// behavior of undefined values.
     pub fn new(
         id: u64,
         context: &'a Context,
@@ -89,8 +91,8 @@ impl<'a> View<'a> {
         }
     }
 
-    /// The value of a name: of the scopes, an inner one's first, else of the globals. InvalidOperation where
-    /// a scope on the way is over a namespace whose record isn't there; OutOfMemory.
+    /// The value that `name` is bound to: in the scopes, innermost first, else among the globals.
+    /// InvalidOperation if the search meets a scope over a namespace without a record; OutOfMemory.
     pub fn lookup(&self, name: &str) -> Result<Option<Value>, Error>
         ensures { IsAnswer result (find_name self.now name.now) }
     {
@@ -104,7 +106,7 @@ impl<'a> View<'a> {
         }
     }
 
-    /// The value that was kept at a name, where there is one.
+    /// The value that is kept under `name`, if any.
     pub fn get_temp(&self, name: &str) -> Option<&Value>
         ensures { IsLent result (find name.now self.now.temps) }
     {

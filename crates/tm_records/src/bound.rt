@@ -1,4 +1,4 @@
-//! What the arguments of macros are bound to.
+//! How calls bind the arguments of macros.
 ghost use Rattle.std.specs.Prelude.{◌≡◌, [], IfOk, codes, false, map as each};
 ghost use Rattle.std.specs.Option.{option_copied};
 ghost use Rattle.std.specs.Rc.{rc_str_bytes};
@@ -16,9 +16,9 @@ use std::rc::RcStr;
 use tm_syntax::Name;
 use tm_values::{Error, ErrorKind, MacroValue, Node, Value};
 
-/// The arguments of a macro that is called with `args`, in the vector `room`; a keyword map at the end of `args` gives
-/// some by their names. TooManyArguments if there are too many, if one is given twice, or if one isn't used;
-/// OutOfMemory.
+/// Binds the arguments of the macro `declared` to `args` and returns the values in `room`. A
+/// keyword map at the end of `args` binds arguments by name. TooManyArguments if there are too many
+/// values, if an argument has two, or if one isn't used; OutOfMemory.
 pub fn bind(
     alloc: Global,
     declared: &MacroValue,
@@ -38,7 +38,8 @@ pub fn bind(
     }
 }
 
-/// What each of these names is bound to, of which none is given by its name, in this room.
+/// Binds `names` to the values in `plain`, without keyword arguments, and returns the values in
+/// `room`. TooManyArguments; OutOfMemory.
 fn bind_plain(names: &[RcStr], plain: &[Value], room: Vec<Value>) -> Result<Vec<Value>, Error>
     requires { room.items ≡ [] }
     ensures { BindsTo result (bound (each rc_str_bytes names.now) plain.now []) }
@@ -60,7 +61,8 @@ fn bind_plain(names: &[RcStr], plain: &[Value], room: Vec<Value>) -> Result<Vec<
     Ok(given)
 }
 
-/// What each of these names is bound to, in this room.
+/// Binds `names` to the values in `plain` and `keywords`, and returns the values in `room`.
+/// TooManyArguments; OutOfMemory.
 fn bind_each(
     names: &[RcStr],
     plain: &[Value],
@@ -85,8 +87,8 @@ fn bind_each(
     Ok(given)
 }
 
-/// What one argument is bound to, to which this value is given by its place, where one is. TooManyArguments where it
-/// is given by its name too; OutOfMemory.
+/// The value of the argument `name`: `value` is its positional value, if there is one.
+/// TooManyArguments if `keywords` has the name too; OutOfMemory.
 fn argument(name: &str, value: Option<&Value>, keywords: Option<&Value>) -> Result<Value, Error>
     ensures { IsBound result (argument_of (option_copied value.entry)
         (find_key (text name.now false) (given_in keywords.entry))) }
@@ -103,7 +105,7 @@ fn argument(name: &str, value: Option<&Value>, keywords: Option<&Value>) -> Resu
     }
 }
 
-/// A second owner of a value, or undefined. Fails by OutOfMemory alone.
+/// A shared copy of `value`, or undefined. Fails only with OutOfMemory.
 fn shared_or_undefined(value: Option<&Value>) -> Result<Value, Error>
     ensures { OkOrOutOfMemory result (λ v. v ≡ or_undefined (option_copied value.entry)) }
 {
@@ -113,14 +115,14 @@ fn shared_or_undefined(value: Option<&Value>) -> Result<Value, Error>
     }
 }
 
-/// What a keyword map has at a name, where there is one.
+/// The value of the keyword argument `name`, if there is one.
 fn given_at<'a>(keywords: Option<&'a Value>, name: &str) -> Option<&'a Value>
     ensures { IsLent result (find_key (text name.now false) (given_in keywords.entry)) }
 {
     keywords?.member(name)
 }
 
-/// What is given to `caller`, or undefined. Fails by OutOfMemory alone.
+/// The value of the keyword argument `caller`, or undefined. Fails only with OutOfMemory.
 fn given_caller(args: &[Value]) -> Result<Value, Error>
     ensures { OkOrOutOfMemory result (λ v. v ≡ or_undefined
         (find_key (text (codes "caller") false) (keywords_of args.now))) }
@@ -129,8 +131,8 @@ fn given_caller(args: &[Value]) -> Result<Value, Error>
     shared_or_undefined(given_at(keywords, "caller"))
 }
 
-/// The name `caller` with its value in `args`, if the macro takes it and has no argument of that name. Fails by
-/// OutOfMemory alone.
+/// The name `caller` with its value in `args` if the macro takes a caller and has no argument of
+/// that name. Fails only with OutOfMemory.
 pub fn caller_of(
     alloc: Global,
     declared: &MacroValue,
@@ -146,7 +148,7 @@ pub fn caller_of(
     Ok(Some((name, given_caller(args)?)))
 }
 
-/// The values before a keyword map that stands last, and that map, where one does.
+/// Splits `args` into the positional values and the keyword map, if the last value is one.
 fn split_keywords(args: &[Value]) -> (&[Value], Option<&Value>)
     ensures plain { result.0.now ≡ plain_of args.now }
     ensures keywords { given_in result.1 ≡ keywords_of args.now }
@@ -160,14 +162,14 @@ fn split_keywords(args: &[Value]) -> (&[Value], Option<&Value>)
     }
 }
 
-/// Whether `caller` is given to a macro that doesn't name it among its arguments.
+/// Whether a macro takes `caller` and has no argument of that name.
 fn takes_caller(declared: &MacroValue) -> bool
     ensures { result ≡ takes_caller declared.now }
 {
     declared.takes_caller() && !is_argument(declared.arguments(), "caller")
 }
 
-/// Whether a name is one of these.
+/// Whether `name` is among `names`.
 fn is_argument(names: &[RcStr], name: &str) -> bool
     ensures { result ≡ is_argument name.now (each rc_str_bytes names.now) }
 {
@@ -181,10 +183,10 @@ fn is_argument(names: &[RcStr], name: &str) -> bool
     false
 }
 
-/// How many names are searched one by one.
+/// Up to how many names a linear search is used.
 const FEW: usize = 16;
 
-/// Whether a macro uses each value that a keyword map gives it. Fails by OutOfMemory alone.
+/// Whether the macro uses all keyword arguments. Fails only with OutOfMemory.
 fn all_used(alloc: Global, declared: &MacroValue, keywords: Option<&Value>) -> Result<bool, Error>
     ensures { OkOrOutOfMemory result
         (λ used. used ≡ all_used declared.now (given_in keywords.entry)) }
@@ -200,7 +202,7 @@ fn all_used(alloc: Global, declared: &MacroValue, keywords: Option<&Value>) -> R
     Ok(each_found(declared, &names, pairs))
 }
 
-/// Whether a macro uses each of these values that are given by their keys.
+/// Whether the macro uses all the keyword arguments `pairs`.
 fn each_used(declared: &MacroValue, pairs: &[(Value, Value)]) -> bool
     ensures { result ≡ all_used declared.now pairs.now }
 {
@@ -214,7 +216,7 @@ fn each_used(declared: &MacroValue, pairs: &[(Value, Value)]) -> bool
     true
 }
 
-/// Whether a macro uses what is given under a key, which may be no text.
+/// Whether the macro uses the keyword argument `key`; a key that isn't text counts as used.
 fn is_used(declared: &MacroValue, key: Option<&str>) -> bool
     ensures { result ≡ is_used declared.now (option_copied key.entry) }
 {
@@ -226,7 +228,7 @@ fn is_used(declared: &MacroValue, key: Option<&str>) -> bool
     }
 }
 
-/// These names in their order; AllocError when out of memory.
+/// The names as a set; AllocError if memory runs out.
 fn name_set(alloc: Global, names: &[RcStr]) -> Result<BTreeSet<&str>, AllocError>
     ensures { IfOk result (λ set. HoldsNames set (each rc_str_bytes names.now)) }
 {
@@ -239,7 +241,7 @@ fn name_set(alloc: Global, names: &[RcStr]) -> Result<BTreeSet<&str>, AllocError
     Ok(set)
 }
 
-/// Whether a macro, the names of whose arguments are in a set, uses each of these values that are given by their keys.
+/// `each_used` with the macro's argument names in the set `names`.
 fn each_found<'a>(
     declared: &MacroValue,
     names: &BTreeSet<&'a str>,
@@ -258,7 +260,7 @@ fn each_found<'a>(
     true
 }
 
-/// The same of what is given under a key, which may be no text.
+/// `is_used` with the macro's argument names in the set `names`.
 fn is_found<'a>(declared: &MacroValue, names: &BTreeSet<&'a str>, key: Option<&'a str>) -> bool
     requires { HoldsNames names.now declared.now.arguments }
     ensures { result ≡ is_used declared.now (option_copied key.entry) }

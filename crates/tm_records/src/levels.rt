@@ -1,11 +1,11 @@
-//! How deep runs lie.
+//! The depth of runs.
 ghost use Rattle.std.specs.Prelude.{◌≡◌};
 ghost use Rattle.tm_meaning.specs.Calls.{include_cost};
 
-/// How much deeper a template runs that is included.
+/// How much deeper an included template runs.
 pub const INCLUDE_DEPTH: usize = 10;
 
-/// How many levels a template takes that is included: one more if it is `apart`, in a scope of its own.
+/// The levels of depth that an include costs: one more if it is `apart`, in a scope of its own.
 pub fn include_cost(apart: bool) -> usize
     ensures { result ≡ include_cost apart }
 {

@@ -1,5 +1,6 @@
-//! What a state keeps and what its runs need: the records of namespaces and loops, the streams that declared macros, what calls
-//! lead to, what a run replaces, the arguments that a macro is bound to, and rooms that are used again.
+//! What a state stores and what its runs need: the records of namespaces and loops, the streams
+//! that declared macros, the results of calls, what a run replaces, the bound arguments of macros,
+//! and memory that is used again.
 #![tactic(auto)]
 
 mod bound;

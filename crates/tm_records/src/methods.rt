@@ -1,4 +1,4 @@
-//! What values have as their methods.
+//! The methods of values.
 ghost use Rattle.std.specs.Prelude.{◌≡◌};
 ghost use Rattle.std.specs.Option.{option_copied};
 ghost use Rattle.tm_meaning.specs.Calls.{is_macro_attribute, method_in};
@@ -8,8 +8,8 @@ use std::alloc::Global;
 use tm_operations::attribute;
 use tm_values::{Error, ErrorKind, Node, Records, UndefinedBehavior, Value, find_namespace};
 
-/// What is called as the method `name` of `value`, which is no loop, or None if it has none. InvalidOperation for a
-/// namespace whose record isn't in `records`; OutOfMemory.
+/// The callable that is the method `name` of `value`, or None if it has none; `value` is no loop.
+/// InvalidOperation for a namespace whose record isn't in `records`; OutOfMemory.
 pub fn method_of<R: Records>(
     alloc: Global,
     value: &Value,
@@ -34,14 +34,14 @@ pub fn method_of<R: Records>(
     }
 }
 
-/// Whether a macro has an attribute of a name.
+/// Whether macros have the attribute `name`.
 fn is_macro_attribute(name: &str) -> bool
     ensures { result ≡ is_macro_attribute name.now }
 {
     name == "name" || name == "arguments" || name == "caller"
 }
 
-/// A second owner of a value, if there is one. Fails by OutOfMemory alone.
+/// A shared copy of `value`, if there is one. Fails only with OutOfMemory.
 fn shared(value: Option<&Value>) -> Result<Option<Value>, Error>
     ensures { OkOrOutOfMemory result (λ copy. copy ≡ option_copied value.entry) }
 {

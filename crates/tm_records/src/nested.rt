@@ -1,4 +1,4 @@
-//! A run that is needed before the next instruction.
+//! A run that must finish before the next instruction.
 ghost use Rattle.std.specs.Prelude.{◌≡◌, [], ◌∷◌, IfOk, IfErr, None, true};
 ghost use Rattle.tm_records.specs.declared.saved.Saved.TheVariants.{Macro};
 
@@ -14,29 +14,30 @@ use tm_values::{AutoEscape, Error, ErrorKind, Value};
 pub enum RunOf {
     /// A whole stream.
     Stream(StreamId),
-    /// The macro of a number in a stream, with its arguments.
+    /// The macro with this number in a stream, with its arguments.
     Macro(StreamId, usize, Vec<Value>),
 }
 
-/// A run that is needed before the next instruction.
+/// A run that must finish before the next instruction.
 #[derive(Drop)]
 pub struct NestedRun {
     /// What runs.
     pub run: RunOf,
     /// Whether its text is heard.
     pub heard: bool,
-    /// Whether its text is a value, which waits in the innermost capture, and not put where the run that waits is heard.
+    /// Whether its text becomes a value. If so, it is collected in the innermost capture, and
+    /// otherwise it goes where the waiting run writes.
     pub value: bool,
-    /// What its text is, where that is a value.
+    /// How its text is turned into a value, if it becomes one.
     pub text: RunText,
-    /// The kind that is put before its fault, if one is.
+    /// The error kind that wraps its fault, if any.
     pub wrap: Option<Wrapping>,
-    /// What is put back after it.
+    /// What is restored after it.
     pub saved: Saved,
 }
 
 impl NestedRun {
-    /// Takes what runs; nothing is left that runs.
+    /// Takes the run out and leaves a placeholder.
     #[inline(always)]
     pub fn take_run(&mut self) -> RunOf
         ensures run { result ≡ self.old.run }
@@ -46,7 +47,7 @@ impl NestedRun {
         mem::replace(&mut self.run, RunOf::Stream(own))
     }
 
-    /// What a box for a macro's run holds before one is entered.
+    /// A placeholder for the box of a macro's run.
     pub fn of_no_macro(alloc: Global) -> NestedRun {
         let saved = SavedMacro {
             context: Context::new(alloc),
@@ -65,8 +66,8 @@ impl NestedRun {
         }
     }
 
-    /// Replaces this, which is over, by the run of a macro: it runs `run`, its text is a value, of the form `text`, and
-    /// `saved` is put back after it.
+    /// Reuses this finished run for a macro's run: it runs `run`, its text becomes a value of the
+    /// form `text`, and `saved` is restored after it.
     #[inline(always)]
     pub fn refill(&mut self, run: RunOf, text: RunText, saved: SavedMacro)
         ensures { self.new ≡ record {
@@ -89,7 +90,7 @@ impl NestedRun {
         }
     }
 
-    /// This, boxed. Fails by OutOfMemory alone.
+    /// Moves this into a box. Fails only with OutOfMemory.
     pub fn boxed(self, alloc: Global) -> Result<Box<NestedRun>, Error>
         ensures ok { IfOk result (λ boxed. boxed.value ≡ self) }
         ensures kind { IfErr result (λ e. e ≡ ErrorKind.OutOfMemory ∷ []) }

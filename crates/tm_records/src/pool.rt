@@ -1,4 +1,4 @@
-//! The scopes of macros' calls, which are used again.
+//! The scopes of macro calls, reused.
 ghost use Rattle.std.specs.Prelude.{◌≡◌, ◌+◌, ◌-◌, ◌∷◌, [], IfErr, OnErr, OnOk};
 ghost use Rattle.tm_records.specs.Macros.{called_scopes, no_scopes};
 ghost use Rattle.tm_values.specs.Answer.{OkOrOutOfMemory};
@@ -11,14 +11,15 @@ use tm_syntax::Name;
 use tm_tables::Context;
 use tm_values::{Error, Value};
 
-/// Contexts for the calls of macros, so that a call takes no memory where one is over. Those that are lent come first,
-/// and an empty one stands in for each. A contract sees how many are lent.
+/// Contexts for macro calls, so that a call allocates nothing if an earlier call has ended. The
+/// places of the contexts on loan come first, and each holds an empty context meanwhile. A contract
+/// sees how many are on loan.
 pub struct ContextPool {
     contexts: Vec<Context>,
     lent: usize,
 }
 
-// By hand: one call for each owner, in place of a drop of each part.
+// Written by hand: one drop call per owner instead of dropping each part.
 impl Drop for ContextPool {
     fn drop(self) {
         let ContextPool {
@@ -42,7 +43,7 @@ impl Model for ContextPool {
 }
 
 impl ContextPool {
-    /// No contexts; this takes no memory.
+    /// No contexts; allocates nothing.
     pub fn new(alloc: Global) -> ContextPool
         ensures { result ≡ 0 }
     {
@@ -52,9 +53,9 @@ impl ContextPool {
         }
     }
 
-    /// Lends the scopes of a macro's call, which stand at the depth `outer`: one over the context value `root`, and over it
-    /// one that reads the closure of the number `reads` and has the name and the value of `caller`, if these are given.
-    /// Fails by OutOfMemory alone, and then nothing is lent.
+    /// Lends the scopes of a macro call, at the depth `outer`: one over the context value `root`,
+    /// and inside it one that reads the closure `reads` and binds `caller`, if given. Fails only
+    /// with OutOfMemory; then nothing is lent.
     pub fn lend(
         &mut self,
         alloc: Global,
@@ -77,7 +78,7 @@ impl ContextPool {
         Ok(lent)
     }
 
-    /// Takes back the scopes of a macro's call that is over, all of which are left. This takes no memory.
+    /// Takes back the context of a finished macro call and empties it. Allocates nothing.
     fn take_back(&mut self, context: &mut Context)
         ensures { self.new ≡ self.old - 1 }
     {
@@ -89,7 +90,8 @@ impl ContextPool {
         self.lent = place;
     }
 
-    /// Puts back into `own` what the scopes of a macro's call replaced there, which is in `saved`, and takes these back.
+    /// Restores in `own` the scopes from `saved`, which the macro call replaced, and takes back the
+    /// macro's scopes.
     #[inline(always)]
     pub fn swap_back(&mut self, own: &mut Context, saved: &mut Context)
         ensures back { own.new ≡ saved.old }
@@ -100,8 +102,8 @@ impl ContextPool {
     }
 }
 
-/// Enters the scopes of a macro's call, as `ContextPool::lend`, in the room of a context. If that fails, by OutOfMemory,
-/// the context has no scopes.
+/// Enters the scopes of a macro call in `context`, like `ContextPool::lend`. Fails only with
+/// OutOfMemory; then the context has no scopes.
 fn begin(
     context: &mut Context,
     root: Value,
@@ -120,7 +122,7 @@ fn begin(
     entered
 }
 
-/// The same, but that scopes may stay if it fails.
+/// `begin`, but scopes may remain if it fails.
 fn enter(
     context: &mut Context,
     root: Value,

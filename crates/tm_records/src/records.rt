@@ -1,4 +1,4 @@
-//! The records of namespaces and loops by their numbers, and values that are kept by name.
+//! The records of namespaces and loops by number, and values kept by name.
 ghost use Rattle.std.specs.Prelude.{◌≡◌, [], ◌∷◌, ◌++◌, None, false, slice_get, OnOk, OnErr, IfErr, IfOk};
 ghost use Rattle.tm_meaning.specs.Calls.{keeping_at};
 ghost use Rattle.tm_meaning.specs.Memory.{is_want_of_memory};
@@ -13,8 +13,8 @@ use tm_syntax::{Name, NameMap};
 use tm_tables::LoopState;
 use tm_values::{Error, ErrorKind, Value, ValueMap};
 
-/// Gives `value` to the attribute `name` of the namespace of the number `index`, if there is one. Fails by OutOfMemory
-/// alone, and then all stays as it was.
+/// Sets the attribute `name` of the namespace `index` to `value`, if there is such a namespace.
+/// Fails only with OutOfMemory; then nothing changes.
 #[tactic(auto, using(crate::proofs::Members::past, crate::proofs::Members::there))]
 pub fn set_in(
     alloc: Global,
@@ -35,8 +35,9 @@ pub fn set_in(
     namespaces[index].insert(key, value)
 }
 
-/// Adds the record of a loop over `items` after all others: its depth is `depth`, its number in `stream` is `number`, and
-/// `recursive` says if it can be called. Fails by OutOfMemory alone, and then they stay as they were.
+/// Appends the record of a loop over `items` with the depth `depth` and the number `number` in
+/// `stream`; `recursive` tells whether it can be called. Fails only with OutOfMemory; then nothing
+/// changes.
 pub fn add_loop(
     loops: &mut Vec<LoopState>,
     stream: &StreamId,
@@ -55,7 +56,7 @@ pub fn add_loop(
     Ok(())
 }
 
-/// Asks the loop of the number `number`, if there is one, for its next item.
+/// Advances the loop `number` to its next item, if there is such a loop.
 pub fn turn_at(loops: &mut Vec<LoopState>, number: usize)
     ensures { loops.new.items ≡ turned_at number loops.old.items }
 {
@@ -64,8 +65,9 @@ pub fn turn_at(loops: &mut Vec<LoopState>, number: usize)
     }
 }
 
-/// Whether `args` differ from the arguments that the loop of the number `number` keeps; they replace these then.
-/// InvalidOperation if there is no such loop, OutOfMemory if there is no memory, and then all stay as they were.
+/// Whether `args` differ from the arguments that the loop `number` kept last; if so, it keeps
+/// `args`. InvalidOperation if there is no such loop, OutOfMemory if memory runs out; then nothing
+/// changes.
 pub fn changed_at(
     loops: &mut Vec<LoopState>,
     alloc: Global,
@@ -85,7 +87,7 @@ pub fn changed_at(
     loops[number].changed(alloc, args)
 }
 
-/// Keeps the values of `kept` by their names in `temps`, one after the other. Fails by OutOfMemory alone.
+/// Puts the values of `kept` into `temps` by their names, in order. Fails only with OutOfMemory.
 pub fn keep_each(temps: &mut NameMap<Value>, kept: Vec<(Name, Value)>) -> Result<(), Error>
     ensures ok { OnOk result (temps.new ≡ put_each kept.items temps.old) }
     ensures kind { IfErr result (λ e. e ≡ ErrorKind.OutOfMemory ∷ []) }

@@ -1,4 +1,4 @@
-//! What calls lead to: a value, a loop that is called, a run that is needed, or a fault.
+//! The results of calls: a value, the call of a loop, a run that must come first, or a fault.
 ghost use Rattle.std.specs.Prelude.{◌≡◌};
 ghost use Rattle.tm_records.specs.Results.{IsBecause, is_macro, text_for};
 
@@ -9,36 +9,37 @@ use tm_meaning::{Call, RunText};
 use tm_tables::CallableAnswer;
 use tm_values::{Error, ErrorKind, Value};
 
-/// What a call leads to, if it isn't refused.
+/// The result of a call that isn't refused.
 #[derive(Drop)]
 pub enum CallResult {
     /// A value.
     Value(Value),
-    /// A loop of the stream that runs is called, which the machine does.
+    /// The call of a loop of the running stream, which the machine performs.
     Recursion(Recursion),
-    /// A run that it needs, which the machine does. Boxed, since each call hands its answer on.
+    /// A run that must come first, which the machine performs. Boxed because this result is passed
+    /// on at every call.
     Run(Box<NestedRun>),
 }
 
-/// A loop that is called.
+/// The call of a loop.
 #[derive(Drop)]
 pub struct Recursion {
-    /// Its number in the stream that runs.
+    /// The loop's number in the running stream.
     pub number: usize,
-    /// What it is called over.
+    /// The items to iterate over.
     pub items: Rc<Vec<Value>>,
 }
 
-/// What a further call of an object of the caller leads to, if it isn't refused.
+/// The result of a further call of a caller's object that isn't refused.
 #[derive(Drop)]
 pub enum Further {
-    /// What was answered to it.
+    /// The answer to it.
     Answered(CallableAnswer),
-    /// A run that it needs.
+    /// A run that must come first.
     Run(Box<NestedRun>),
 }
 
-/// InvalidOperation with `cause` as its cause; OutOfMemory if there is no memory for that.
+/// InvalidOperation with `cause` as its cause; OutOfMemory if memory runs out.
 #[cold]
 pub fn because(alloc: Global, cause: Error) -> Error
     ensures { IsBecause cause result }
@@ -60,7 +61,8 @@ pub fn is_macro(call: &Call) -> bool
     }
 }
 
-/// What the text of a further call's run is: its truth if a test asked for it, and else plain.
+/// How the text of a further call's run becomes a value: its truth if a test asked for it,
+/// otherwise the plain text.
 pub fn text_for(test: bool) -> RunText
     ensures { result ≡ text_for test }
 {

@@ -1,4 +1,4 @@
-//! Rooms of what is over, which are used again.
+//! Memory of finished work, for reuse.
 ghost use Rattle.std.specs.Prelude.{◌≡◌, []};
 
 use crate::nested::NestedRun;
@@ -6,15 +6,15 @@ use crate::pool::ContextPool;
 use std::alloc::Global;
 use tm_values::Value;
 
-/// Rooms of what is over, which hold no values. No contract on a state sees them.
+/// Memory of finished work, which holds no values. No contract on a state sees it.
 pub struct Rooms {
-    /// The contexts for the calls of macros.
+    /// The contexts for macro calls.
     pub contexts: ContextPool,
     operands: Vec<Vec<Value>>,
     runs: Vec<Box<NestedRun>>,
 }
 
-// By hand: one call for each owner, in place of a drop of each part.
+// Written by hand: one drop call per owner instead of dropping each part.
 impl Drop for Rooms {
     fn drop(self) {
         let Rooms {
@@ -26,7 +26,7 @@ impl Drop for Rooms {
 }
 
 impl Rooms {
-    /// No rooms; this takes no memory.
+    /// Nothing to reuse; allocates nothing.
     pub fn new(alloc: Global) -> Rooms {
         Rooms {
             contexts: ContextPool::new(alloc),
@@ -35,12 +35,12 @@ impl Rooms {
         }
     }
 
-    /// The allocator of the rooms.
+    /// The allocator.
     pub fn allocator(&self) -> Global {
         *self.runs.allocator()
     }
 
-    /// An empty vector for values, one that was kept or a new one, which takes no memory.
+    /// An empty vector for values: a kept one or a new one. Allocates nothing.
     pub fn take_operands(&mut self, alloc: Global) -> Vec<Value>
         ensures { result.items ≡ [] }
     {
@@ -53,19 +53,19 @@ impl Rooms {
         }
     }
 
-    /// Keeps the room of `values`, which are dropped, if there is memory for that.
+    /// Drops `values` and keeps the memory of the vector if there is memory to store it.
     pub fn keep_operands(&mut self, mut values: Vec<Value>) {
         values.clear();
         let _kept = self.operands.push(values);
     }
 
-    /// The box of a macro's run that is over, or None if none is kept.
+    /// A kept box of a finished macro run, or None if there is none.
     #[inline(always)]
     pub fn take_run(&mut self) -> Option<Box<NestedRun>> {
         self.runs.pop()
     }
 
-    /// Keeps the box of a macro's run that is over, if there is memory for that.
+    /// Keeps the box of a finished macro run if there is memory to store it.
     #[inline(always)]
     pub fn keep_run(&mut self, run: Box<NestedRun>) {
         let _kept = self.runs.push(run);

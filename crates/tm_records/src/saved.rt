@@ -6,7 +6,7 @@ use tm_syntax::Name;
 use tm_tables::{Context, Lists, NameTable};
 use tm_values::{AutoEscape, Error, ErrorKind};
 
-/// What a run replaces in the state, and what is put back after it.
+/// What a run replaces in the state and what is restored after it.
 #[derive(Drop)]
 pub enum Saved {
     /// What a block's run replaces.
@@ -28,9 +28,9 @@ pub struct SavedBlock {
     pub block: Option<Name>,
     /// The escape.
     pub escape: AutoEscape,
-    /// How many scopes there were.
+    /// The number of scopes.
     pub scopes: usize,
-    /// The depth at which the outermost scope stood.
+    /// The depth of the outermost scope.
     pub outer: usize,
 }
 
@@ -38,11 +38,11 @@ pub struct SavedBlock {
 pub struct SavedSuper {
     /// What a block's run replaces.
     pub replaced: SavedBlock,
-    /// The places in lists of blocks.
+    /// The places in the lists of blocks.
     pub places: NameTable<usize>,
 }
 
-// By hand: one call for each owner, in place of a drop of each part.
+// Written by hand: one drop call per owner instead of dropping each part.
 impl Drop for SavedSuper {
     fn drop(self) {
         let SavedSuper {
@@ -52,7 +52,7 @@ impl Drop for SavedSuper {
     }
 }
 
-/// What a macro's run replaces, which has scopes of its own.
+/// What the run of a macro, which has its own scopes, replaces.
 pub struct SavedMacro {
     /// The scopes.
     pub context: Context,
@@ -62,11 +62,11 @@ pub struct SavedMacro {
     pub block: Option<Name>,
     /// The escape.
     pub escape: AutoEscape,
-    /// The lists of blocks, their places and the loaded names.
+    /// The lists of blocks, the places in them and the loaded names.
     pub lists: Lists,
 }
 
-// By hand: one call for each owner, in place of a drop of each part.
+// Written by hand: one drop call per owner instead of dropping each part.
 impl Drop for SavedMacro {
     fn drop(self) {
         let SavedMacro {
@@ -79,19 +79,20 @@ impl Drop for SavedMacro {
     }
 }
 
-/// What the run of an include or of an import replaces: the one stands in a scope of its own over those that
-/// stood, the other in these.
+/// What the run of an include or import replaces. An include runs in a new scope over the present
+/// ones, an import in the present ones.
 #[derive(Drop)]
 pub struct SavedInclude {
     /// What a block's run replaces.
     pub replaced: SavedBlock,
-    /// The closure that was made in the innermost scope, where one was.
+    /// The closure that was made in the innermost scope, if any.
     pub closure: Option<usize>,
-    /// The lists of blocks, their places and the loaded names.
+    /// The lists of blocks, the places in them and the loaded names.
     pub lists: Lists,
 }
 
-/// A second owner of `name`, if that is one. Fails by OutOfMemory alone, if the owners can't be counted.
+/// A shared copy of `name`, if there is one. Fails only with OutOfMemory, if the reference count
+/// overflows.
 pub fn shared_name(name: &Option<Name>) -> Result<Option<Name>, Error>
     ensures ok { IfOk result (λ shared. shared ≡ name.now) }
     ensures kind { IfErr result (λ e. e ≡ ErrorKind.OutOfMemory ∷ []) }

@@ -8,7 +8,7 @@ use std::marker::Model;
 use tm_meaning::StreamId;
 use tm_values::{Error, ErrorKind};
 
-/// The streams that declared macros, each once, by their numbers. A contract sees them in this order.
+/// The streams that declared macros, each once. A contract sees them in the order of their numbers.
 #[derive(Drop)]
 pub struct Streams {
     all: Vec<StreamId>,
@@ -30,7 +30,7 @@ impl Model for Streams {
 }
 
 impl Streams {
-    /// No streams; this takes no memory.
+    /// No streams; allocates nothing.
     pub fn new(alloc: Global) -> Streams
         ensures { result ≡ [] }
     {
@@ -39,14 +39,14 @@ impl Streams {
         }
     }
 
-    /// The stream of the number `number`, or None if there is none.
+    /// The stream `number`, or None if there is none.
     pub fn get(&self, number: usize) -> Option<&StreamId>
         ensures { IsLent result (slice_get self.now number) }
     {
         self.all.get(number)
     }
 
-    /// The number that `stream` has, or else the number that it would get.
+    /// The number of `stream`, or the one it would get if it isn't there.
     pub fn number_of(&self, stream: &StreamId) -> usize
         ensures { result ≡ stream_from 0 stream.now self.now }
     {
@@ -58,7 +58,8 @@ impl Streams {
         self.place_of(stream)
     }
 
-    /// Adds `stream`, whose number is `number`, if it isn't there. Fails by OutOfMemory alone, and then all stays as it was.
+    /// Adds `stream` if it isn't there; `number` must be its number. Fails only with OutOfMemory;
+    /// then nothing changes.
     pub fn add(&mut self, number: usize, stream: &StreamId) -> Result<(), Error>
         requires { number ≡ stream_from 0 stream.now self.old }
         ensures ok { OnOk result (self.new ≡ with_stream stream.now self.old) }
@@ -72,7 +73,7 @@ impl Streams {
         Ok(())
     }
 
-    /// The place of a stream, or how many there are.
+    /// The index of `stream`, or the number of streams if it isn't there.
     fn place_of(&self, stream: &StreamId) -> usize
         ensures { result ≡ stream_from 0 stream.now self.now }
     {

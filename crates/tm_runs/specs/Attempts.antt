@@ -1,4 +1,4 @@
--- What comes of an instruction that is tried at once, by what its part answered.
+-- The result of attempting an instruction, from the result of its function.
 use Rattle.std.specs.Prelude.{Result, Ok, Err, Bool, true, false}
 use Rattle.tm_output.specs.declared.target.TargetFailed.{TargetFailed}
 use Rattle.tm_runs.specs.declared.attempt.Attempt.{Attempt}

@@ -1,4 +1,4 @@
--- What a run's own parts answer, beside what the definitions say.
+-- What the parts of a run answer, beyond the definitions.
 use Rattle.std.specs.Prelude.{◌≡◌, ◌+◌, ◌<◌, ◌^◌, ◌-◌, ℕ, List, [], ◌∷◌, Option, None, Some, Result, Ok, Err, Bool, Vec, map as each}
 use Rattle.std.specs.Rc.{rc_str_bytes}
 use Rattle.std.specs.declared.rc.RcStr.{RcStr}
@@ -11,15 +11,15 @@ use Rattle.tm_meaning.specs.Instructions.{take_counted}
 use Rattle.tm_parts.specs.declared.halt.Halt.{Halt}
 use Rattle.tm_parts.specs.declared.halt.Halt.TheVariants as halt
 
--- a place from which a run can go on
+-- a run that has a next place
 abbrev pub CanGoOn : Activation → Type 0
 CanGoOn run = run.place < 2 ^ 64 - 1
 
--- a run that is done here
+-- a run that ends here
 abbrev pub finished_at : Config → End
 finished_at c = Finished c.run.operands c.captures c.world
 
--- a run with its loop at a place open, which is called, over so many captures
+-- a run that has called its loop at a place, over `floor` captures
 abbrev pub called : ℕ → ℕ → Bool → Activation → Activation
 called place floor value r =
     record r {
@@ -37,25 +37,27 @@ called place floor value r =
       }) ∷ r.loops;
     }
 
--- a run that goes on where a loop was called
+-- a run that continues where a loop was called
 abbrev pub resumed : Return → Activation → Activation
 resumed back r = record r { place = back.place; operands = back.operands; escapes = back.escapes; floor = back.floor }
 
--- These are the caches after a use of a name by its number, apart from running out of memory; or it can't be used by that.
+-- These are the caches after a name was used by its number, unless memory ran out; or it can't be
+-- used by that number.
 abbrev pub IsUsed : Option Caches → Caches → Result ℕ Halt → Type 0
 IsUsed used new (Ok _) = used ≡ Some new
 IsUsed used new (Err halt.Writer) = ⊥
 IsUsed used new (Err halt.Stuck) = used ≡ None
 IsUsed used new (Err (halt.Fault chain)) = chain ≡ OutOfMemory ∷ []
 
--- An instruction that takes so many values, or as many as the number on top counts, takes so many of these; or it is stuck.
+-- An instruction that takes `count` values, or as many as the number on top says, takes n of these;
+-- or it is stuck.
 abbrev pub TakesCounted : Option ℕ → List Val → ℕ → List Val → Type 0
 TakesCounted count old n new = (w : World) (f : List Val → List Val → Next) → take_counted count old w f ≡ take_n n new w f
 
 abbrev pub IsUncounted : Option ℕ → List Val → Type 0
 IsUncounted count old = (w : World) (f : List Val → List Val → Next) → take_counted count old w f ≡ stuck w
 
--- These are the texts that were found, or none were.
+-- These are the texts that were found, or none were found.
 abbrev pub AreTexts : Option (Vec (RcStr Global) Global) → Option (List (List ℕ)) → Type 0
 AreTexts (Some texts) found = found ≡ Some (each rc_str_bytes texts.items)
 AreTexts None found = found ≡ None

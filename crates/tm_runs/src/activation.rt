@@ -1,4 +1,4 @@
-//! What is a run's own.
+//! The data of a run.
 ghost use Rattle.std.specs.Prelude.{◌≡◌, ◌+◌, ◌++◌, ◌-◌, ◌^◌, ◌<◌, length, List, [], ◌∷◌, Some, None, OnOk, IfOk, IfErr, MatchOption, not, MatchResult, drop};
 ghost use Rattle.std.specs.Prelude.{option_map};
 ghost use Rattle.tm_meaning.specs.World.{root_of};
@@ -25,8 +25,8 @@ use tm_parts::{Halt, Stack};
 use tm_syntax::{Application, BinaryOperator, Name};
 use tm_values::{AutoEscape, Error, ErrorKind, UndefinedBehavior, Value};
 
-/// Where a loop goes on that was called: the run as it was at the call, the parent that waited, and whether the text is
-/// a value.
+/// Where the machine returns to after a called loop: the run's state at the call, the waiting
+/// parent, and whether the loop's text becomes a value.
 #[derive(Drop)]
 pub struct Return {
     place: usize,
@@ -58,7 +58,7 @@ impl Model for Return {
 }
 
 impl Return {
-    /// Whether the text is a value.
+    /// Whether the loop's text becomes a value.
     pub fn is_value(&self) -> bool
         ensures { result ≡ self.now.value }
     {
@@ -66,9 +66,10 @@ impl Return {
     }
 }
 
-/// What is a run's own: its stream and the place in it; its operands; the escapes that its open `autoescape`s replaced;
-/// for each loop that it has open where that goes on if it was called; how many captures were open when it or the
-/// innermost called loop began; the parent that waits; and its caches.
+/// The data of a run: its stream and the place in it; its operands; the escapes that its open
+/// `autoescape`s replaced; for each of its open loops the return, if the loop was called; the
+/// number of open captures when the run or the innermost called loop began; the waiting parent; and
+/// the caches.
 #[derive(Drop)]
 pub struct Activation {
     stream: StreamId,
@@ -106,15 +107,15 @@ impl Model for Activation {
 }
 
 impl Activation {
-    /// A run of `stream` from its first instruction, which begins with `floor` captures open.
+    /// A run of `stream` from its first instruction, with `floor` captures open at its start.
     pub fn new(alloc: Global, stream: StreamId, floor: usize) -> Activation
         ensures { result ≡ run_from stream floor }
     {
         Activation::over(alloc, stream, floor, 0, Vec::new(alloc))
     }
 
-    /// A run of `stream` from `place`, which begins with `floor` captures open and with `values` as operands, the last
-    /// of them on top.
+    /// A run of `stream` from `place`, with `floor` captures open at its start and with `values` as
+    /// operands, the last of them on top.
     pub fn over(
         alloc: Global,
         stream: StreamId,
@@ -140,7 +141,7 @@ impl Activation {
         }
     }
 
-    /// The stream that it runs.
+    /// The stream of the run.
     #[inline(always)]
     pub fn stream(&self) -> &StreamId
         ensures { result.now ≡ self.now.stream }
@@ -148,7 +149,7 @@ impl Activation {
         &self.stream
     }
 
-    /// The place in its stream at which it is.
+    /// The place in the stream.
     #[inline(always)]
     pub fn place(&self) -> usize
         ensures { result ≡ self.now.place }
@@ -156,14 +157,14 @@ impl Activation {
         self.place
     }
 
-    /// Takes the operands that are left, so that others can use their room.
+    /// Takes the remaining operands out, so that their memory can be reused.
     #[inline(always)]
     pub fn take_room(&mut self, alloc: Global) -> Vec<Value> {
         mem::replace(&mut self.operands, Stack::new(alloc)).into_values()
     }
 
-    /// Uses the filter `name` by its number `cache`, and gives where `host` has it. Stuck if it can't be used by this
-    /// number; OutOfMemory.
+    /// Looks up the filter `name` through the cache number `cache` and returns its place in `host`.
+    /// Stuck if this number can't be used for it; OutOfMemory.
     #[inline(always)]
     pub fn use_filter<H: Host>(&mut self, host: &H, cache: u8, name: &Name) -> Result<usize, Halt>
         ensures used { IsUsed (used cache name.now self.old.filters) self.new.filters result }
@@ -173,8 +174,8 @@ impl Activation {
             .use_name(host, Application::Filter, cache, name)
     }
 
-    /// Uses the test `name` by its number `cache`, and gives where `host` has it. Stuck if it can't be used by this
-    /// number; OutOfMemory.
+    /// Looks up the test `name` through the cache number `cache` and returns its place in `host`.
+    /// Stuck if this number can't be used for it; OutOfMemory.
     #[inline(always)]
     pub fn use_test<H: Host>(&mut self, host: &H, cache: u8, name: &Name) -> Result<usize, Halt>
         ensures used { IsUsed (used cache name.now self.old.tests) self.new.tests result }
@@ -183,7 +184,7 @@ impl Activation {
         self.tests.use_name(host, Application::Test, cache, name)
     }
 
-    /// Whether no parent waits.
+    /// Whether no parent is waiting.
     #[inline(always)]
     pub fn none_waits(&self) -> bool
         ensures { result ≡ none_waits self.now.parent }
@@ -191,14 +192,15 @@ impl Activation {
         self.parent.is_none()
     }
 
-    /// The parent that waits, if one does.
+    /// The waiting parent, if any.
     pub fn parent(&self) -> &Option<TemplateId>
         ensures { result.now ≡ self.now.parent }
     {
         &self.parent
     }
 
-    /// The parent that waits, if one does. Fails by OutOfMemory alone, if the owners of a name can't be counted.
+    /// A shared copy of the waiting parent, if any. Fails only with OutOfMemory, if a reference
+    /// count overflows.
     fn shared_parent(&self) -> Result<Option<TemplateId>, Error>
         ensures ok { IfOk result (λ parent. parent ≡ self.now.parent) }
         ensures kind { IfErr result (λ e. e ≡ ErrorKind.OutOfMemory ∷ []) }
@@ -209,7 +211,7 @@ impl Activation {
         }
     }
 
-    /// The root of the parent that waits, if one does. Fails by OutOfMemory alone.
+    /// The root stream of the waiting parent, if any. Fails only with OutOfMemory.
     pub fn parent_root(&self) -> Result<Option<StreamId>, Error>
         ensures ok { IfOk result (λ root. root ≡ option_map root_of self.now.parent) }
         ensures kind { IfErr result (λ e. e ≡ ErrorKind.OutOfMemory ∷ []) }
@@ -220,35 +222,35 @@ impl Activation {
         }
     }
 
-    /// Lets `parent` wait from here on, or none.
+    /// Sets the waiting parent, or clears it.
     pub fn wait_for(&mut self, parent: Option<TemplateId>)
         ensures { self.new ≡ record self.old { parent = parent } }
     {
         self.parent = parent;
     }
 
-    /// How many captures were open when it or the innermost called loop began.
+    /// The number of open captures when the run or the innermost called loop began.
     pub fn floor(&self) -> usize
         ensures { result ≡ self.now.floor }
     {
         self.floor
     }
 
-    /// Whether none of its `autoescape`s is open.
+    /// Whether none of the run's `autoescape`s is open.
     pub fn escapes_are_closed(&self) -> bool
         ensures { result ≡ is_empty self.now.escapes }
     {
         self.escapes.is_empty()
     }
 
-    /// Whether it has a loop open.
+    /// Whether the run has an open loop.
     pub fn has_loop(&self) -> bool
         ensures { result ≡ not (is_empty self.now.loops) }
     {
         !self.loops.is_empty()
     }
 
-    /// Opens one more loop, which wasn't called. Fails by OutOfMemory alone.
+    /// Opens a loop that wasn't called. Fails only with OutOfMemory.
     pub fn begin_loop(&mut self) -> Result<(), Error>
         ensures ok { OnOk result (self.new ≡ record self.old { loops = None ∷ self.old.loops }) }
         ensures kind { IfErr result (λ e. e ≡ ErrorKind.OutOfMemory ∷ []) }
@@ -258,7 +260,7 @@ impl Activation {
         Ok(())
     }
 
-    /// Closes its innermost loop, if it has one, and gives where that goes on if it was called.
+    /// Closes the innermost loop, if there is one, and returns its `Return`, if it was called.
     pub fn end_loop(&mut self) -> Option<Option<Return>>
         ensures { MatchOption result ((self.old.loops ≡ []) × (self.new ≡ self.old))
             (λ pending. self.old ≡ record self.new { loops = pending ∷ self.new.loops }) }
@@ -266,8 +268,9 @@ impl Activation {
         self.loops.pop()
     }
 
-    /// Opens the loop at `place`, which is called, and goes on after that place, with no operands and `floor` captures
-    /// open; `value` says whether its text is a value. Fails by OutOfMemory alone.
+    /// Calls the loop at `place`: continues after that place, without operands and with `floor`
+    /// captures open; `value` tells whether the loop's text becomes a value. Fails only with
+    /// OutOfMemory.
     pub fn call_loop(
         &mut self,
         alloc: Global,
@@ -296,7 +299,8 @@ impl Activation {
         Ok(())
     }
 
-    /// Goes on where a loop was called, as it was there, and gives the parent that waited there.
+    /// Returns to where a loop was called and restores the run's state there. The result is the
+    /// parent that was waiting then.
     pub fn return_to(&mut self, pending: Return) -> Option<TemplateId>
         ensures returned { self.new ≡ resumed pending self.old }
         ensures parent { result ≡ pending.parent }
@@ -316,7 +320,7 @@ impl Activation {
         parent
     }
 
-    /// Keeps the escape that an `autoescape` replaces. Fails by OutOfMemory alone.
+    /// Stores the escape that an `autoescape` replaces. Fails only with OutOfMemory.
     pub fn push_escape(&mut self, escape: AutoEscape) -> Result<(), Error>
         ensures ok { OnOk result
             (self.new ≡ record self.old { escapes = escape ∷ self.old.escapes }) }
@@ -327,7 +331,8 @@ impl Activation {
         Ok(())
     }
 
-    /// Gives the escape that the innermost open `autoescape` replaced, and keeps it no longer; none if none is open.
+    /// Removes and returns the escape that the innermost open `autoescape` replaced; None if none
+    /// is open.
     pub fn pop_escape(&mut self) -> Option<AutoEscape>
         ensures { MatchOption result ((self.old.escapes ≡ []) × (self.new ≡ self.old))
             (λ escape. self.old ≡ record self.new { escapes = escape ∷ self.new.escapes }) }
@@ -335,7 +340,7 @@ impl Activation {
         self.escapes.pop()
     }
 
-    /// Goes on to the next place.
+    /// Moves to the next place.
     pub fn advance(&mut self)
         requires { CanGoOn self.old }
         ensures { self.new ≡ record self.old { place = self.old.place + 1 } }
@@ -343,14 +348,14 @@ impl Activation {
         self.place += 1;
     }
 
-    /// Goes on to `place`.
+    /// Moves to `place`.
     pub fn jump(&mut self, place: usize)
         ensures { self.new ≡ record self.old { place = place } }
     {
         self.place = place;
     }
 
-    /// Puts an operand on top. Fails by OutOfMemory alone.
+    /// Pushes an operand. Fails only with OutOfMemory.
     pub fn push(&mut self, value: Value) -> Result<(), Error>
         ensures ok { OnOk result
             (self.new ≡ record self.old { operands = value ∷ self.old.operands }) }
@@ -360,7 +365,8 @@ impl Activation {
         self.operands.push(value)
     }
 
-    /// Puts a second owner of a value on top, if there is room. Else all stays as it was, and the answer is false.
+    /// Pushes a shared copy of `value` and returns true. If there is no spare room, nothing changes
+    /// and the result is false.
     #[inline(always)]
     pub fn push_shared(&mut self, value: &Value) -> bool
         ensures { OrStays result self.old self.new
@@ -369,8 +375,8 @@ impl Activation {
         self.operands.push_shared(value)
     }
 
-    /// Puts what an operator gives of the two topmost operands in their place, if both are numbers and it needs no more
-    /// than them. Else all stays as it was, and the answer is false.
+    /// Replaces the top two operands by the result of `operator`, if both are numbers and the
+    /// operation needs nothing else. Otherwise nothing changes and the result is false.
     #[inline(always)]
     pub fn operate(&mut self, operator: BinaryOperator) -> bool
         ensures operands { OrStays result self.old.operands self.new.operands
@@ -380,8 +386,8 @@ impl Activation {
         self.operands.operate(operator)
     }
 
-    /// Puts what the map on top has at `name` in its place, if it has it. Else all stays as it was, and the answer is
-    /// false.
+    /// Replaces the map on top by its member `name`, if it has one. Otherwise nothing changes and
+    /// the result is false.
     #[inline(always)]
     pub fn replace_by_member(&mut self, name: &str) -> bool
         ensures operands { OrStays result self.old.operands self.new.operands
@@ -391,8 +397,8 @@ impl Activation {
         self.operands.replace_by_member(name)
     }
 
-    /// Puts whether the topmost operand is undefined in its place, if there is one. Else all stays as it was, and the
-    /// answer is false.
+    /// Replaces the top operand, if there is one, by whether it is undefined. Otherwise nothing
+    /// changes and the result is false.
     #[inline(always)]
     pub fn test_undefined(&mut self) -> bool
         ensures operands { OrStays result self.old.operands self.new.operands
@@ -402,8 +408,8 @@ impl Activation {
         self.operands.test_undefined()
     }
 
-    /// Puts a second owner of the topmost operand on top, if there is one and room for it. Else all stays as it was,
-    /// and the answer is false.
+    /// Pushes a shared copy of the top operand, if there is one and there is spare room. Otherwise
+    /// nothing changes and the result is false.
     #[inline(always)]
     pub fn double_top(&mut self) -> bool
         ensures operands { OrStays result self.old.operands self.new.operands
@@ -413,7 +419,7 @@ impl Activation {
         self.operands.double_top()
     }
 
-    /// Takes the truth value on top, if one is there. Else all stays as it was.
+    /// Pops the top operand if it is a boolean. Otherwise nothing changes.
     #[inline(always)]
     pub fn take_boolean(&mut self) -> Option<bool>
         ensures { MatchOption result (self.new ≡ self.old)
@@ -422,7 +428,7 @@ impl Activation {
         self.operands.take_boolean()
     }
 
-    /// The topmost operand, if there is one.
+    /// The top operand, if there is one.
     #[inline(always)]
     pub fn top(&self) -> Option<&Value>
         ensures { MatchOption result (self.now.operands ≡ [])
@@ -431,7 +437,8 @@ impl Activation {
         self.operands.peek()
     }
 
-    /// The truth of the topmost operand, if there is one, or its error if it is undefined and `undefined` refuses that.
+    /// The truth of the top operand, if there is one, or the error if it is undefined and has no
+    /// truth under `undefined`.
     pub fn top_truth(&self, undefined: UndefinedBehavior) -> Option<Result<bool, Error>>
         ensures { MatchOption result (self.now.operands ≡ [])
             (λ answer. (v : Val) × (rest : List Val) × (self.now.operands ≡ v ∷ rest)
@@ -441,21 +448,21 @@ impl Activation {
         Some(truth(value, undefined))
     }
 
-    /// Drops the topmost operand, if there is one.
+    /// Drops the top operand, if there is one.
     pub fn drop_top(&mut self)
         ensures { self.new ≡ record self.old { operands = drop 1 self.old.operands } }
     {
         self.operands.drop_top();
     }
 
-    /// Drops the topmost `count` operands, or all if there are fewer.
+    /// Drops the top `count` operands, or all if there are fewer.
     pub fn drop_operands(&mut self, count: usize)
         ensures { self.new ≡ record self.old { operands = drop count self.old.operands } }
     {
         self.operands.remove(count);
     }
 
-    /// The topmost `count` operands, the lowest first, if there are as many.
+    /// The top `count` operands, the lowest first, if there are that many.
     #[inline(always)]
     pub fn args(&self, count: usize) -> Option<&[Value]>
         ensures { MatchOption result (taken count [] self.now.operands ≡ None)
@@ -465,7 +472,8 @@ impl Activation {
         self.operands.args(count)
     }
 
-    /// Takes the topmost `count` operands, the lowest first, if there are as many. Fails by OutOfMemory alone.
+    /// Pops the top `count` operands, the lowest first, if there are that many. Fails only with
+    /// OutOfMemory.
     pub fn take(&mut self, count: usize) -> Result<Option<Vec<Value>>, Error>
         ensures taken { MatchResult result
             (λ values. MatchOption values (taken count [] self.old.operands ≡ None)
@@ -476,8 +484,8 @@ impl Activation {
         self.operands.take(count)
     }
 
-    /// How many operands an instruction takes: `count`, or if that is none as many as the number on top counts, which
-    /// is taken. None if no number is there, or it counts more than there are.
+    /// The number of operands that an instruction takes: `count`, or if that is None, the number on
+    /// top, which is popped. None if the top isn't a number or counts more operands than there are.
     #[tactic(auto, using(crate::proofs::Counted::no_count))]
     pub fn take_count(&mut self, count: Option<usize>) -> Option<usize>
         ensures counted { MatchOption result (IsUncounted count self.old.operands)
@@ -491,7 +499,8 @@ impl Activation {
         counted(&counter, self.operands.len())
     }
 
-    /// Puts a value in the place of the topmost `count` operands, or of all if there are fewer. Fails by OutOfMemory alone.
+    /// Replaces the top `count` operands, or all if there are fewer, by `value`. Fails only with
+    /// OutOfMemory.
     #[inline(always)]
     pub fn replace_topmost(&mut self, count: usize, value: Value) -> Result<(), Error>
         ensures ok { OnOk result
@@ -502,7 +511,7 @@ impl Activation {
         self.operands.replace_topmost(count, value)
     }
 
-    /// Puts second owners of values on top, the first of them topmost. Fails by OutOfMemory alone.
+    /// Pushes shared copies of `values`, so that the first is on top. Fails only with OutOfMemory.
     pub fn push_each(&mut self, values: &[Value]) -> Result<(), Error>
         ensures ok { OnOk result
             (self.new ≡ record self.old { operands = values.now ++ self.old.operands }) }
@@ -512,7 +521,7 @@ impl Activation {
         self.operands.push_each(values)
     }
 
-    /// Puts operands on top, the last of them topmost. Fails by OutOfMemory alone.
+    /// Pushes `values`, so that the last is on top. Fails only with OutOfMemory.
     pub fn append(&mut self, values: Vec<Value>) -> Result<(), Error>
         ensures ok { OnOk result
             (self.new ≡ record self.old { operands = onto values.items self.old.operands }) }
@@ -522,7 +531,8 @@ impl Activation {
         self.operands.append(values)
     }
 
-    /// Takes the topmost `count` pairs of operands, the lowest first, if there are as many. Fails by OutOfMemory alone.
+    /// Pops the top `count` pairs of operands, the lowest first, if there are that many. Fails only
+    /// with OutOfMemory.
     pub fn take_pairs(&mut self, count: usize) -> Result<Option<Vec<Value>>, Error>
         ensures taken { MatchResult result
             (λ values. MatchOption values (taken (count + count) [] self.old.operands ≡ None)
@@ -537,7 +547,7 @@ impl Activation {
         self.take(count + count)
     }
 
-    /// Pops the topmost operand, if there is one.
+    /// Pops the top operand, if there is one.
     pub fn pop(&mut self) -> Option<Value>
         ensures { MatchOption result ((self.old.operands ≡ []) × (self.new ≡ self.old))
             (λ v. self.old ≡ record self.new { operands = v ∷ self.new.operands }) }
@@ -545,7 +555,7 @@ impl Activation {
         self.operands.pop()
     }
 
-    /// The value that it left, if it left one and no other.
+    /// The operand that the run left, if it left exactly one.
     pub fn into_value(self) -> Option<Value>
         ensures { MatchOption result (length self.operands ≡ 1 → ⊥)
             (λ v. self.operands ≡ v ∷ []) }
@@ -557,7 +567,7 @@ impl Activation {
         operands.pop()
     }
 
-    /// Pops the topmost operand. Stuck if there is none.
+    /// Pops the top operand. Stuck if there is none.
     #[inline(always)]
     pub fn popped(&mut self) -> Result<Value, Halt>
         ensures { MatchResult result

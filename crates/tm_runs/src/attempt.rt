@@ -1,26 +1,26 @@
-//! What comes of an instruction that is tried at once.
+//! The result of attempting an instruction on the fast path.
 ghost use Rattle.std.specs.Prelude.{◌≡◌};
 ghost use Rattle.tm_runs.specs.Attempts.{attempt_of, captured_of, free_attempt_of, written_of};
 
 use tm_output::TargetFailed;
 
-/// What came of an instruction that is done at once if it can be.
+/// The result of an instruction that is done at once if possible.
 #[derive(Clone, Copy, PartialEq, Eq)]
 pub enum Attempt {
-    /// It was paid for and done, and the run goes on.
+    /// It was charged and done, and the run continues.
     Done,
-    /// It is free of charge and was done, and the run goes on.
+    /// It is free and was done, and the run continues.
     DoneFree,
     /// Nothing was done.
     Left,
     /// The writer failed.
     WriterFailed,
-    /// The innermost capture found no memory.
+    /// The innermost capture ran out of memory.
     NoMemory,
 }
 
 impl Attempt {
-    /// Done if `is_done`, else left.
+    /// `Done` if `is_done`, else `Left`.
     #[inline(always)]
     pub fn of(is_done: bool) -> Attempt
         ensures { result ≡ attempt_of is_done }
@@ -32,7 +32,7 @@ impl Attempt {
         }
     }
 
-    /// Done free of charge if `is_done`, else left.
+    /// `DoneFree` if `is_done`, else `Left`.
     #[inline(always)]
     pub fn free(is_done: bool) -> Attempt
         ensures { result ≡ free_attempt_of is_done }
@@ -44,7 +44,7 @@ impl Attempt {
         }
     }
 
-    /// Done, or ended by the writer, which failed.
+    /// `Done`, or `WriterFailed` if the writer failed.
     #[inline(always)]
     pub fn written(answer: Result<(), TargetFailed>) -> Attempt
         ensures { result ≡ written_of answer }
@@ -55,7 +55,7 @@ impl Attempt {
         }
     }
 
-    /// Done, or ended because a capture found no memory.
+    /// `Done`, or `NoMemory` if a capture ran out of memory.
     #[inline(always)]
     pub fn captured(answer: Result<(), TargetFailed>) -> Attempt
         ensures { result ≡ captured_of answer }

@@ -1,4 +1,4 @@
-//! The caches of a run, for filters or for tests.
+//! The caches of a run for the names of filters or tests.
 ghost use Rattle.std.specs.Prelude.{◌≡◌, ◌⊎◌, [], ◌∷◌, None, Some, OnOk, IfErr, MatchOption, slice_get};
 ghost use Rattle.tm_meaning.specs.Instructions.{holding, used};
 ghost use Rattle.tm_syntax.specs.Named.{same_name};
@@ -12,7 +12,7 @@ use tm_scopes::NO_PLACE;
 use tm_syntax::{Application, CACHES, NO_CACHE, Name};
 use tm_values::{Error, ErrorKind};
 
-/// Where a host has the filter or the test of a name. A method stands nowhere.
+/// The place of the filter or test `name` in the host. A method has none.
 #[inline(never)]
 fn place_of<H: Host>(host: &H, application: Application, name: &str) -> usize {
     match application {
@@ -22,7 +22,7 @@ fn place_of<H: Host>(host: &H, application: Application, name: &str) -> usize {
     }
 }
 
-/// The name that a cache holds, and where what it names stands. A contract sees the name alone.
+/// A cached name with the place of its filter or test. A contract sees only the name.
 #[derive(Drop)]
 struct CachedName {
     name: Name,
@@ -38,7 +38,7 @@ impl Model for CachedName {
 }
 
 impl CachedName {
-    /// Whether this is the name.
+    /// Whether this is the cached name.
     #[inline(always)]
     fn is(&self, name: &Name) -> bool
         ensures { result ≡ same_name name.now self.now }
@@ -46,15 +46,15 @@ impl CachedName {
         *name == self.name
     }
 
-    /// Where what it names stands.
+    /// The place of the filter or test.
     #[inline(always)]
     fn place(&self) -> usize {
         self.place
     }
 }
 
-/// The names that caches hold, each at its number. Those after the last are empty, so that a run without filters
-/// takes no memory for them.
+/// The cached names by number. The caches after the last used one are empty and not stored, so that
+/// a run without filters allocates nothing for them.
 #[derive(Drop)]
 pub(crate) struct Caches {
     names: Vec<Option<CachedName>>,
@@ -69,7 +69,7 @@ impl Model for Caches {
 }
 
 impl Caches {
-    /// All empty.
+    /// Only empty caches.
     pub(crate) fn new(alloc: Global) -> Caches
         ensures { result ≡ [] }
     {
@@ -78,9 +78,9 @@ impl Caches {
         }
     }
 
-    /// Uses a filter's or a test's name by its number, and gives where it stands: the cache, where the number is
-    /// that of one, holds the name from then on, so that its place is asked for once. Stuck where it holds another
-    /// name, and where the number is neither that of a cache nor of none; OutOfMemory.
+    /// Returns the place of the filter or test `name`. If `cache` is the number of a cache, it
+    /// holds the name from then on, so that the host is asked only once. Stuck if that cache holds
+    /// another name, or if the number is neither a cache's nor `NO_CACHE`; OutOfMemory.
     #[inline(always)]
     pub(crate) fn use_name<H: Host>(
         &mut self,
@@ -107,7 +107,7 @@ impl Caches {
         Ok(place)
     }
 
-    /// What a cache holds.
+    /// The content of a cache, if it isn't empty.
     #[inline(always)]
     fn held(&self, cache: usize) -> Option<&CachedName>
         ensures { MatchOption result
@@ -120,7 +120,7 @@ impl Caches {
         }
     }
 
-    /// Lets a cache hold a name that stands there; OutOfMemory.
+    /// Stores `name` and its place in a cache; OutOfMemory.
     #[inline(never)]
     #[tactic(auto, using(crate::proofs::Used::one_empty, crate::proofs::Used::held_there))]
     fn hold(&mut self, cache: usize, name: &Name, place: usize) -> Result<(), Error>

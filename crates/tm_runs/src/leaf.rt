@@ -1,4 +1,5 @@
-//! Leaves: runs of macros that ask nothing of the state, so that they need no scopes, captures and streams of their own.
+//! Leaves: runs of macros that need nothing from the state, and so no scopes, captures and streams
+//! of their own.
 ghost use Rattle.std.specs.Prelude.{◌≡◌, ◌≤◌, ◌<◌, ◌+◌, ◌-◌, ◌^◌, ◌++◌, [], ◌∷◌, IfSome, IsTrue, OnOk, Some, slice_get};
 ghost use Rattle.tm_values.specs.Answer.{IsLent, OkOrOutOfMemory, OrStays};
 ghost use Rattle.tm_values.specs.Val.{text};
@@ -18,21 +19,22 @@ use tm_shapes::Verified;
 use tm_syntax::{BinaryOperator, Instruction, Name};
 use tm_values::{AutoEscape, Error, ErrorKind, SharedText, Value};
 
-/// The most instructions of a leaf, so that a run that is given up costs little and the fuel is looked at soon.
+/// The greatest number of steps of a leaf, so that a run that is given up costs little and the fuel
+/// is checked soon.
 const MOST: usize = 64;
 
-/// Where a leaf's run goes on after a step.
+/// How a leaf's run continues after a step.
 #[derive(Clone, Copy, PartialEq, Eq)]
 pub(crate) enum LeafFlow {
     /// At its place.
     GoOn,
-    /// Nowhere: it is over.
+    /// Not at all: the macro is finished.
     Over,
-    /// In a run of the machine's own, from the start: it is no leaf's.
+    /// As a normal run of the machine, from the start: the macro is no leaf.
     Left,
 }
 
-/// The instruction at a place of code, where there is one.
+/// The instruction at `place` in `code`, if there is one.
 #[inline(always)]
 fn instruction_at(code: &Verified, place: usize) -> Option<&Instruction>
     ensures found { IsLent result (slice_get code.now place) }
@@ -42,7 +44,7 @@ fn instruction_at(code: &Verified, place: usize) -> Option<&Instruction>
 }
 
 impl LeafFlow {
-    /// On, or left.
+    /// `GoOn` or `Left`.
     #[inline(always)]
     fn of(goes_on: bool) -> LeafFlow
         ensures { result ≡ leaf_flow_of goes_on }
@@ -55,18 +57,18 @@ impl LeafFlow {
     }
 }
 
-/// A leaf's run: what such a run has of its own. Its room is used for the next one.
+/// The data of a leaf's run. Its memory is reused by the next one.
 pub struct Leaf {
     place: usize,
     operands: Stack,
     names: Pairs,
     text: Option<SharedText>,
     fuel: u64,
-    // A bit for each macro that isn't tried again, by its entry.
+    // A bit per macro entry for the macros that aren't tried again.
     others: u64,
 }
 
-// By hand: one call for each owner, in place of a drop of each part.
+// Written by hand: one drop call per owner instead of dropping each part.
 impl Drop for Leaf {
     fn drop(self) {
         let Leaf {
@@ -99,7 +101,7 @@ impl Model for Leaf {
 }
 
 impl Leaf {
-    /// A leaf's run that hasn't begun; this takes no memory.
+    /// A leaf's run that hasn't begun; allocates nothing.
     pub fn new(alloc: Global) -> Leaf {
         Leaf {
             place: 0,
@@ -111,7 +113,7 @@ impl Leaf {
         }
     }
 
-    /// Drops the operands, and gives their room.
+    /// Drops the operands and returns the memory of their vector.
     pub fn take_room(&mut self, alloc: Global) -> Vec<Value>
         ensures { result.items ≡ [] }
     {
@@ -120,20 +122,20 @@ impl Leaf {
         room
     }
 
-    /// Whether the macro of `entry`, or one that has the same bit, was no leaf.
+    /// Whether the macro of `entry`, or another one with the same bit, is known not to be a leaf.
     pub fn is_other(&self, entry: usize) -> bool {
         self.others >> (entry % 64) & 1 == 1
     }
 
-    /// Notes that the macro of `entry` is no leaf.
+    /// Notes that the macro of `entry` isn't a leaf.
     pub fn note_other(&mut self, entry: usize)
         ensures { self.new ≡ self.old }
     {
         self.others |= 1 << (entry % 64);
     }
 
-    /// Begins at `place`, with `given` as operands, the last of them on top, and with `fuel`. AllocError when out of
-    /// memory.
+    /// Begins at `place`, with `given` as operands, the last of them on top, and with `fuel`.
+    /// AllocError if memory runs out.
     pub fn begin(
         &mut self,
         alloc: Global,
@@ -147,7 +149,7 @@ impl Leaf {
         self.operands = Stack::of(given);
         self.names.clear();
         self.fuel = fuel;
-        // The text of the run before may be a value that still stands somewhere.
+        // The previous run's text may be a value that is still in use.
         let is_alone = match &mut self.text {
             Some(text) => text.clear(),
             None => false,
@@ -158,14 +160,14 @@ impl Leaf {
         Ok(())
     }
 
-    /// The fuel that is left.
+    /// The fuel left.
     pub fn fuel(&self) -> u64
         ensures { result ≡ self.now.fuel }
     {
         self.fuel
     }
 
-    /// The text as a value, which is shared, and safe if there is an escape. OutOfMemory.
+    /// The text as a shared value, marked safe if there is an escape. OutOfMemory.
     pub fn value(&self, escape: AutoEscape) -> Result<Value, Error>
         ensures { OkOrOutOfMemory result (λ v. v ≡ text self.now.text (is_escaping escape)) }
     {
@@ -179,7 +181,7 @@ impl Leaf {
         }
     }
 
-    /// Pays a charge of one, and goes on to the next place.
+    /// Pays a charge of 1 and moves to the next place.
     #[inline(always)]
     fn advance(&mut self)
         requires { CanAdvance self.old }
@@ -189,7 +191,7 @@ impl Leaf {
         self.place += 1;
     }
 
-    /// Adds a text as it stands.
+    /// Appends `text` without escaping it.
     #[inline(always)]
     fn put(&mut self, text: &str) -> bool
         requires { CanAdvance self.old }
@@ -204,7 +206,7 @@ impl Leaf {
         }
     }
 
-    /// Pops a number or a text, and adds what it is emitted as.
+    /// Pops a number or a text and appends it, escaped.
     #[inline(always)]
     fn emit(&mut self, escape: AutoEscape) -> bool
         requires { CanAdvance self.old }
@@ -225,7 +227,7 @@ impl Leaf {
         true
     }
 
-    /// Pushes the value of a name of its scope.
+    /// Pushes the value that its scope binds to `name`.
     #[inline(always)]
     fn lookup(&mut self, name: &Name) -> bool
         requires { CanAdvance self.old }
@@ -257,7 +259,7 @@ impl Leaf {
         true
     }
 
-    /// Replaces a map by its attribute.
+    /// Replaces a map by its member `name`.
     #[inline(always)]
     fn get_attr(&mut self, name: &Name) -> bool
         requires { CanAdvance self.old }
@@ -271,7 +273,7 @@ impl Leaf {
         true
     }
 
-    /// Replaces two numbers by what an operator gives of them.
+    /// Replaces two numbers by the result of `operator`.
     #[inline(always)]
     fn binary(&mut self, operator: BinaryOperator) -> bool
         requires { CanAdvance self.old }
@@ -285,7 +287,7 @@ impl Leaf {
         true
     }
 
-    /// Pops a value, and gives it to a name of its scope.
+    /// Pops a value and binds `name` to it in its scope.
     #[inline(always)]
     fn store(&mut self, name: &Name) -> bool
         requires { CanAdvance self.old }
@@ -313,7 +315,7 @@ impl Leaf {
         true
     }
 
-    /// Pays a charge of one, and goes on at a place.
+    /// Pays a charge of 1 and moves to `target`.
     #[inline(always)]
     fn jump(&mut self, target: usize) -> bool
         requires { CanAdvance self.old }
@@ -325,7 +327,7 @@ impl Leaf {
         true
     }
 
-    /// Pops a truth value, and goes on at a place where it is false.
+    /// Pops a boolean and moves to `place` if it is false.
     #[inline(always)]
     fn jump_if_false(&mut self, place: usize) -> bool
         requires { CanAdvance self.old }
@@ -342,7 +344,7 @@ impl Leaf {
         }
     }
 
-    /// Pushes the topmost value once more.
+    /// Pushes the top value again.
     #[inline(always)]
     fn dup_top(&mut self) -> bool
         requires { CanAdvance self.old }
@@ -356,7 +358,7 @@ impl Leaf {
         true
     }
 
-    /// Drops the topmost value.
+    /// Drops the top value.
     #[inline(always)]
     fn discard_top(&mut self) -> bool
         requires { CanAdvance self.old }
@@ -370,7 +372,7 @@ impl Leaf {
         true
     }
 
-    /// Pays for an instruction and does it, where it asks nothing of the state.
+    /// Pays for an instruction and performs it if it needs nothing from the state.
     #[inline(always)]
     fn perform(&mut self, instruction: &Instruction, escape: AutoEscape) -> bool
         requires { CanAdvance self.old }
@@ -400,8 +402,9 @@ impl Leaf {
         }
     }
 
-    /// Does the three instructions that test whether an argument is undefined, of which this is the first, and goes on after
-    /// them. Else all stays as it was, and the answer is false.
+    /// Performs the three instructions that test whether an argument is undefined, of which the
+    /// first is at the present place, and moves past them. Otherwise nothing changes and the result
+    /// is false.
     #[inline(always)]
     fn skip_test(&mut self, code: &Verified) -> bool
         requires in_place { self.old.place + 2 < 2 ^ 64 - 1 }
@@ -427,7 +430,7 @@ impl Leaf {
         true
     }
 
-    /// The test of an argument, or its first instruction alone.
+    /// The whole test of an argument, or only its first instruction.
     #[inline(always)]
     fn test_or_double(&mut self, code: &Verified) -> bool
         requires in_place { self.old.place + 2 < 2 ^ 64 - 1 }
@@ -440,7 +443,7 @@ impl Leaf {
         self.skip_test(code) || self.dup_top()
     }
 
-    /// One step over code, under an escape.
+    /// One step of `code` under `escape`.
     #[inline(always)]
     fn step(&mut self, code: &Verified, escape: AutoEscape) -> LeafFlow
         ensures strides { Strides result code.now escape self.old self.new }
@@ -459,7 +462,7 @@ impl Leaf {
         }
     }
 
-    /// Runs to the macro's end over `code`, under `escape`; false if it is no leaf.
+    /// Runs `code` to the macro's end under `escape`; false if the macro is no leaf.
     #[inline(never)]
     pub fn run(&mut self, code: &Verified, escape: AutoEscape) -> bool
         ensures runs { IsTrue result → RunsOut code.now escape self.old self.new }

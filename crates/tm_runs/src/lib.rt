@@ -1,4 +1,5 @@
-//! What a run of the machine has of its own: its place, operands, loops and caches; the runs of leaves; and what a step of it may come to.
+//! The data of a machine's run: its place, operands, loops and caches; the runs of leaves; and the
+//! results of a step.
 #![tactic(auto)]
 
 mod activation;

@@ -1,4 +1,5 @@
-//! Operands that the machine itself makes and reads: numbers that count others, closures, and names of arguments.
+//! Operands that the machine itself makes and reads: counts of operands, closures, and names of
+//! arguments.
 ghost use Rattle.std.specs.Prelude.{◌≡◌, ◌<◌, ℕ, pos, Some, IfSome, IfNone, Option};
 ghost use Rattle.tm_meaning.specs.Instructions.{closure_in, closure_value, count_in, names_in, texts_in};
 ghost use Rattle.tm_runs.specs.Runs.{AreTexts};
@@ -8,7 +9,7 @@ use std::alloc::Global;
 use std::rc::RcStr;
 use tm_values::{Error, ErrorKind, Node, Value};
 
-/// How many a number counts, if that is at most `most`.
+/// The count that `value` is, if it is a whole number from 0 to `most`.
 pub(crate) fn counted(value: &Value, most: usize) -> Option<usize>
     ensures some { IfSome result (λ n. count_in value.now ≡ Some n) }
     ensures none { IfNone result ((n : ℕ) → count_in value.now ≡ Some n → most < n) }
@@ -19,7 +20,7 @@ pub(crate) fn counted(value: &Value, most: usize) -> Option<usize>
     }
 }
 
-/// How many a whole number counts, if that is at most `most`.
+/// The count that `whole` is, if it is from 0 to `most`.
 fn counted_whole(whole: i128, most: usize) -> Option<usize>
     ensures some { IfSome result (λ n. whole ≡ pos n) }
     ensures none { IfNone result ((n : ℕ) → whole ≡ pos n → most < n) }
@@ -40,7 +41,8 @@ pub fn closure_operand(closure: Option<usize>) -> Value
     }
 }
 
-/// The closure that an operand is, if it is one. OutOfMemory for a number that no memory has room for.
+/// The closure that an operand means, if it is one. OutOfMemory for a number greater than
+/// `usize::MAX`.
 pub fn closure_number(value: &Value) -> Result<Option<Option<usize>>, Error>
     ensures { OkOrOutOfMemory result (λ found. found ≡ closure_in value.now) }
 {
@@ -54,7 +56,7 @@ pub fn closure_number(value: &Value) -> Result<Option<Option<usize>>, Error>
     }
 }
 
-/// The names that a list of texts is, if the value is one. Fails by OutOfMemory alone.
+/// The texts of a list, if the value is a list of texts. Fails only with OutOfMemory.
 pub fn argument_names(alloc: Global, value: &Value) -> Result<Option<Vec<RcStr>>, Error>
     ensures { OkOrOutOfMemory result (λ found. AreTexts found (names_in value.now)) }
 {
@@ -64,7 +66,7 @@ pub fn argument_names(alloc: Global, value: &Value) -> Result<Option<Vec<RcStr>>
     }
 }
 
-/// The texts that values are, if each is one. Fails by OutOfMemory alone.
+/// The texts in `values`, if all are texts. Fails only with OutOfMemory.
 fn texts_of(alloc: Global, values: &[Value]) -> Result<Option<Vec<RcStr>>, Error>
     ensures { OkOrOutOfMemory result (λ found. AreTexts found (texts_in values.now)) }
 {

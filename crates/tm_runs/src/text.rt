@@ -9,7 +9,8 @@ use tm_meaning::RunText;
 use tm_parts::captured_value;
 use tm_values::{AutoEscape, Error, Value};
 
-/// The text of a run as a value of this kind, in a state with this escape. Fails by OutOfMemory alone.
+/// The text of a run as a value of the form `kind`, in a state with this escape. Fails only with
+/// OutOfMemory.
 pub fn run_value(
     alloc: Global,
     kind: RunText,

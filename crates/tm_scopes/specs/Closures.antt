@@ -1,4 +1,4 @@
--- Words on closures.
+-- Definitions for closures.
 use Rattle.std.specs.Map.{keys_of}
 use Rattle.std.specs.BTreeMap.{is_at}
 use Rattle.std.specs.FinMap.Entries.{where_key}
@@ -11,31 +11,31 @@ abbrev pub names_of : Option Bindings → List (List ℕ)
 names_of None = []
 names_of (Some c) = keys_of c
 
--- the names that are read of the closure of a number; none where there is no number or no such closure
+-- the names bound in the closure of a number; none without a number or such a closure
 abbrev pub names_read : List Bindings → Option ℕ → List (List ℕ)
 names_read closures None = []
 names_read closures (Some n) = names_of (slice_get closures n)
 
--- whether a name is another one
+-- whether two names differ
 abbrev pub is_other : List ℕ → List ℕ → Bool
 is_other x y = not (is_at (name_cmp x) y)
 
--- the other names, with what they stand for
+-- the bindings of all other names
 abbrev pub others_than : List ℕ → Bindings → Bindings
 others_than x c = where_key name_cmp (is_other x) c
 
--- closures, where that of a number has the name no more
+-- closures in which that of a number no longer binds the name
 abbrev pub others_at : ℕ → List ℕ → List Bindings → List Bindings
 others_at n x [] = []
 others_at zero x (c ∷ cs) = others_than x c ∷ cs
 others_at (suc n) x (c ∷ cs) = c ∷ others_at n x cs
 
--- A name stands for this from here on, where it stood for something; or all stays as it was.
+-- The name was bound and now has this value, or nothing changed.
 abbrev pub IsReplaced : Bool → List ℕ → Val → Bindings → Bindings → Type 0
 IsReplaced true x v old new = new ≡ put x v old
 IsReplaced false x v old new = (new ≡ old) × (find x old ≡ None)
 
--- The same in the closure of a number.
+-- The same for the closure of a number.
 abbrev pub IsReplacedAt : Bool → ℕ → List ℕ → Val → List Bindings → List Bindings → Type 0
 IsReplacedAt true n x v old new = new ≡ put_at n x v old
 IsReplacedAt false n x v old new = (new ≡ old) × (read_closure old (Some n) x ≡ None)

@@ -1,4 +1,4 @@
--- Words on scopes.
+-- Definitions for scopes.
 use Rattle.std.specs.Map.{keys_of}
 use Rattle.std.specs.Prelude.{◌≡◌, ℕ, List, [], ◌∷◌, filter, Bool, true, false}
 use Rattle.tm_values.specs.declared.error.ErrorKind.{ErrorKind}
@@ -10,20 +10,20 @@ use Rattle.tm_scopes.specs.Pairs.{in_order}
 abbrev pub one_scope : Scope → Scopes
 one_scope scope = record { frames = scope ∷ []; outer = 0 }
 
--- Why a scope wasn't pushed: it doesn't fit under the limit, or it does and there was no memory.
+-- Why a scope wasn't pushed: it is over the limit, or it isn't and memory ran out.
 abbrev pub PushFails : Bool → List ErrorKind → Type 0
 PushFails false chain = chain ≡ InvalidOperation ∷ []
 PushFails true chain = chain ≡ OutOfMemory ∷ []
 
--- the names that a scope exports, in the order of its locals, which is that of the names
+-- the names that a scope exports, ordered as its locals are, by name
 abbrev pub exported_by : Scope → List (List ℕ)
 exported_by s = filter is_exported (keys_of s.locals)
 
--- the names that pairs in no order export
+-- the names that unordered pairs export
 abbrev pub exported_among : Bindings → List (List ℕ)
 exported_among ps = filter is_exported (keys_of (in_order ps))
 
--- the names that the outermost scope exports; none where there is no scope
+-- the names that the outermost scope exports; none if there is no scope
 abbrev pub exported_of : List Scope → List (List ℕ)
 exported_of [] = []
 exported_of (s ∷ []) = exported_by s

@@ -14,7 +14,7 @@ use std::marker::Model;
 use tm_syntax::Name;
 use tm_values::{Error, Value};
 
-/// A closure: names with what they stand for. A contract sees the pairs, in the order of the names.
+/// A closure: a map from names to values. A contract sees the pairs, ordered by name.
 #[derive(Drop)]
 struct Closure {
     names: BTreeMap<Name, Value>,
@@ -34,7 +34,7 @@ impl Model for Closure {
 }
 
 impl Closure {
-    /// No names; this takes no memory.
+    /// An empty closure; allocates nothing.
     fn new(alloc: Global) -> Closure
         ensures { result ≡ [] }
     {
@@ -43,15 +43,15 @@ impl Closure {
         }
     }
 
-    /// What a name stands for.
+    /// The value bound to `name`.
     fn get(&self, name: &Name) -> Option<&Value>
         ensures { IsLent result (find name.now self.now) }
     {
         self.names.get(name)
     }
 
-    /// Lets a name stand for this, in place of what it stood for. AllocError for want of memory, and then all stays as
-    /// it was.
+    /// Binds `name` to `value` and replaces an older binding. AllocError if memory runs out; then
+    /// nothing changes.
     fn insert(&mut self, name: Name, value: Value) -> Result<(), AllocError>
         ensures ok { OnOk result (self.new ≡ put name value self.old) }
         ensures err { OnErr result (self.new ≡ self.old) }
@@ -60,7 +60,8 @@ impl Closure {
         Ok(())
     }
 
-    /// Lets a name that stands for something stand for this. Else all stays as it was, and the answer is false.
+    /// Rebinds `name` to `value` if it is bound, and returns true. Otherwise changes nothing and
+    /// returns false.
     fn replace(&mut self, name: Name, value: Value) -> bool
         ensures { IsReplaced result name value self.old self.new }
     {
@@ -70,14 +71,14 @@ impl Closure {
         self.names.insert(name, value).is_ok()
     }
 
-    /// A name stands for nothing from here on.
+    /// Removes the binding of `name`, if there is one.
     fn remove(&mut self, name: &Name)
         ensures { self.new ≡ others_than name.now self.old }
     {
         let _value = self.names.remove(name);
     }
 
-    /// The names, in their order. AllocError for want of memory.
+    /// The bound names in order. AllocError if memory runs out.
     fn names(&self, alloc: Global) -> Result<Vec<&str>, AllocError>
         ensures { IfOk result (λ names. texts_of names.items ≡ keys_of self.now) }
     {
@@ -89,8 +90,8 @@ impl Closure {
     }
 }
 
-/// The closures of a state, by their numbers: names with what they stand for. A contract sees each as its pairs, in the
-/// order of the names.
+/// The closures of a state, addressed by number. A contract sees each as its pairs, ordered by
+/// name.
 #[derive(Drop)]
 pub struct Closures {
     all: Vec<Closure>,
@@ -110,7 +111,7 @@ impl Model for Closures {
 }
 
 impl Closures {
-    /// No closures; this takes no memory.
+    /// No closures; allocates nothing.
     pub fn new(alloc: Global) -> Closures
         ensures { result ≡ [] }
     {
@@ -119,22 +120,22 @@ impl Closures {
         }
     }
 
-    /// How many closures there are: the number of the next one.
+    /// The number of closures, which is also the number of the next one.
     pub fn len(&self) -> usize
         ensures { result ≡ length self.now }
     {
         self.all.len()
     }
 
-    /// What a name stands for in the closure of a number, where there is one.
+    /// The value bound to `name` in the closure `number`, if there is such a closure.
     pub fn get(&self, number: Option<usize>, name: &Name) -> Option<&Value>
         ensures { IsLent result (read_closure self.now number name.now) }
     {
         self.all.get(number?)?.get(name)
     }
 
-    /// The names of the closure of a number, in their order; none where there is no such closure. AllocError for want
-    /// of memory.
+    /// The names bound in the closure `number`, in order; empty if there is no such closure.
+    /// AllocError if memory runs out.
     pub fn names(&self, alloc: Global, number: Option<usize>) -> Result<Vec<&str>, AllocError>
         ensures { IfOk result (λ names. texts_of names.items ≡ names_read self.now number) }
     {
@@ -147,8 +148,7 @@ impl Closures {
         }
     }
 
-    /// One closure more, after all others, which has a name alone. Fails by OutOfMemory alone, and then they stay as
-    /// they were.
+    /// Appends a closure that binds only `name`. Fails only with OutOfMemory; then nothing changes.
     pub fn add(&mut self, alloc: Global, name: Name, value: Value) -> Result<(), Error>
         ensures ok { OnOk result (self.new ≡ self.old ++ ((name, value) ∷ []) ∷ []) }
         ensures kind { IfErr result (λ e. e ≡ OutOfMemory ∷ []) }
@@ -160,8 +160,8 @@ impl Closures {
         Ok(())
     }
 
-    /// Lets a name stand for this in the closure of a number, where there is one. Fails by OutOfMemory alone, and then
-    /// all stay as they were.
+    /// Binds `name` to `value` in the closure `number`, if there is such a closure. Fails only with
+    /// OutOfMemory; then nothing changes.
     #[tactic(auto, using(crate::proofs::Enclosed::put_past, crate::proofs::Enclosed::put_there))]
     pub fn put(&mut self, number: usize, name: Name, value: Value) -> Result<(), Error>
         ensures ok { OnOk result (self.new ≡ put_at number name value self.old) }
@@ -175,8 +175,8 @@ impl Closures {
         Ok(())
     }
 
-    /// Lets a name that stands for something in the closure of a number stand for this. Else all stay as they were,
-    /// and the answer is false.
+    /// Rebinds `name` to `value` if the closure `number` binds it, and returns true. Otherwise
+    /// changes nothing and returns false.
     pub(crate) fn replace(&mut self, number: usize, name: Name, value: Value) -> bool
         ensures { IsReplacedAt result number name value self.old self.new }
     {
@@ -186,7 +186,7 @@ impl Closures {
         self.all[number].replace(name, value)
     }
 
-    /// A name stands for nothing in the closure of a number from here on.
+    /// Removes the binding of `name` from the closure `number`, if it has one.
     #[tactic(auto, using(crate::proofs::Enclosed::others_past, crate::proofs::Enclosed::others_there))]
     pub(crate) fn remove(&mut self, number: usize, name: &Name)
         ensures { self.new ≡ others_at number name.now self.old }

@@ -23,8 +23,9 @@ use tm_meaning::LoopMark;
 use tm_syntax::{Name, NameMap};
 use tm_values::{Error, ErrorKind, Node, Records, Value, ValueMap};
 
-/// The scopes of a state. Their names stand in one vector: those of a scope from the first place that its mark has, up to
-/// that of the next one. A contract sees the scopes innermost first.
+/// The scopes of a state. One vector holds their names: a scope's pairs start at the first place
+/// that its mark records, and end where the next scope's start. A contract sees the scopes innermost
+/// first.
 pub struct Context {
     pairs: Vec<(Name, Value)>,
     marks: Vec<ScopeMark>,
@@ -33,7 +34,7 @@ pub struct Context {
     outer: usize,
 }
 
-// By hand: one call for each owner, in place of a drop of each part.
+// Written by hand: one drop call per owner instead of dropping each part.
 impl Drop for Context {
     fn drop(self) {
         let Context {
@@ -77,7 +78,7 @@ impl Context {
         }
     }
 
-    /// One scope, whose depth isn't tested. Fails by OutOfMemory alone.
+    /// A single scope; its depth isn't checked. Fails only with OutOfMemory.
     pub fn new_with_frame(alloc: Global, frame: Frame) -> Result<Context, Error>
         ensures { OkOrOutOfMemory result (λ c. c ≡ one_scope frame) }
     {
@@ -86,8 +87,9 @@ impl Context {
         Ok(context)
     }
 
-    /// Leaves all scopes, and enters those of a macro, whose depth isn't tested: one over a context value, and another
-    /// over it that reads a closure, if one is given; they stand at a depth. Fails by OutOfMemory alone.
+    /// Drops all scopes and enters those of a macro at depth `outer`, which isn't checked: one over
+    /// the context value `root`, and inside it one that reads the closure `reads`, if given. Fails
+    /// only with OutOfMemory.
     pub fn begin_macro(
         &mut self,
         root: Value,
@@ -107,7 +109,7 @@ impl Context {
         Ok(())
     }
 
-    /// Leaves all scopes. Their room stays.
+    /// Drops all scopes and keeps their memory.
     pub fn clear(&mut self)
         ensures { self.new ≡ record { frames = []; outer = 0 } }
     {
@@ -122,35 +124,35 @@ impl Context {
         *self.marks.allocator()
     }
 
-    /// How many scopes there are.
+    /// The number of scopes.
     pub fn height(&self) -> usize
         ensures { result ≡ length self.now.frames }
     {
         self.marks.len()
     }
 
-    /// The depth at which the outermost scope stands.
+    /// The depth of the outermost scope.
     pub fn outer(&self) -> usize
         ensures { result ≡ self.now.outer }
     {
         self.outer
     }
 
-    /// Lets the outermost scope stand at a depth.
+    /// Sets the depth of the outermost scope.
     pub fn set_outer(&mut self, outer: usize)
         ensures { self.new ≡ record self.old { outer = outer } }
     {
         self.outer = outer;
     }
 
-    /// How deep the scopes lie, at most the greatest usize.
+    /// The depth of the scopes, saturated at `usize::MAX`.
     pub fn depth(&self) -> usize
         ensures { result ≡ min (depth self.now) (2 ^ 64 - 1) }
     {
         self.marks.len().saturating_add(self.outer)
     }
 
-    /// Leaves all scopes but so many of the outermost, which stand at a depth from here on.
+    /// Drops all but the `count` outermost scopes and sets their depth to `outer`.
     pub fn cut_to(&mut self, count: usize, outer: usize)
         ensures { self.new ≡ record { frames = outermost count self.old.frames; outer = outer } }
     {
@@ -160,8 +162,8 @@ impl Context {
         self.set_outer(outer);
     }
 
-    /// What a name stands for: in an inner scope before an outer one. InvalidOperation where a context value
-    /// on the way is a namespace whose record isn't there.
+    /// What `name` is bound to; an inner scope wins over an outer one. InvalidOperation if the
+    /// search meets a context value that is a namespace without a record.
     pub fn find<'a, R: Records>(
         &'a self,
         name: &Name,
@@ -189,8 +191,8 @@ impl Context {
         Ok(None)
     }
 
-    /// The names that stand for something in the scopes or among the globals, each once, in their order.
-    /// InvalidOperation where a context value is a namespace whose record isn't there; OutOfMemory.
+    /// The names that are bound in the scopes or among the globals, each once, in order.
+    /// InvalidOperation if a context value is a namespace without a record; OutOfMemory.
     pub fn known_names<'a, R: Records>(
         &'a self,
         alloc: Global,
@@ -210,8 +212,8 @@ impl Context {
         Ok(in_order(names))
     }
 
-    /// The names that stand for something in the scopes. InvalidOperation where a context value is a
-    /// namespace whose record isn't there; OutOfMemory.
+    /// The names that are bound in the scopes. InvalidOperation if a context value is a namespace
+    /// without a record; OutOfMemory.
     fn names<'a, R: Records>(
         &'a self,
         alloc: Global,
@@ -236,7 +238,8 @@ impl Context {
         Ok(names)
     }
 
-    /// The names that the outermost scope exports, in their order: those of its own that don't begin with `_`. Fails by OutOfMemory alone.
+    /// The names that the outermost scope exports, in order: its own names that don't begin with
+    /// `_`. Fails only with OutOfMemory.
     pub fn exports(&self, alloc: Global) -> Result<Vec<&str>, Error>
         ensures { OkOrOutOfMemory result
             (λ names. texts_of names.items ≡ exported_of self.now.frames) }
@@ -261,8 +264,8 @@ impl Context {
         }
     }
 
-    /// One scope more. InvalidOperation where it would lie deeper than the limit, OutOfMemory where there is
-    /// no memory; then the scopes stay as they were.
+    /// Pushes a scope. InvalidOperation if the depth has reached `limit`, OutOfMemory if memory
+    /// runs out; then nothing changes.
     pub fn push_frame(&mut self, frame: Frame, limit: usize) -> Result<(), Error>
         ensures fits { OnOk result (nat_lt (depth self.old) limit ≡ true) }
         ensures ok { OnOk result (self.new ≡ record self.old { frames = frame ∷ self.old.frames }) }
@@ -276,7 +279,8 @@ impl Context {
         Ok(())
     }
 
-    /// One scope more, whose depth isn't tested. AllocError for want of memory, and then the scopes stay as they were.
+    /// Pushes a scope without checking its depth. AllocError if memory runs out; then nothing
+    /// changes.
     #[inline(always)]
     fn enter(&mut self, frame: Frame) -> Result<(), AllocError>
         ensures ok { OnOk result (self.new ≡ record self.old { frames = frame ∷ self.old.frames }) }
@@ -288,7 +292,8 @@ impl Context {
         Ok(())
     }
 
-    /// Lets the innermost scope, where there is one, have a name from here on. OutOfMemory, and then the scopes stay as they were.
+    /// Binds `name` in the innermost scope, if there is one. Fails only with OutOfMemory; then
+    /// nothing changes.
     pub fn store(&mut self, name: Name, value: Value) -> Result<(), Error>
         ensures ok { OnOk result
             (self.new ≡ record self.old { frames = stored_in name value self.old.frames }) }
@@ -302,8 +307,8 @@ impl Context {
         Ok(())
     }
 
-    /// Lets the innermost scope, where there is one, and the closure of a number have a name from here on. Fails by
-    /// OutOfMemory alone, and then all stays as it was.
+    /// Binds `name` in the innermost scope and in the closure `number`, if there are such. Fails
+    /// only with OutOfMemory; then nothing changes.
     pub fn store_enclosed(
         &mut self,
         closures: &mut Closures,
@@ -335,7 +340,7 @@ impl Context {
         stored
     }
 
-    /// The innermost scope's own value of a name, where it has one.
+    /// The value that the innermost scope itself binds to `name`, if any.
     #[inline(always)]
     pub fn local(&self, name: &Name) -> Option<&Value>
         ensures own { IsLent result (find name.now (top_locals self.now.frames)) }
@@ -349,7 +354,7 @@ impl Context {
         value_of(own, name)
     }
 
-    /// The same where the scope has more names than are scanned.
+    /// `local` for a scope with more than `SCANNED` names.
     #[inline(never)]
     fn local_among_many(&self, name: &Name) -> Option<&Value>
         ensures { IsLent result (find name.now (top_locals self.now.frames)) }
@@ -358,8 +363,8 @@ impl Context {
         mark.get(&self.pairs[mark.first..], name)
     }
 
-    /// Lets the innermost scope have a name for a second owner of a value, where there is memory. Else all stays as
-    /// it was, and the answer is false.
+    /// Binds `name` in the innermost scope to a shared copy of `value`. If memory runs out, nothing
+    /// changes and the result is false.
     #[inline(always)]
     pub fn store_at_once(&mut self, name: &Name, value: &Value) -> bool
         ensures { OrStays result self.old self.new
@@ -374,7 +379,7 @@ impl Context {
         }
     }
 
-    /// The same for a value.
+    /// Binds `name` in the innermost scope to `value`, with the same result.
     #[inline(always)]
     fn put(&mut self, name: &Name, value: Value) -> bool
         ensures { OrStays result self.old self.new
@@ -403,7 +408,7 @@ impl Context {
         }
     }
 
-    /// The same where there may be no room, no scope, or a scope with many names.
+    /// `put` for the rare cases: no spare room, no scope, or a scope with many names.
     #[inline(never)]
     fn put_shared(&mut self, name: &Name, value: Value) -> bool
         ensures { OrStays result self.old self.new
@@ -415,7 +420,7 @@ impl Context {
         }
     }
 
-    /// The number of the closure that was made in the innermost scope, where one was.
+    /// The number of the closure that was made in the innermost scope, if any.
     #[inline(always)]
     pub fn own_closure(&self) -> Option<usize>
         ensures { result ≡ own_closure self.now.frames }
@@ -423,7 +428,7 @@ impl Context {
         self.marks.last()?.frame.own_closure
     }
 
-    /// Lets the innermost scope, where there is one, have the closure of a number as its own, or none.
+    /// Sets the number of the innermost scope's own closure, if there is a scope.
     pub fn set_own_closure(&mut self, closure: Option<usize>)
         ensures { self.new ≡ record self.old { frames = owning closure self.old.frames } }
     {
@@ -432,15 +437,16 @@ impl Context {
         }
     }
 
-    /// The names that the innermost scope exports, each as a key of its value, which is shared; none where there is no
-    /// scope. Fails by OutOfMemory alone.
+    /// The names that the innermost scope exports as keys of their shared values; empty if there is
+    /// no scope. Fails only with OutOfMemory.
     pub fn exported(&self, alloc: Global) -> Result<ValueMap, Error>
         ensures { OkOrOutOfMemory result (λ pairs. pairs ≡ exported (top_locals self.now.frames)) }
     {
         exported(alloc, &self.pairs[self.top..])
     }
 
-    /// The context value of the outermost scope; undefined where there is no scope. Fails by OutOfMemory alone.
+    /// The context value of the outermost scope; undefined if there is no scope. Fails only with
+    /// OutOfMemory.
     pub fn root_context(&self) -> Result<Value, Error>
         ensures { OkOrOutOfMemory result (λ v. v ≡ root_context self.now.frames) }
     {
@@ -450,7 +456,7 @@ impl Context {
         }
     }
 
-    /// What marks the innermost scope, where that is a loop's.
+    /// The loop mark of the innermost scope, if it is a loop's.
     #[inline(always)]
     pub fn top_mark(&self) -> Option<LoopMark>
         ensures { result ≡ top_mark self.now.frames }
@@ -458,7 +464,7 @@ impl Context {
         self.marks.last()?.frame.mark
     }
 
-    /// The number of the innermost loop's record, where a scope is a loop's.
+    /// The number of the innermost loop's record, if any scope is a loop's.
     pub fn innermost_loop(&self) -> Option<usize>
         ensures { result ≡ innermost self.now.frames }
     {
@@ -472,7 +478,7 @@ impl Context {
         None
     }
 
-    /// The innermost scope, where there is one, loses its names.
+    /// Drops the names of the innermost scope, if there is one.
     #[inline(always)]
     pub fn clear_locals(&mut self)
         ensures { self.new ≡ record self.old { frames = without_locals self.old.frames } }
@@ -483,7 +489,7 @@ impl Context {
         cut(&mut self.pairs, self.top);
     }
 
-    /// The same where the scope has more names than are scanned.
+    /// `clear_locals` for a scope with more than `SCANNED` names.
     #[inline(never)]
     fn clear_many(&mut self)
         ensures { self.new ≡ record self.old { frames = without_locals self.old.frames } }
@@ -495,7 +501,7 @@ impl Context {
         cut(&mut self.pairs, self.top);
     }
 
-    /// Leaves the innermost scope, where there is one.
+    /// Drops the innermost scope, if there is one.
     pub fn pop_frame(&mut self)
         ensures { self.new ≡ record self.old { frames = without_first self.old.frames } }
     {

@@ -1,4 +1,4 @@
-//! One scope, and what a name stands for in scopes.
+//! One scope, and what a lookup in scopes finds.
 ghost use Rattle.std.specs.Prelude.{ℕ, option_map, ◌≡◌, ◌||◌, [], ◌∷◌, None, false, OnOk, IfErr, IfOk, Some};
 ghost use Rattle.tm_syntax.specs.Named.{texts_of};
 ghost use Rattle.tm_values.specs.Answer.{OkOrOutOfMemory};
@@ -14,7 +14,7 @@ use tm_meaning::LoopMark;
 use tm_syntax::Name;
 use tm_values::{Error, ErrorKind, Node, Records, Value, find_namespace};
 
-/// Whether a name is exported: it doesn't begin with `_`.
+/// Whether `name` is exported: it doesn't begin with `_`.
 pub(crate) fn is_exported(name: &str) -> bool
     ensures { result ≡ is_exported name.now }
 {
@@ -24,17 +24,17 @@ pub(crate) fn is_exported(name: &str) -> bool
     }
 }
 
-/// What a name stands for in scopes.
+/// What a lookup of a name in the scopes finds.
 #[derive(Drop)]
 pub enum Found<'a> {
-    /// A value that is held there.
+    /// A value held there.
     Value(&'a Value),
-    /// A scope's loop, by the number of its record.
+    /// A scope's `loop`, by the number of its record.
     Loop(usize),
 }
 
 impl Found<'_> {
-    /// The value, in the state of an id. Fails by OutOfMemory alone.
+    /// The value; a loop becomes a value of the state with id `state`. Fails only with OutOfMemory.
     pub fn value(&self, state: u64) -> Result<Value, Error>
         ensures { OkOrOutOfMemory result (λ v. v ≡ meant_by state self.now) }
     {
@@ -45,8 +45,8 @@ impl Found<'_> {
     }
 }
 
-/// A scope without names of its own: the value whose keys are names in it, its loop, and the numbers of the closure that
-/// was made in it and of the one that it reads.
+/// A scope apart from its own names: the value whose keys are names in it, its loop, and the
+/// numbers of the closure that was made in it and of the closure that it reads.
 pub struct Frame {
     pub(crate) context: Value,
     pub(crate) mark: Option<LoopMark>,
@@ -54,7 +54,7 @@ pub struct Frame {
     reads: Option<usize>,
 }
 
-// By hand: one call for each owner, in place of a drop of each part.
+// Written by hand: one drop call per owner instead of dropping each part.
 impl Drop for Frame {
     fn drop(self) {
         let Frame {
@@ -110,7 +110,7 @@ impl Frame {
         }
     }
 
-    /// A macro's scope, which reads a closure, if one is given.
+    /// A macro's scope, which reads the closure `reads`, if given.
     pub(crate) fn of_macro(reads: Option<usize>) -> Frame
         ensures { result ≡ record (plain_scope (undefined false)) { reads = reads } }
     {
@@ -122,7 +122,7 @@ impl Frame {
         }
     }
 
-    /// It has no names of its own, so by proof that nothing is done.
+    /// Proves that a frame has no names of its own; does nothing.
     #[inline(always)]
     pub(crate) fn is_bare(&self)
         ensures { self.now.locals ≡ [] }
@@ -130,7 +130,7 @@ impl Frame {
         let _context = &self.context;
     }
 
-    /// Whether its loop has a name here, and then the loop's number.
+    /// The number of the scope's loop if `name` means that loop here.
     fn named_loop(&self, name: &str) -> Option<usize>
         ensures { (id : ℕ) →
             option_map (λ n. loop id n) result ≡ marked_loop id self.now.mark name.now }
@@ -143,8 +143,9 @@ impl Frame {
         }
     }
 
-    /// What a name stands for: its loop, what the closure that it reads has there, or what the context value has.
-    /// InvalidOperation if it is none of the first and the context value is a namespace whose record isn't there.
+    /// What `name` is bound to: the scope's loop, else a value of the closure that it reads, else a
+    /// member of the context value. InvalidOperation if only the context value is left and it is a
+    /// namespace without a record.
     pub fn get<'a, R: Records>(
         &'a self,
         name: &Name,
@@ -169,7 +170,8 @@ impl Frame {
         }
     }
 
-    /// What the context value has at a name. InvalidOperation where it is a namespace whose record isn't there.
+    /// The member `name` of the context value. InvalidOperation if that is a namespace without a
+    /// record.
     fn context_member<'a, R: Records>(
         &'a self,
         name: &str,
@@ -187,23 +189,23 @@ impl Frame {
         }
     }
 
-    /// Has the closure of a number as its own, or none.
+    /// Sets the number of the scope's own closure.
     pub(crate) fn own(&mut self, closure: Option<usize>)
         ensures { self.new ≡ record self.old { own_closure = closure } }
     {
         self.own_closure = closure;
     }
 
-    /// A second owner of the context value. Fails by OutOfMemory alone.
+    /// A shared copy of the context value. Fails only with OutOfMemory.
     pub(crate) fn share_context(&self) -> Result<Value, Error>
         ensures { OkOrOutOfMemory result (λ v. v ≡ self.now.context) }
     {
         self.context.share()
     }
 
-    /// Adds the names that stand for something here: its loop's, those of the closure that it reads, and the texts
-    /// among the keys of its context value. InvalidOperation where that is a namespace whose record isn't there;
-    /// OutOfMemory.
+    /// Appends the names that are bound here: its loop's, those of the closure that it reads, and
+    /// the text keys of its context value. InvalidOperation if that is a namespace without a
+    /// record; OutOfMemory.
     pub(crate) fn add_names<'a, R: Records>(
         &'a self,
         alloc: Global,
@@ -226,7 +228,8 @@ impl Frame {
         Ok(())
     }
 
-    /// The pairs of the context value, where it has such. InvalidOperation where it is a namespace whose record isn't there.
+    /// The pairs of the context value, empty if it has none. InvalidOperation if it is a namespace
+    /// without a record.
     fn context_pairs<'a, R: Records>(
         &'a self,
         records: &'a R,
@@ -246,7 +249,7 @@ impl Frame {
     }
 }
 
-/// Adds the texts among the keys of a map. AllocError when out of memory.
+/// Appends the text keys of a map. AllocError if memory runs out.
 fn add_texts<'a>(pairs: &'a [(Value, Value)], names: &mut Vec<&'a str>) -> Result<(), AllocError>
     ensures { OnOk result ((x : _) → is_among x (texts_of names.new.items)
         ≡ (is_among x (texts_of names.old.items) || has_text x pairs.now)) }

@@ -12,8 +12,9 @@ use std::rc::Rc;
 use tm_meaning::StreamId;
 use tm_values::{Error, ErrorKind, LoopPosition, Value, same_items, share_all};
 
-/// A loop: its items, how often the next one was asked for, how many loops that can be called lie around it
-/// with no other loop between, its number in its stream, whether it can be called, and that stream.
+/// A loop: its items, how many times the next item was requested, how many callable loops directly
+/// enclose it, its number in its stream, whether it can be called, that stream, and the arguments
+/// that `changed` kept.
 pub struct LoopState {
     items: Rc<Vec<Value>>,
     turns: usize,
@@ -24,7 +25,7 @@ pub struct LoopState {
     kept: Option<Vec<Value>>,
 }
 
-// By hand: one call for each owner, in place of a drop of each part.
+// Written by hand: one drop call per owner instead of dropping each part.
 impl Drop for LoopState {
     fn drop(self) {
         let LoopState {
@@ -63,7 +64,7 @@ impl Model for LoopState {
 }
 
 impl LoopState {
-    /// A loop over items, none of which was asked for yet.
+    /// A loop over `items` that hasn't started.
     pub fn new(
         items: Rc<Vec<Value>>,
         depth: usize,
@@ -92,14 +93,14 @@ impl LoopState {
         }
     }
 
-    /// The item that is asked for next, where one is left.
+    /// The next item, if one is left.
     pub fn next_item(&self) -> Option<&Value>
         ensures { IsLent result (slice_get self.now.items self.now.turns) }
     {
         self.items.get(self.turns)
     }
 
-    /// Asks for the next item, or for none after the last one.
+    /// Advances to the next item, or past the last one.
     pub fn turn(&mut self)
         ensures { self.new ≡ turned self.old }
     {
@@ -108,29 +109,29 @@ impl LoopState {
         }
     }
 
-    /// Whether it has no items.
+    /// Whether the loop has no items.
     pub fn did_not_iterate(&self) -> bool
         ensures { result ≡ nat_eq (length self.now.items) 0 }
     {
         self.items.is_empty()
     }
 
-    /// Its number in its stream.
+    /// The loop's number in its stream.
     pub fn number(&self) -> usize
         ensures { result ≡ self.now.number }
     {
         self.number
     }
 
-    /// Whether it can be called where a stream runs: it is one that can be, of that stream.
+    /// Whether the loop can be called from `stream`: it is callable, and `stream` is its own.
     pub fn can_be_called_in(&self, stream: &StreamId) -> bool
         ensures { result ≡ (self.now.recursive && same_stream self.now.stream stream.now) }
     {
         self.recursive && self.stream.is(stream)
     }
 
-    /// How deep a loop in it stands: one deeper where it can be called, and else outermost. None where that
-    /// is beyond the machine's numbers.
+    /// The depth of a loop inside this one: one more if this one can be called, else 0. None if
+    /// that overflows.
     pub fn depth_inside(&self) -> Option<usize>
         ensures { SomeIff result (depth_inside (Some self.now) < 2 ^ 64)
             (depth_inside (Some self.now)) }
@@ -142,8 +143,8 @@ impl LoopState {
         }
     }
 
-    /// Whether these arguments differ from those that it keeps, or it keeps none; then it keeps these. Fails
-    /// by OutOfMemory alone, and then it stays as it was.
+    /// Whether `args` differ from the arguments kept last, or none were kept; then `args` are kept.
+    /// Fails only with OutOfMemory; then nothing changes.
     pub fn changed(&mut self, alloc: Global, args: &[Value]) -> Result<bool, Error>
         ensures ok { IfOk result (λ changed. changed ≡ is_changed self.old.kept args.now) }
         ensures now { OnOk result (self.new ≡ keeping args.now self.old) }
@@ -161,8 +162,8 @@ impl LoopState {
         Ok(true)
     }
 
-    /// The argument whose turn it is at its item, from the first again after the last; undefined before the
-    /// first item, and where there is no argument. Fails by OutOfMemory alone.
+    /// The argument for the current item; after the last argument the first follows again.
+    /// Undefined before the first item, and if there are no arguments. Fails only with OutOfMemory.
     pub fn cycle(&self, args: &[Value]) -> Result<Value, Error>
         ensures { OkOrOutOfMemory result (λ v. v ≡ cycled (place_of self.now.turns) args.now) }
     {
@@ -175,7 +176,7 @@ impl LoopState {
         args[place % args.len()].share()
     }
 
-    /// Where it stands.
+    /// The loop's position.
     pub fn position(&self) -> LoopPosition
         ensures { result ≡ position_of (loop_data self.now) }
     {
@@ -186,14 +187,14 @@ impl LoopState {
         }
     }
 
-    /// The item before its own, where there is one.
+    /// The item before the current one, if any.
     pub fn previous_item(&self) -> Option<&Value>
         ensures { IsLent result (loop_data self.now).previous }
     {
         self.items.get(self.turns.checked_sub(2)?)
     }
 
-    /// The item after its own, where there is one.
+    /// The item after the current one, if any.
     pub fn following_item(&self) -> Option<&Value>
         ensures { IsLent result (loop_data self.now).following }
     {
@@ -204,7 +205,7 @@ impl LoopState {
     }
 }
 
-/// Where the loop of a number stands.
+/// The position of the loop `index`.
 pub fn position_at(loops: &[LoopState], index: usize) -> Option<LoopPosition>
     ensures { result ≡ option_map position_of (slice_get (map loop_data loops.now) index) }
 {
@@ -214,7 +215,7 @@ pub fn position_at(loops: &[LoopState], index: usize) -> Option<LoopPosition>
     }
 }
 
-/// The item before that of the loop of a number, where there is one.
+/// The item before the current one of the loop `index`, if any.
 pub fn previous_at(loops: &[LoopState], index: usize) -> Option<&Value>
     ensures { IsLent result
         (option_and_then (λ l. l.previous) (slice_get (map loop_data loops.now) index)) }
@@ -225,7 +226,7 @@ pub fn previous_at(loops: &[LoopState], index: usize) -> Option<&Value>
     }
 }
 
-/// The item after that of the loop of a number, where there is one.
+/// The item after the current one of the loop `index`, if any.
 pub fn following_at(loops: &[LoopState], index: usize) -> Option<&Value>
     ensures { IsLent result
         (option_and_then (λ l. l.following) (slice_get (map loop_data loops.now) index)) }

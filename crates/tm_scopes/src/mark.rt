@@ -1,4 +1,4 @@
-//! Where the names of a scope stand among those of all scopes.
+//! Where the names of a scope begin among those of all scopes.
 ghost use Rattle.std.specs.BTreeMap.{is_at, insert_entry};
 ghost use Rattle.std.specs.Map.{lookup};
 ghost use Rattle.std.specs.Prelude.{◌≡◌, ◌≤◌, [], None, OnErr, OnOk, drop, length, take};
@@ -15,19 +15,20 @@ use std::collections::BTreeMap;
 use tm_syntax::Name;
 use tm_values::Value;
 
-/// How many names of a scope are told apart by their hashes, one after the other. An index has the places of those
-/// after them, so that no scope with many names is slow.
+/// How many names of a scope are searched one after the other, by their hashes. The names after
+/// them are in an index, so that a scope with many names isn't slow.
 pub(crate) const SCANNED: usize = 64;
 
-/// A scope: the place of its first pair among those of all scopes, what it has beside its names, and, if it has many, the
-/// index of those behind the scanned ones, with their places counted from these.
+/// A scope: the place of its first pair among those of all scopes, its frame, and, if it has many
+/// names, an index of the names after the scanned ones. The index counts places from the end of the
+/// scanned ones.
 pub(crate) struct ScopeMark {
     pub(crate) first: usize,
     pub(crate) frame: Frame,
     index: Option<Box<BTreeMap<Name, usize>>>,
 }
 
-// By hand: one call for each owner, in place of a drop of each part.
+// Written by hand: one drop call per owner instead of dropping each part.
 impl Drop for ScopeMark {
     fn drop(self) {
         let ScopeMark {
@@ -39,7 +40,7 @@ impl Drop for ScopeMark {
 }
 
 impl ScopeMark {
-    /// A scope without names, whose pairs will stand from a place on.
+    /// A scope without names, whose pairs will begin at `first`.
     #[inline(always)]
     pub(crate) fn new(first: usize, frame: Frame) -> ScopeMark
         ensures { IsNew first frame result }
@@ -52,7 +53,7 @@ impl ScopeMark {
         }
     }
 
-    /// The place of a name among the scope's own pairs.
+    /// The place of `name` among the scope's own pairs.
     #[inline(always)]
     fn place(&self, own: &[(Name, Value)], name: &Name) -> Option<usize>
         requires { IsIndexed self.now own.now }
@@ -64,7 +65,7 @@ impl ScopeMark {
         self.place_among_many(own, name)
     }
 
-    /// The same among more pairs than are scanned.
+    /// `place` for a scope with at least `SCANNED` pairs.
     #[inline(never)]
     fn place_among_many(&self, own: &[(Name, Value)], name: &Name) -> Option<usize>
         requires indexed { IsIndexed self.now own.now }
@@ -80,7 +81,7 @@ impl ScopeMark {
         }
     }
 
-    /// The place that the index has of a name.
+    /// The place that the index has for `name`, counted from the end of the scanned pairs.
     fn indexed(&self, name: &Name) -> Option<usize>
         ensures { result ≡ lookup (is_at (hashed_cmp name.now)) (index_of self.now) }
     {
@@ -90,7 +91,7 @@ impl ScopeMark {
         }
     }
 
-    /// What a name stands for among the scope's own pairs.
+    /// The value of `name` among the scope's own pairs.
     #[inline(always)]
     pub(crate) fn get<'a>(&self, own: &'a [(Name, Value)], name: &Name) -> Option<&'a Value>
         requires { IsIndexed self.now own.now }
@@ -102,8 +103,8 @@ impl ScopeMark {
         }
     }
 
-    /// Lets a name of the scope, whose pairs are the last of all, stand for this. AllocError for want of memory, and
-    /// then all pairs stay as they were.
+    /// Binds `name` to `value` in the scope, whose pairs are the last of `all`. AllocError if
+    /// memory runs out; then the pairs stay unchanged.
     pub(crate) fn insert(
         &mut self,
         all: &mut Vec<(Name, Value)>,
@@ -124,7 +125,7 @@ impl ScopeMark {
         }
     }
 
-    /// The same of a name that the scope lacks.
+    /// `insert` for a name that the scope doesn't bind yet.
     fn add(
         &mut self,
         all: &mut Vec<(Name, Value)>,
@@ -148,8 +149,8 @@ impl ScopeMark {
         Ok(())
     }
 
-    /// Adds the place of a name to the index, which is made if there is none. AllocError for want of memory, and then
-    /// the index stays as it was.
+    /// Adds `name` with its place to the index, and makes the index if there is none. AllocError if
+    /// memory runs out; then the index stays unchanged.
     fn add_to_index(&mut self, alloc: Global, name: Name, place: usize) -> Result<(), AllocError>
         ensures ok { OnOk result
             (index_of self.new ≡ insert_entry hashed_cmp (index_of self.old) name place) }
@@ -169,7 +170,7 @@ impl ScopeMark {
         Ok(())
     }
 
-    /// The scope has no names any more, so no index either.
+    /// Drops the index of a scope whose names are dropped.
     #[inline(never)]
     pub(crate) fn forget_index(&mut self)
         ensures none { index_of self.new ≡ [] }
@@ -179,7 +180,7 @@ impl ScopeMark {
     }
 }
 
-/// Drops the pairs from a place on.
+/// Drops the pairs from `first` on.
 #[inline(always)]
 pub(crate) fn cut(all: &mut Vec<(Name, Value)>, first: usize)
     ensures { all.new.items ≡ take first all.old.items }

@@ -1,4 +1,4 @@
-//! Tables by name, whose entries stand at places.
+//! Tables keyed by name whose entries can be found by place.
 ghost use Rattle.std.specs.Prelude.{◌≡◌, [], None, IfOk, OnErr, OnOk, MatchOption, MatchResult};
 ghost use Rattle.tm_syntax.specs.Named.{find, name_cmp, put, without};
 ghost use Rattle.tm_scopes.specs.Places.{IsNameAt, IsNameGap};
@@ -8,11 +8,11 @@ use std::alloc::{AllocError, Global};
 use std::marker::Model;
 use tm_syntax::Name;
 
-/// The place that is given where none is known. No entry stands there.
+/// The place to pass if none is known; no entry has it.
 pub const NO_PLACE: usize = usize::MAX;
 
-/// Names with what they stand for. Each entry has a place, at which it is found without a search. A contract sees
-/// the pairs, in the order of the names.
+/// A table from names to items. An entry can be found by its place without a search. A contract
+/// sees the pairs, ordered by name.
 #[derive(Drop)]
 pub struct NameTable<T> {
     pub(crate) entries: Vec<(Name, T)>,
@@ -33,7 +33,7 @@ impl<T> Model for NameTable<T> {
 }
 
 impl<T> NameTable<T> {
-    /// No names; this takes no memory.
+    /// An empty table; allocates nothing.
     pub fn new(alloc: Global) -> NameTable<T>
         ensures { result ≡ [] }
     {
@@ -42,7 +42,7 @@ impl<T> NameTable<T> {
         }
     }
 
-    /// What a name stands for. Makes log n comparisons for n names.
+    /// The item of `name`. Makes log n comparisons for n names.
     pub fn get(&self, name: &str) -> Option<&T>
         ensures { IsLent result (find name.now self.now) }
     {
@@ -52,7 +52,8 @@ impl<T> NameTable<T> {
         }
     }
 
-    /// What a name stands for, whatever the place is. Makes one comparison where the name's entry stands there.
+    /// The item of `name`, whatever `place` is. Makes only one comparison if the entry is at
+    /// `place`.
     #[inline(always)]
     pub fn get_at(&self, place: usize, name: &str) -> Option<&T>
         ensures { IsLent result (find name.now self.now) }
@@ -63,7 +64,7 @@ impl<T> NameTable<T> {
         }
     }
 
-    /// Where the entry of a name stands; none where it stands for nothing.
+    /// The place of the entry of `name`; None if there is no such entry.
     pub fn place(&self, name: &str) -> Option<usize>
         ensures { MatchOption result (find name.now self.now ≡ None) (IsNameAt name.now self.now) }
     {
@@ -73,7 +74,7 @@ impl<T> NameTable<T> {
         }
     }
 
-    /// Where the entry of a name stands, or where it would stand.
+    /// The place of the entry of `name`, or as an error the place to insert it at.
     pub(crate) fn search(&self, name: &str) -> Result<usize, usize>
         ensures { MatchResult result (IsNameAt name.now self.now) (IsNameGap name.now self.now) }
     {
@@ -86,8 +87,8 @@ impl<T> NameTable<T> {
 }
 
 impl<T: Drop> NameTable<T> {
-    /// Lets a name stand for this, in place of what it stood for. AllocError where there is no memory, and all
-    /// stays as it was.
+    /// Binds `name` to `item` and replaces an older entry. AllocError if memory runs out; then
+    /// nothing changes.
     pub fn insert(&mut self, name: Name, item: T) -> Result<(), AllocError>
         ensures ok { OnOk result (self.new ≡ put name item self.old) }
         ensures err { OnErr result (self.new ≡ self.old) }
@@ -104,7 +105,7 @@ impl<T: Drop> NameTable<T> {
         }
     }
 
-    /// Drops a name, and gives what it stood for; other names stand for what they did.
+    /// Removes the entry of `name` and returns its item.
     pub fn remove(&mut self, name: &str) -> Option<T>
         ensures before { result ≡ find name.now self.old }
         ensures rest { self.new ≡ without name.now self.old }
@@ -120,7 +121,7 @@ impl<T: Drop> NameTable<T> {
 }
 
 impl NameTable<usize> {
-    /// A copy. AllocError when out of memory.
+    /// A copy. AllocError if memory runs out.
     #[inline(always)]
     pub fn copy(&self, alloc: Global) -> Result<NameTable<usize>, AllocError>
         ensures { IfOk result (λ copy. copy ≡ self.now) }

@@ -1,4 +1,4 @@
-//! Names with what they stand for, one pair after the other.
+//! Name-value pairs in a vector.
 ghost use Rattle.std.specs.List.Sorted.{IsStrictlySortedBy};
 ghost use Rattle.std.specs.Map.{keys_of};
 ghost use Rattle.std.specs.Prelude.{◌≡◌, [], ◌∷◌, ◌++◌, IfErr, IfOk, None, OnOk};
@@ -15,7 +15,7 @@ use std::marker::Model;
 use tm_syntax::Name;
 use tm_values::{Error, Value, ValueMap};
 
-/// The names in their order, each once.
+/// Sorts `names` and removes duplicates.
 pub(crate) fn in_order(mut names: Vec<&str>) -> Vec<&str>
     ensures order { IsStrictlySortedBy name_cmp (texts_of result.items) }
     ensures same { (x : _) → is_among x (texts_of result.items)
@@ -26,7 +26,7 @@ pub(crate) fn in_order(mut names: Vec<&str>) -> Vec<&str>
     names
 }
 
-/// The place of the first pair with a name.
+/// The place of the first pair named `name`.
 #[inline(always)]
 pub(crate) fn place_of(pairs: &[(Name, Value)], name: &Name) -> Option<usize>
     ensures { IsPlace name.now pairs.now result }
@@ -41,7 +41,7 @@ pub(crate) fn place_of(pairs: &[(Name, Value)], name: &Name) -> Option<usize>
     None
 }
 
-/// What a name stands for among pairs: the value of the first one that has it.
+/// The value of the first pair named `name`.
 #[inline(always)]
 pub(crate) fn value_of<'a>(pairs: &'a [(Name, Value)], name: &Name) -> Option<&'a Value>
     ensures { IsLent result (find name.now pairs.now) }
@@ -52,7 +52,7 @@ pub(crate) fn value_of<'a>(pairs: &'a [(Name, Value)], name: &Name) -> Option<&'
     }
 }
 
-/// The names of pairs, in their order, each once. AllocError for want of memory.
+/// The names of the pairs in order, each once. AllocError if memory runs out.
 pub(crate) fn names_in(alloc: Global, pairs: &[(Name, Value)]) -> Result<Vec<&str>, AllocError>
     ensures { IfOk result (λ names. texts_of names.items ≡ keys_of (in_order pairs.now)) }
 {
@@ -63,8 +63,8 @@ pub(crate) fn names_in(alloc: Global, pairs: &[(Name, Value)]) -> Result<Vec<&st
     Ok(in_order(names))
 }
 
-/// Puts a second owner of a value after those that are there, with its name as its key, if the name is exported.
-/// Fails by OutOfMemory alone.
+/// Appends a shared copy of `value` with `name` as its key if the name is exported. Fails only with
+/// OutOfMemory.
 fn add_exported(
     alloc: Global,
     name: &Name,
@@ -81,8 +81,8 @@ fn add_exported(
     Ok(())
 }
 
-/// The names that are exported, each as a key of its value, which is shared. Makes n log n comparisons for n pairs.
-/// Fails by OutOfMemory alone.
+/// The exported names as keys of their shared values. Makes n log n comparisons for n pairs. Fails
+/// only with OutOfMemory.
 pub(crate) fn exported(alloc: Global, own: &[(Name, Value)]) -> Result<ValueMap, Error>
     ensures { OkOrOutOfMemory result (λ pairs. pairs ≡ exported (in_order own.now)) }
 {
@@ -90,18 +90,18 @@ pub(crate) fn exported(alloc: Global, own: &[(Name, Value)]) -> Result<ValueMap,
     for pair in own {
         add_exported(alloc, &pair.0, &pair.1, &mut pairs)?;
     }
-    // Of equal keys the last one counts in a map, and the first one here.
+    // The last of equal keys wins in a map, but the first one here.
     pairs.reverse();
     ValueMap::from_pairs(pairs)
 }
 
-/// Few names with what they stand for, found by the hashes of the names. The room stays when they are cleared. A
-/// contract sees the pairs, in the order of the names.
+/// A map for few names, which are compared by their hashes. Clearing it keeps the memory. A
+/// contract sees the pairs, ordered by name.
 pub struct Pairs {
     all: Vec<(Name, Value)>,
 }
 
-// By hand: one call for each owner, in place of a drop of each part.
+// Written by hand: one drop call per owner instead of dropping each part.
 impl Drop for Pairs {
     fn drop(self) {
         let Pairs { all: _all } = self;
@@ -123,7 +123,7 @@ impl Model for Pairs {
 }
 
 impl Pairs {
-    /// No names; this takes no memory.
+    /// An empty map; allocates nothing.
     pub fn new(alloc: Global) -> Pairs
         ensures { result ≡ [] }
     {
@@ -132,7 +132,7 @@ impl Pairs {
         }
     }
 
-    /// What a name stands for. Looks at one pair after the other.
+    /// The value bound to `name`, found by a linear search.
     #[inline(always)]
     pub fn get(&self, name: &Name) -> Option<&Value>
         ensures { IsLent result (find name.now self.now) }
@@ -140,7 +140,8 @@ impl Pairs {
         value_of(&self.all, name)
     }
 
-    /// Lets a name stand for a value. If there is no memory all stays as it was, and the answer is false.
+    /// Binds `name` to `value` and returns true. If memory runs out, nothing changes and the result
+    /// is false.
     #[inline(always)]
     pub fn put(&mut self, name: &Name, value: Value) -> bool
         ensures { OrStays result self.old self.new (self.new ≡ put name.now value self.old) }
@@ -163,7 +164,7 @@ impl Pairs {
         }
     }
 
-    /// Lets a name that stands for nothing stand for a value, as `put`.
+    /// `put` for a name that isn't bound yet.
     #[inline(never)]
     fn push(&mut self, name: Name, value: Value) -> bool
         requires { find name self.old ≡ None }
@@ -175,7 +176,7 @@ impl Pairs {
         true
     }
 
-    /// No name stands for anything from here on.
+    /// Removes all bindings.
     #[inline(always)]
     pub fn clear(&mut self)
         ensures { self.new ≡ [] }

@@ -1,4 +1,4 @@
--- What a state's fields stand for, and what is put back after a run.
+-- What a state's fields mean, and what is restored after a run.
 use Rattle.std.specs.Prelude.{◌≡◌, ℕ, ◌+◌, List, [], ◌∷◌, ◌++◌, length, Option, Some, None, Bool, true, false, nat_eq, slice_get}
 use Rattle.std.specs.Prelude.{option_and_then}
 use Rattle.tm_syntax.specs.Named.{find}
@@ -27,16 +27,16 @@ use Rattle.tm_records.specs.declared.saved.SavedInclude.{SavedInclude}
 use Rattle.tm_records.specs.declared.nested.RunOf.{RunOf}
 use Rattle.tm_records.specs.declared.nested.RunOf.TheVariants as run_of
 
--- the fuel that was set, where one was
+-- the fuel that was set, if any
 abbrev pub fuel_set_of : Bool → Fuel → Option ℕ
 fuel_set_of true fuel = Some fuel.set
 fuel_set_of false fuel = None
 
--- a world's lists of blocks, their places and its loaded names
+-- a world's lists of blocks, its places in them and its loaded names
 abbrev pub lists_of : World → ListsValue
 lists_of w = record { blocks = w.blocks; places = w.places; loaded = w.loaded }
 
--- What a render of a template starts from, which has blocks of these names.
+-- The world at the start of a render of a template with blocks of these names.
 abbrev pub started : ℕ → TemplateId → List (List ℕ) → AutoEscape → Option ℕ → Val → World
 started id t names escape fuel context = record {
   id = id;
@@ -56,7 +56,7 @@ started id t names escape fuel context = record {
   fuel = first_fuel fuel;
 }
 
--- What stands where a state was taken out: no scopes, and no fuel.
+-- What is left after a state was taken out: no scopes and no fuel.
 abbrev pub nothing_left : World
 nothing_left = record {
   id = 0;
@@ -76,38 +76,38 @@ nothing_left = record {
   fuel = 0;
 }
 
--- what is put back after a block, of the world before it
+-- what is restored after a block, from the world before it
 abbrev pub saved_of : World → SavedBlock
 saved_of w = record { stream = w.stream; block = w.block; escape = w.escape; scopes = length w.scopes.frames; outer = w.scopes.outer }
 
--- what is put back after a macro
+-- what is restored after a macro
 abbrev pub saved_scopes : World → SavedMacro
 saved_scopes w = record { context = w.scopes; stream = w.stream; block = w.block; escape = w.escape; lists = lists_of w }
 
--- what is put back after a `super()`: as after a block, and the places in lists of blocks
+-- what is restored after a `super()`: as after a block, and the places in the lists of blocks
 abbrev pub saved_super : World → SavedSuper
 saved_super w = record { replaced = saved_of w; places = w.places }
 
--- what is put back after an include: as after a block, and the innermost scope's own closure, the lists of blocks, their places and the
--- loaded names
+-- what is restored after an include: as after a block, and the innermost scope's own closure, the
+-- lists of blocks, the places in them and the loaded names
 abbrev pub saved_include : World → SavedInclude
 saved_include w = record { replaced = saved_of w; closure = own_closure w.scopes.frames; lists = lists_of w }
 
--- What is put back is of this world,
+-- What is restored is from this world,
 abbrev pub IsSaved : Saved → World → Type 0
 IsSaved (saved.Block s) w = s ≡ saved_of w
 IsSaved (saved.Super s) w = s ≡ saved_super w
 IsSaved (saved.Macro s) w = s ≡ saved_scopes w
 IsSaved (saved.Include s) w = s ≡ saved_include w
 
--- and how it is undone.
+-- and this is how the run is undone.
 abbrev pub undo_of : Saved → World → Undo
 undo_of (saved.Block s) w = of_block w
 undo_of (saved.Super s) w = of_super w
 undo_of (saved.Macro s) w = of_macro w
 undo_of (saved.Include s) w = of_include w
 
--- the world after a block, however that ended; after a `super()`; after a macro; and after an include
+-- the world after a block, however it ended; after a `super()`; after a macro; and after an include
 abbrev pub after_block : SavedBlock → World → World
 after_block s w = record (cut_to s.scopes s.outer w) { stream = s.stream; block = s.block; escape = s.escape }
 
@@ -148,15 +148,15 @@ abbrev pub callee_of : RunOf → Callee
 callee_of (run_of.Stream s) = whole s
 callee_of (run_of.Macro s n given) = macro_of s n given.items
 
--- the run of a block's stream, from a world; the world before it was b
+-- the run of a block's stream, from world w; b is the world before it
 abbrev pub runs_block : StreamId → World → World → Asked
 runs_block s b w = runs (block_call s b) w
 
--- the run of a macro of a stream with its arguments, from a world; the world before it was b
+-- the run of a macro of a stream with its arguments, from world w; b is the world before it
 abbrev pub runs_macro : StreamId → MacroData → List Val → World → World → Asked
 runs_macro s m given b w = runs (macro_call s m given b) w
 
--- a world in which a macro of a stream runs that isn't given `caller`
+-- a world in which a macro of a stream runs without `caller`
 abbrev pub in_macro : StreamId → MacroData → World → World
 in_macro s m w = record w {
   scopes = record {
@@ -167,38 +167,41 @@ in_macro s m w = record w {
   block = None;
 }
 
--- The stream is the block of this name at its list's place, and whether no other template has it.
+-- The stream is the current block of this name, and `alone` tells whether no other template has
+-- such a block.
 abbrev pub IsBlockOf : StreamId → Bool → List ℕ → World → Type 0
 IsBlockOf s alone x w =
     (l : List TemplateId) × (find x w.blocks ≡ Some l) × (slice_get l (place_in x w.places) ≡ Some s.template)
     × (s ≡ block_of s.template x) × (alone ≡ nat_eq (length l) 1)
 
--- the template whose block of this name is meant
+-- the template with the current block of this name
 abbrev pub template_of_block : List ℕ → World → Option TemplateId
 template_of_block x w = option_and_then (λ (l : List TemplateId). slice_get l (place_in x w.places)) (find x w.blocks)
 
--- The stream is the block after the one of this name, which runs, and n the place after that of the name's list.
+-- The stream is the next block of the running block's name x, and n its place in the list of that
+-- name.
 abbrev pub IsNextOf : StreamId → List ℕ → ℕ → World → Type 0
 IsNextOf s x n w =
     (w.block ≡ Some x) × ((l : List TemplateId) × (find x w.blocks ≡ Some l) × (n ≡ place_in x w.places + 1)
     × (slice_get l (place_in x w.places + 1) ≡ Some s.template) × (s ≡ block_of s.template x))
 
--- the template after the one whose block runs
+-- the template with the next block of the running block's name
 abbrev pub template_after : World → Option TemplateId
 template_after w =
     option_and_then (λ x. option_and_then (λ (l : List TemplateId). slice_get l (place_in x w.places + 1)) (find x w.blocks)) w.block
 
--- one scope more, over no context
+-- one more scope, over no context
 abbrev pub scoped : World → World
 scoped w = with_frames (plain_scope (undefined false) ∷ w.scopes.frames) w
 
--- a loop of a number more, in a scope of its own
+-- one more loop with this number, in a scope of its own
 abbrev pub with_open_loop : List Val → LoopFlags → ℕ → World → World
 with_open_loop items flags number w =
     record (with_frames (loop_scope (record { number = length w.loops; variable = flags.variable }) ∷ w.scopes.frames) w) {
       loops = w.loops ++ new_loop items flags number w ∷ [];
     }
 
--- The names that a state exports: its outermost scope's own, in the order of the scope's locals, without those that begin with `_`.
+-- The names that a state exports: its outermost scope's own, ordered by name, without those that
+-- begin with `_`.
 abbrev pub exported : World → List (List ℕ)
 exported w = exported_of w.scopes.frames

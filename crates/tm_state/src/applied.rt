@@ -1,4 +1,4 @@
-//! What values give that are passed to what a name stands for: a method, a filter or a test.
+//! Applications of methods, filters and tests to values.
 ghost use Rattle.std.specs.Prelude.{◌≡◌};
 ghost use Rattle.tm_meaning.specs.Calls.{applied, apply_filter, call_first, perform_test};
 ghost use Rattle.tm_state.specs.Answers.{Becomes, FoundAnswers, LeavesState};
@@ -13,9 +13,9 @@ use tm_tables::{CallableAnswer, Host, Parties};
 use tm_values::{Error, ErrorKind, Value};
 
 impl StateData {
-    /// What these values give that are passed to what a name stands for: the first one's method, a filter, or
-    /// the truth of what a test answers. InvalidOperation for a method of no value, and what the call refuses.
-    /// The place is a hint at where the filter or the test stands.
+    /// Applies to `args` the first value's method, the filter or the test named `name`; a test's
+    /// answer becomes a boolean. InvalidOperation for a method without a receiver, and the error of
+    /// the call. `place` is a hint for finding the filter or test.
     #[inline(always)]
     pub fn apply<H: Host>(
         &mut self,
@@ -39,7 +39,7 @@ impl StateData {
         }
     }
 
-    /// What the first value's method of a name gives for the others.
+    /// Calls the method `name` of the first value with the other values.
     fn call_first<H: Host>(
         &mut self,
         alloc: Global,
@@ -57,9 +57,9 @@ impl StateData {
         }
     }
 
-    /// What the filter of a name gives for these values; what it keeps is kept, also where it answers a fault.
-    /// UnknownFilter where there is none of that name, InvalidOperation for a further call beyond the limit, and the
-    /// fault of what is called.
+    /// Calls the filter `name` with `args`. The values that it keeps are kept even if it answers a
+    /// fault. UnknownFilter if there is no such filter, InvalidOperation for a further call beyond
+    /// the recursion limit, and the fault of the call.
     #[inline(always)]
     #[tactic(auto, using(crate::proofs::Answered::followed))]
     pub fn apply_filter<H: Host>(
@@ -78,9 +78,10 @@ impl StateData {
         self.follow(alloc, host, answer, false)
     }
 
-    /// Whether what the test of a name answers to these values is true, whatever undefined values do; what it
-    /// keeps is kept, also where it answers a fault. UnknownTest where there is none of that name, InvalidOperation
-    /// for a further call beyond the limit, and the fault of what is called.
+    /// Calls the test `name` with `args` and returns whether its answer is true, whatever the
+    /// undefined behavior is. The values that it keeps are kept even if it answers a fault.
+    /// UnknownTest if there is no such test, InvalidOperation for a further call beyond the
+    /// recursion limit, and the fault of the call.
     #[tactic(auto, using(crate::proofs::Answered::followed))]
     pub fn perform_test<H: Host>(
         &mut self,
@@ -98,7 +99,7 @@ impl StateData {
         self.follow(alloc, host, answer, true)
     }
 
-    /// What the filter of a name answers.
+    /// The answer of the filter `name`.
     #[inline(always)]
     #[tactic(auto, using(crate::proofs::Answered::named))]
     pub(crate) fn filter_answer<H: Host>(
@@ -119,7 +120,7 @@ impl StateData {
         }
     }
 
-    /// What the test of a name answers.
+    /// The answer of the test `name`.
     #[tactic(auto, using(crate::proofs::Answered::named))]
     fn test_answer<H: Host>(
         &self,

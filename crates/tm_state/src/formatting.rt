@@ -1,4 +1,4 @@
-//! What values are written as.
+//! The text of emitted values.
 ghost use Rattle.std.specs.Prelude.{◌≡◌};
 ghost use Rattle.tm_meaning.specs.World.{emitted};
 ghost use Rattle.tm_state.specs.Answers.{IsEmitted};
@@ -10,8 +10,9 @@ use tm_tables::{Host, Parties};
 use tm_values::{Error, UndefinedUse, Value, check_defined};
 
 impl StateData {
-    /// What a value is emitted as. UndefinedError where it is undefined and the behaviour refuses that, else what the
-    /// formatter answers, where there is one, and else what the escape refuses; OutOfMemory.
+    /// The text of an emitted value. UndefinedError if it is undefined and may not be emitted; then
+    /// the formatter's fault, if there is a formatter, or else the error of the escape;
+    /// OutOfMemory.
     pub fn format<H: Host>(&self, alloc: Global, host: &H, value: &Value) -> Result<String, Error>
         ensures { IsEmitted result (emitted (H.program host.now).host value.now self.now) self.now }
     {

@@ -10,7 +10,7 @@ use tm_syntax::Instruction;
 use tm_tables::Exhausted;
 
 impl StateData {
-    /// The fuel consumed and the fuel left, where fuel was set; together they are what was set.
+    /// The fuel consumed and the fuel left, if fuel was set; their sum is the fuel that was set.
     pub fn fuel_levels(&self) -> Option<(u64, u64)>
         ensures levels { result ≡ fuel_levels self.now }
         ensures sum { IfSome result (λ p. Some (p.0 + p.1) ≡ self.now.fuel_set) }
@@ -22,7 +22,7 @@ impl StateData {
         }
     }
 
-    /// Charges an instruction; Exhausted where less than its charge is left.
+    /// Charges an instruction; Exhausted if less than its charge is left.
     #[inline(always)]
     pub fn charge(&mut self, instruction: &Instruction) -> Result<(), Exhausted>
         ensures ok { OnOk result (pay instruction.now self.old ≡ Good tt self.new) }
@@ -36,7 +36,7 @@ impl StateData {
         self.fuel.pay(instruction)
     }
 
-    /// Whether a charge of one can be paid.
+    /// Whether a charge of 1 can be paid.
     #[inline(always)]
     pub fn can_pay(&self) -> bool
         ensures { result ≡ can_be_paid 1 self.now.fuel }
@@ -44,7 +44,7 @@ impl StateData {
         self.fuel.can_pay()
     }
 
-    /// The fuel that is left.
+    /// The fuel left.
     #[inline(always)]
     pub fn fuel_left(&self) -> u64
         ensures { result ≡ self.now.fuel }
@@ -52,7 +52,7 @@ impl StateData {
         self.fuel.remaining()
     }
 
-    /// Pays so much that this is left.
+    /// Pays all but `left`.
     #[inline(always)]
     pub fn pay_down_to(&mut self, left: u64)
         requires { left ≤ self.old.fuel }
@@ -61,7 +61,7 @@ impl StateData {
         self.fuel.pay_down_to(left);
     }
 
-    /// Pays a charge of one.
+    /// Pays a charge of 1.
     #[inline(always)]
     pub fn pay_one(&mut self)
         requires { CanPay 1 self.old.fuel }

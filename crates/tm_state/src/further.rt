@@ -1,4 +1,4 @@
-//! What an object of the caller answers, followed through the further calls that it asks for.
+//! How the answer of a caller's object is followed through the further calls that it asks for.
 ghost use Rattle.std.specs.Prelude.{◌≡◌, ◌+◌, ◌≤◌, false, IfOk, IfErr, OnErr, OnOk};
 ghost use Rattle.tm_values.specs.Val.{function, macro};
 ghost use Rattle.tm_syntax.specs.Named.{find, put_each};
@@ -21,15 +21,16 @@ use tm_tables::{CallableAnswer, Called, Host, NO_PLACE, Parties};
 use tm_values::{Error, ErrorKind, MacroValue, Node, Value};
 
 impl StateData {
-    /// How many depths more lie within the limit.
+    /// How many more levels of depth the limit allows.
     pub(crate) fn depths_left<H: Host>(&self, host: &H) -> usize
         ensures { result ≡ depths_left (H.program host.now).host self.now }
     {
         host.recursion_limit().saturating_sub(self.context.depth())
     }
 
-    /// What an answer comes to: what it keeps is kept, and then its further call is made, and so on, each one
-    /// deeper; of a test its truth. InvalidOperation for one beyond the limit, and what a call answers as its fault.
+    /// Follows an answer: stores the values that it keeps, makes the further call that it asks for,
+    /// one level deeper, follows the answer of that, and so on. For a test the result is the truth
+    /// of the value. InvalidOperation for a call beyond the limit, and the fault of an answer.
     pub(crate) fn follow<H: Host>(
         &mut self,
         alloc: Global,
@@ -69,7 +70,8 @@ impl StateData {
         }
     }
 
-    /// A value that was answered: its text where a macro was called on the way, and its truth where a test was.
+    /// The final value of a call: its text if a macro was called on the way, and the truth of that
+    /// if it is a test's.
     fn answered_value(
         &self,
         alloc: Global,
@@ -91,7 +93,7 @@ impl StateData {
         Ok(shown)
     }
 
-    /// What a further call comes to, which is so many levels deeper than the scopes stand.
+    /// Makes a further call `levels` deeper than the present scopes.
     fn further<H: Host>(
         &mut self,
         alloc: Global,
@@ -121,9 +123,9 @@ impl StateData {
         }
     }
 
-    /// What a further call comes to of what a name stands for, so many levels deeper than the scopes stand.
-    /// UnknownFunction where the name isn't found, InvalidOperation where its value can't be called, and what is refused
-    /// that is called.
+    /// Makes a further call of what `name` is bound to, `levels` deeper than the present scopes.
+    /// UnknownFunction if the name isn't bound, InvalidOperation if its value can't be called, and
+    /// the error of the call.
     fn further_named<H: Host>(
         &mut self,
         alloc: Global,
@@ -144,8 +146,8 @@ impl StateData {
         }
     }
 
-    /// What a further call comes to of a value, so many levels deeper than the scopes stand. InvalidOperation where it
-    /// can't be called, and what is refused that is called.
+    /// Makes a further call of `value`, `levels` deeper than the present scopes. InvalidOperation
+    /// if it can't be called, and the error of the call.
     fn further_value<H: Host>(
         &mut self,
         alloc: Global,
@@ -169,7 +171,7 @@ impl StateData {
         }
     }
 
-    /// What a further call comes to of the function of a number.
+    /// Makes a further call of the function `number`.
     fn further_function<H: Host>(
         &mut self,
         alloc: Global,
@@ -183,7 +185,7 @@ impl StateData {
             (function number) args.now self.old)) self.new }
         ensures lies { FurtherLies (H.program host.now).host.limit result self.old self.new }
     {
-        // Whether a test asked is no matter here.
+        // It doesn't matter here whether a test asked.
         let _test = test;
         match self.function_answer(alloc, host, number, args) {
             Ok(answer) => Ok(Further::Answered(answer)),
@@ -191,7 +193,7 @@ impl StateData {
         }
     }
 
-    /// The run that a further call of a macro needs, so many levels deeper than the scopes stand.
+    /// The run for a further call of a macro, `levels` deeper than the present scopes.
     fn further_macro<H: Host>(
         &mut self,
         alloc: Global,
@@ -212,8 +214,9 @@ impl StateData {
         }
     }
 
-    /// What the function of a number answers to these arguments; what a function of the language gives is its answer.
-    /// InvalidOperation where there is no such function, and what a function of the language refuses.
+    /// The answer of the function `number` to `args`; a function of the language answers with its
+    /// value. InvalidOperation if there is no such function, and the error of a function of the
+    /// language.
     pub(crate) fn function_answer<H: Host>(
         &mut self,
         alloc: Global,
@@ -236,8 +239,8 @@ impl StateData {
         }
     }
 
-    /// The run of the block of a name, so many levels deeper than the scopes stand, whose text is plain, or its truth
-    /// where a test asks for it. As `enter_block`; then the state stays as it was.
+    /// The run of the block `name`, `levels` deeper than the present scopes. Its text becomes plain
+    /// text, or its truth if a test asks for it. Errors as in `enter_block`; then nothing changes.
     fn further_block<H: Host>(
         &mut self,
         alloc: Global,
@@ -270,8 +273,8 @@ impl StateData {
         self.boxed(alloc, run)
     }
 
-    /// Enters the block of a name, so many levels deeper than the scopes stand, and gives its stream and what is put
-    /// back after it. As `enter_block`; then the state stays as it was.
+    /// Enters the block `name`, `levels` deeper than the present scopes, and returns its stream and
+    /// what is restored after it. Errors as in `enter_block`; then nothing changes.
     fn enter_deeper<H: Host>(
         &mut self,
         alloc: Global,

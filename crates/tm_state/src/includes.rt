@@ -1,4 +1,4 @@
-//! Templates that others include, and the modules that imports make.
+//! Included templates, and the modules of imports.
 ghost use Rattle.std.specs.Prelude.{◌≡◌, ◌+◌, ◌≤◌, ◌∷◌, [], IfErr, IfOk, None, OnErr, OnOk, Some, false};
 ghost use Rattle.tm_meaning.specs.Calls.{enter_include, first_found, include_depth, include_found, include_frames, refused};
 ghost use Rattle.tm_meaning.specs.Inheritance.{joined};
@@ -24,11 +24,12 @@ use tm_tables::{Host, Lists, Parties, TemplateEntry};
 use tm_values::{Error, ErrorKind, SharedText, Value};
 
 impl StateData {
-    /// The run of the first template that is there of those that a value names, `apart` in a scope of its own, or in those
-    /// that stand; `heard` says whether its text is. None where nothing happens: no template is there and one may be
-    /// missing, or the value names none. InvalidOperation where the value names no templates, where a name that is reached
-    /// is no text, and where the run would lie deeper than the limit; TemplateNotFound where none is there; the fault of
-    /// what joins names; OutOfMemory. Then the state stays as it was.
+    /// The run of the first existing template that `value` names, in a scope of its own if `apart`,
+    /// and otherwise in the present scopes; `heard` tells whether its text is output. None if there
+    /// is nothing to run: no named template exists and `missing` allows this, or the value names
+    /// none. InvalidOperation if the value can't name templates, if a name that is reached isn't
+    /// text, and if the run would exceed the depth limit; TemplateNotFound if no named template
+    /// exists; the fault of the object that joins names; OutOfMemory. If it fails, nothing changes.
     pub fn include_run<H: Host>(
         &mut self,
         alloc: Global,
@@ -60,9 +61,10 @@ impl StateData {
         }
     }
 
-    /// The first template that is there of those that a value names: of a text, or of the items of what has some; and
-    /// whether the value names none. InvalidOperation for other values, for a namespace whose record isn't there, and
-    /// where a choice that is reached is no text; the fault of what joins names; OutOfMemory.
+    /// The first existing template that `value` names, as a text or as items that are texts, and
+    /// whether the value names none. InvalidOperation for other values, for a namespace without a
+    /// record, and if an item that is reached isn't text; the fault of the object that joins names;
+    /// OutOfMemory.
     fn chosen<'a, H: Host>(
         &self,
         alloc: Global,
@@ -83,8 +85,9 @@ impl StateData {
         Ok((found, choices.as_slice().is_empty()))
     }
 
-    /// The first template that is there of these choices, each by its name in the template that runs. InvalidOperation
-    /// where a choice that is reached is no text; the fault of what joins names; OutOfMemory.
+    /// The first existing template of `choices`, each joined with the running template's name.
+    /// InvalidOperation if a choice that is reached isn't text; the fault of the object that joins
+    /// names; OutOfMemory.
     fn first_found<'a, H: Host>(
         &self,
         alloc: Global,
@@ -107,8 +110,8 @@ impl StateData {
         Ok(None)
     }
 
-    /// The template that a name means in the template that runs, where it is there. The fault of what joins names;
-    /// OutOfMemory.
+    /// The template that `name` means in the running template, if it exists. The fault of the
+    /// object that joins names; OutOfMemory.
     #[inline(always)]
     fn named<'a, H: Host>(
         &self,
@@ -132,8 +135,9 @@ impl StateData {
         Ok(host.entry(joined.as_str(), self.template_place))
     }
 
-    /// The run of a template, `apart` in a scope of its own, or in those that stand. InvalidOperation where it would lie
-    /// deeper than the limit; OutOfMemory. Then the state stays as it was.
+    /// The run of a template, in a scope of its own if `apart`, and otherwise in the present
+    /// scopes. InvalidOperation if it would exceed the depth limit; OutOfMemory. If it fails,
+    /// nothing changes.
     fn template_run<H: Host>(
         &mut self,
         alloc: Global,
@@ -177,8 +181,8 @@ impl StateData {
         self.boxed(alloc, run)
     }
 
-    /// Opens the scope of a template that runs `apart`, or else lets the innermost one have no closure of its own.
-    /// OutOfMemory, and then the state stays as it was.
+    /// Opens a scope for a template that runs `apart`, and otherwise detaches the innermost scope's
+    /// own closure. Fails only with OutOfMemory; then nothing changes.
     #[inline(always)]
     fn open_template<H: Host>(&mut self, alloc: Global, host: &H, apart: bool) -> Result<(), Error>
         requires fits { depth self.old.scopes + 1 ≤ (H.program host.now).host.limit }
@@ -197,8 +201,8 @@ impl StateData {
         Ok(())
     }
 
-    /// Lets a template run in the scopes that stand, deeper, with its own escape and lists, and gives what that replaces,
-    /// with how many scopes there were and the closure of the innermost one.
+    /// Starts a template in the present scopes, deeper and with its own escape and lists. Returns
+    /// what this replaces, together with `scopes` and `closure` from before.
     #[inline(always)]
     fn run_template<H: Host>(
         &mut self,
@@ -244,8 +248,8 @@ impl StateData {
         }
     }
 
-    /// The module of the names that the innermost scope exports, and of what a value is printed as. What refuses to
-    /// be printed is refused; OutOfMemory.
+    /// A module of the names that the innermost scope exports, with the text of `value`. Fails if
+    /// the value can't be printed; OutOfMemory.
     pub fn module(&self, alloc: Global, value: Value) -> Result<Value, Error>
         ensures ok { IfOk result (λ v. module_with value self.now ≡ Good v self.now) }
         ensures err { IfErr result (λ e. is_want_of_memory e ≡ false →
@@ -256,7 +260,7 @@ impl StateData {
         Value::module(alloc, pairs, text)
     }
 
-    /// What a value is printed as: a text is itself. What refuses to be printed is refused; OutOfMemory.
+    /// The text of `value`. Fails if it can't be printed; OutOfMemory.
     fn printed(&self, alloc: Global, value: Value) -> Result<SharedText, Error>
         ensures { IsAnswer result (text_answer (records_of self.now) value) }
     {

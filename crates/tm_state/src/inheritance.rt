@@ -1,4 +1,4 @@
-//! The block after the one that runs, and the parents that templates load.
+//! `super()`, and the parents that templates load.
 ghost use Rattle.std.specs.Prelude.{◌≡◌, ◌+◌, ◌≤◌, ◌∷◌, [], IfErr, IfOk, None, OnErr, OnOk, Some, false};
 ghost use Rattle.tm_meaning.specs.Calls.{call_super, enter_super, refused};
 ghost use Rattle.tm_meaning.specs.Inheritance.{load, load_named, names_left};
@@ -16,7 +16,8 @@ use tm_tables::{Host, NO_PLACE, Parties};
 use tm_values::{Error, ErrorKind, Value};
 
 impl StateData {
-    /// The run of a `super()` that is called with these values, which are to be none. As `super_run`.
+    /// Calls `super()`, which takes no arguments. InvalidOperation if `args` isn't empty, and the
+    /// errors of `super_run`.
     pub(crate) fn call_super<H: Host>(
         &mut self,
         alloc: Global,
@@ -34,9 +35,10 @@ impl StateData {
         Ok(CallResult::Run(run))
     }
 
-    /// The run of the block after the one that runs, in a scope of its own; `heard` and `value` say what becomes of
-    /// its text. InvalidOperation where no block runs or none is after it, or where its scope would lie deeper than the
-    /// limit; OutOfMemory. Then the state stays as it was.
+    /// The run of the next block of the running block's name, toward the root, in a scope of its
+    /// own; `heard` and `value` tell what becomes of its text. InvalidOperation if no block runs,
+    /// if it has no next one, or if the scope would exceed the depth limit; OutOfMemory. If it
+    /// fails, nothing changes.
     pub fn super_run<H: Host>(
         &mut self,
         alloc: Global,
@@ -72,8 +74,9 @@ impl StateData {
         self.boxed(alloc, run)
     }
 
-    /// The stream of the block after the one that runs, the name of both, and the place after that of its list.
-    /// InvalidOperation where no block runs or none is after it; OutOfMemory where the owners of a name can't be counted.
+    /// The stream of the next block toward the root, the name of the running block, and the next
+    /// block's place in the list of that name. InvalidOperation if no block runs or it has no next
+    /// one; OutOfMemory if a reference count overflows.
     fn next_block(&self) -> Result<(StreamId, Name, usize), Error>
         ensures ok { IfOk result (λ r. IsNextOf r.0 r.1 r.2 self.now) }
         ensures err { IfErr result (λ e. is_want_of_memory e ≡ false →
@@ -90,7 +93,7 @@ impl StateData {
         Ok((stream, name.share()?, next))
     }
 
-    /// What is put back after a block. Fails by OutOfMemory alone, where the owners of a name can't be counted.
+    /// What is restored after a block. Fails only with OutOfMemory, if a reference count overflows.
     pub(crate) fn saved_block(&self) -> Result<SavedBlock, Error>
         ensures ok { IfOk result (λ saved. saved ≡ saved_of self.now) }
         ensures kind { IfErr result (λ e. e ≡ ErrorKind.OutOfMemory ∷ []) }
@@ -104,8 +107,8 @@ impl StateData {
         })
     }
 
-    /// A stream runs from here on. Fails by OutOfMemory alone, where the owners of a name can't be counted; then the
-    /// state stays as it was.
+    /// Makes `stream` the running stream. Fails only with OutOfMemory, if a reference count
+    /// overflows; then nothing changes.
     pub fn set_stream(&mut self, stream: &StreamId) -> Result<(), Error>
         ensures ok { OnOk result (self.new ≡ record self.old { stream = stream.now }) }
         ensures kind { IfErr result (λ e. e ≡ ErrorKind.OutOfMemory ∷ []) }
@@ -115,9 +118,11 @@ impl StateData {
         Ok(())
     }
 
-    /// Loads the template that a value names, whose blocks then stand after those that are there. InvalidOperation where
-    /// the value is no text, where a parent waits, inside a capture of the run, and for a name that was loaded before;
-    /// TemplateNotFound where there is no such template; OutOfMemory, and then blocks may stand after those that were there.
+    /// Loads the parent template that `value` names and appends its blocks to the lists.
+    /// InvalidOperation if the value isn't text, if a parent is already waiting, inside a capture
+    /// of the run, and if the template was loaded before; TemplateNotFound if there is no such
+    /// template; the fault of the object that joins names; OutOfMemory, and then its blocks may
+    /// have been appended already.
     pub fn load<H: Host>(
         &mut self,
         alloc: Global,
@@ -142,8 +147,9 @@ impl StateData {
         self.load_named(alloc, host, name)
     }
 
-    /// The name of the template that a value names. InvalidOperation where the value is no text, where a parent waits,
-    /// and inside a capture of the run; the fault of what joins names; OutOfMemory.
+    /// The name of the template that `value` names. InvalidOperation if the value isn't text, if a
+    /// parent is already waiting, and inside a capture of the run; the fault of the object that
+    /// joins names; OutOfMemory.
     fn parent_name<H: Host>(
         &self,
         alloc: Global,
@@ -171,8 +177,8 @@ impl StateData {
         )
     }
 
-    /// Loads the template of a name. InvalidOperation where that was loaded before, TemplateNotFound where there is none;
-    /// OutOfMemory.
+    /// Loads the template `name`. InvalidOperation if it was loaded before, TemplateNotFound if
+    /// there is none; OutOfMemory.
     fn load_named<H: Host>(
         &mut self,
         alloc: Global,

@@ -1,4 +1,4 @@
-//! The data of a state: what a render starts from, what its names and functions give, its blocks, its macros and its fuel.
+//! The data of a state: its start, names, functions, blocks, macros and fuel.
 #![tactic(auto)]
 
 mod applied;

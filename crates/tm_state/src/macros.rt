@@ -1,4 +1,4 @@
-//! Macros: closures, values and the arguments that calls give.
+//! Macros: their closures, values, arguments and runs.
 ghost use Rattle.std.specs.Prelude.{◌≡◌, ◌+◌, ◌≤◌, ◌<◌, ◌∷◌, [], IfErr, IfOk, IfSome, None, Ok, OnErr, OnOk, Some, false, length, map as each};
 ghost use Rattle.std.specs.Rc.{rc_str_bytes};
 ghost use Rattle.tm_meaning.specs.Calls.{enter_macro, known_stream, macro_scopes, refused};
@@ -18,20 +18,21 @@ use tm_syntax::Name;
 use tm_tables::{Context, Found, Host};
 use tm_values::{Error, ErrorKind, MacroValue, Node, Value};
 
-/// How deep the outer scope of a macro lies above the call.
+/// How much deeper than its call a macro's outer scope is.
 const MACRO_DEPTH: usize = 4;
 
 impl StateData {
-    /// The number of the closure that was made in the innermost scope, where one was.
+    /// The number of the closure that was made in the innermost scope, if any.
     pub fn own_closure(&self) -> Option<usize>
         ensures { result ≡ own_closure self.now.scopes.frames }
     {
         self.context.own_closure()
     }
 
-    /// Lets the innermost scope's own closure, which is made where there is none, have a name with its present value, or
-    /// undefined; a name that it has stays as it is. InvalidOperation where a context value on the way can't be known;
-    /// OutOfMemory. Then the state stays as it was.
+    /// Binds `name` to its present value, or undefined, in the innermost scope's own closure, which
+    /// is made if there is none. If the closure binds the name already, nothing changes.
+    /// InvalidOperation if the lookup meets a context value without a record; OutOfMemory. If it
+    /// fails, nothing changes.
     pub fn enclose<H: Host>(&mut self, alloc: Global, host: &H, name: &Name) -> Result<(), Error>
         ensures ok { OnOk result
             (enclose (H.program host.now).host name.now self.old ≡ Good tt self.new) }
@@ -56,8 +57,8 @@ impl StateData {
         self.enclose_value(alloc, own, name.share()?, value)
     }
 
-    /// Lets the innermost scope's own closure, which is made where there is none, have a name with a value. Fails by
-    /// OutOfMemory alone, and then the state stays as it was.
+    /// Binds `name` to `value` in the innermost scope's own closure, which is made if there is
+    /// none. Fails only with OutOfMemory; then nothing changes.
     #[tactic(auto, using(crate::proofs::Stored::made, crate::proofs::Stored::not_made, crate::proofs::Stored::put_more))]
     fn enclose_value(
         &mut self,
@@ -83,8 +84,8 @@ impl StateData {
         Ok(())
     }
 
-    /// A macro of the stream that runs: the number of its entry there, its closure, its name, its arguments, and whether
-    /// it takes `caller`. Fails by OutOfMemory alone, and then the state stays as it was.
+    /// Makes a macro of the running stream: `number` is its entry there, and `caller` tells whether
+    /// it takes `caller`. Fails only with OutOfMemory; then nothing changes.
     pub fn make_macro(
         &mut self,
         alloc: Global,
@@ -108,10 +109,10 @@ impl StateData {
         Ok(value)
     }
 
-    /// The run of a macro that is called with these values so many levels deeper than the scopes stand, whose text is
-    /// this. InvalidOperation where the macro is another state's, its stream or its closure isn't there, or its scopes
-    /// would lie deeper than the limit, TooManyArguments where the values don't fit its arguments; OutOfMemory. Then the
-    /// state stays as it was.
+    /// The run of a macro called with `args`, `levels` deeper than the present scopes; `text` tells
+    /// how its text becomes a value. InvalidOperation if the macro belongs to another state, if its
+    /// stream or closure is missing, or if its scopes would exceed the depth limit;
+    /// TooManyArguments if `args` don't fit; OutOfMemory. If it fails, nothing changes.
     #[inline(always)]
     pub(crate) fn macro_run<H: Host>(
         &mut self,
@@ -137,7 +138,7 @@ impl StateData {
         Ok(entry)
     }
 
-    /// A box for a macro's run, one that was kept or a new one. Fails by OutOfMemory alone.
+    /// A box for a macro's run, a kept one or a new one. Fails only with OutOfMemory.
     fn macro_box(&mut self, alloc: Global) -> Result<Box<NestedRun>, Error>
         ensures unchanged { self.new ≡ self.old }
         ensures kind { IfErr result (λ e. e ≡ ErrorKind.OutOfMemory ∷ []) }
@@ -148,8 +149,8 @@ impl StateData {
         }
     }
 
-    /// Enters a macro that is called with these values, and writes its run, with what is put back after it, into an
-    /// entry. As `macro_run`; then the state stays as it was.
+    /// Enters a macro called with `args` and writes its run and what is restored after it into
+    /// `entry`. Errors as in `macro_run`; then nothing changes.
     #[inline(always)]
     fn enter_macro<H: Host>(
         &mut self,
@@ -198,7 +199,7 @@ impl StateData {
         Ok(())
     }
 
-    /// The stream of a macro, where that and the macro's closure are there.
+    /// The stream of a macro if it and the macro's closure exist.
     fn known_stream(&self, declared: &MacroValue) -> Option<&StreamId>
         ensures { IsLent result (known_stream declared.now self.now) }
     {
@@ -210,14 +211,14 @@ impl StateData {
         self.streams.get(declared.stream())
     }
 
-    /// The macro that a name stands for in the scopes, where it stands for one and this state made macros, since others'
-    /// can't be called here.
+    /// The macro that `name` is bound to in the scopes, if it is one and this state has made
+    /// macros; other states' macros can't be called here.
     #[inline(always)]
     pub fn macro_named(&self, name: &Name) -> Option<&MacroValue>
         ensures { IfSome result (λ m. (host : HostValue) →
             find_name (view_of host self.now) name.now ≡ Ok (Some (macro m.now))) }
     {
-        // Most calls are of functions, in states without macros.
+        // An early exit, since most calls are of functions, in states without macros.
         let _made = self.streams.get(0)?;
         match self.context.find(name, &self.closures, self) {
             Ok(Some(Found::Value(value))) => match &value.node {
@@ -228,8 +229,8 @@ impl StateData {
         }
     }
 
-    /// The stream and the arguments of a macro that is called with these values, in this room, where it can be entered.
-    /// None where the call is refused, where the macro takes `caller`, and where there is no memory.
+    /// The stream and the arguments, in `room`, of a macro called with `args`, if it can be
+    /// entered. None if the call is refused, if the macro takes `caller`, and if memory runs out.
     pub fn plain_call<H: Host>(
         &self,
         alloc: Global,
@@ -255,8 +256,8 @@ impl StateData {
         Some((stream, given))
     }
 
-    /// The scopes in which a macro runs that is called with these values, which stand at a depth. Fails by OutOfMemory
-    /// alone.
+    /// The scopes for a macro called with `args`, at the depth `outer`. Fails only with
+    /// OutOfMemory.
     fn macro_scopes(
         &mut self,
         alloc: Global,

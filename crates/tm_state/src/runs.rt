@@ -1,4 +1,4 @@
-//! What runs: blocks that are entered, and what is put back after a run.
+//! Runs: entering blocks, and restoring the state after a run.
 ghost use Rattle.std.specs.Prelude.{◌≡◌, ◌+◌, ◌-◌, ◌≤◌, ◌∷◌, [], IfErr, IfOk, None, OnErr, OnOk, Some, false};
 ghost use Rattle.tm_meaning.specs.Calls.{deeper, enter_block, refused};
 ghost use Rattle.tm_meaning.specs.Memory.{is_want_of_memory};
@@ -20,7 +20,8 @@ use tm_tables::{Context, Host, Lists, NameTable};
 use tm_values::{Error, ErrorKind, Value};
 
 impl StateData {
-    /// Lets the scopes stand so many levels deeper, within the limit, and gives the depth at which the outermost one stood.
+    /// Moves the scopes `levels` deeper, within the limit, and returns the former depth of the
+    /// outermost one.
     pub(crate) fn go_deeper<H: Host>(&mut self, host: &H, levels: usize) -> usize
         requires { depth self.old.scopes + levels ≤ (H.program host.now).host.limit }
         ensures outer { result ≡ self.old.scopes.outer }
@@ -33,17 +34,17 @@ impl StateData {
         outer
     }
 
-    /// Lets the outermost scope stand at a depth.
+    /// Sets the depth of the outermost scope.
     pub(crate) fn stand_at(&mut self, outer: usize)
         ensures { self.new ≡ record self.old { scopes = record self.old.scopes { outer = outer } } }
     {
         self.context.set_outer(outer);
     }
 
-    /// Enters the block of a name, in a scope of its own, and gives its stream and what is put back after
-    /// it. UnknownBlock where there is none, InvalidOperation where it is required and nothing fills it, or
-    /// where its scope would lie deeper than the limit; OutOfMemory where there is no memory. Then the state
-    /// stays as it was.
+    /// Enters the block `name` in a scope of its own, and returns its stream and what is restored
+    /// after it. UnknownBlock if there is no such block, InvalidOperation if it is required and not
+    /// overridden, or if its scope would exceed the depth limit; OutOfMemory if memory runs out. If
+    /// it fails, nothing changes.
     pub fn enter_block<H: Host>(
         &mut self,
         alloc: Global,
@@ -75,7 +76,7 @@ impl StateData {
         Ok((stream, saved))
     }
 
-    /// The run of the block of a name, whose text is the value of the call. As `enter_block`.
+    /// Calls the block `name`; its text becomes the value of the call. Errors as in `enter_block`.
     pub fn call_block<H: Host>(
         &mut self,
         alloc: Global,
@@ -98,7 +99,7 @@ impl StateData {
         Ok(CallResult::Run(self.boxed(alloc, run)?))
     }
 
-    /// The name of the block that runs, where one does.
+    /// The name of the running block, if any.
     pub fn current_block(&self) -> Option<&str>
         ensures { IsLent result self.now.block }
     {
@@ -108,8 +109,8 @@ impl StateData {
         }
     }
 
-    /// The stream of the block of a name, and whether no other template has that. UnknownBlock where there is none,
-    /// OutOfMemory where the owners of a name can't be counted.
+    /// The stream of the current block named `name`, and whether no other template has such a
+    /// block. UnknownBlock if there is no such block, OutOfMemory if a reference count overflows.
     fn block_stream(&self, name: &Name) -> Result<(StreamId, bool), Error>
         ensures ok { IfOk result (λ r. IsBlockOf r.0 r.1 name.now self.now) }
         ensures err { IfErr result (λ e. is_want_of_memory e ≡ false →
@@ -123,7 +124,7 @@ impl StateData {
         Ok((stream, alone))
     }
 
-    /// Lets a block run, and gives what that replaces, with how many scopes there were before its own.
+    /// Starts a block and returns what this replaces, with the number of scopes before its own.
     fn run_block(&mut self, stream: StreamId, block: Name, scopes: usize) -> SavedBlock
         ensures saved { result ≡ record (saved_of self.old) { scopes = scopes } }
         ensures runs { self.new ≡ record self.old { stream = stream; block = Some block } }
@@ -137,7 +138,8 @@ impl StateData {
         }
     }
 
-    /// Lets the block after the one that runs go on, at these places in lists of blocks, and gives what that replaces.
+    /// Starts the next block of `super()` with these places in the lists of blocks, and returns
+    /// what this replaces.
     pub(crate) fn run_super(
         &mut self,
         stream: StreamId,
@@ -154,7 +156,7 @@ impl StateData {
         }
     }
 
-    /// Lets a macro run in scopes of its own, and gives what that replaces, with a second owner of the lists.
+    /// Starts a macro in scopes of its own and returns what this replaces, with the shared lists.
     #[inline(always)]
     pub(crate) fn run_macro(
         &mut self,
@@ -179,7 +181,8 @@ impl StateData {
         }
     }
 
-    /// A run, boxed. Where there is no memory for that, what it replaced is put back; OutOfMemory.
+    /// Moves a run into a box. OutOfMemory if memory runs out; then what the run replaced is
+    /// restored.
     #[inline(always)]
     pub(crate) fn boxed(&mut self, alloc: Global, run: NestedRun) -> Result<Box<NestedRun>, Error>
         ensures ok { IfOk result (λ boxed. boxed.value ≡ run) }
@@ -197,7 +200,8 @@ impl StateData {
         }
     }
 
-    /// Puts back what a run replaced, and leaves the scopes that it opened. What it left stands in its place.
+    /// Restores what a run replaced and leaves the scopes that it opened. `saved` is of no use
+    /// afterwards.
     pub fn put_back(&mut self, saved: &mut Saved)
         ensures { self.new ≡ put_back saved.old self.old }
     {
@@ -209,7 +213,7 @@ impl StateData {
         }
     }
 
-    /// The same of what the run in a box replaced. The box of a macro's run is kept for another one.
+    /// `put_back` for a run in a box. The box of a macro's run is kept for reuse.
     pub fn put_back_of(&mut self, mut run: Box<NestedRun>)
         ensures { self.new ≡ put_back run.value.saved self.old }
     {
@@ -221,7 +225,7 @@ impl StateData {
         self.rooms.keep_run(run);
     }
 
-    /// Leaves the scopes that a block opened, and puts back what it replaced.
+    /// Leaves the scopes that a block opened and restores what it replaced.
     #[inline(always)]
     fn leave_block(&mut self, saved: &mut SavedBlock)
         ensures { self.new ≡ after_block saved.old self.old }
@@ -232,7 +236,7 @@ impl StateData {
         self.escape = saved.escape;
     }
 
-    /// Leaves the scopes that a `super()` opened, and puts back what it replaced.
+    /// Leaves the scopes that a `super()` opened and restores what it replaced.
     fn leave_super(&mut self, saved: &mut SavedSuper)
         ensures { self.new ≡ after_super saved.old self.old }
     {
@@ -240,7 +244,7 @@ impl StateData {
         self.lists.swap_places(&mut saved.places);
     }
 
-    /// Leaves a macro's scopes, and puts back what it replaced.
+    /// Leaves a macro's scopes and restores what it replaced.
     fn leave_macro(&mut self, saved: &mut SavedMacro)
         ensures { self.new ≡ after_macro saved.old self.old }
     {
@@ -255,12 +259,13 @@ impl StateData {
         mem::swap(&mut self.stream, stream);
         mem::swap(&mut self.block, block);
         self.escape = *escape;
-        // Nothing that is kept owns lists.
+        // A kept box owns no lists.
         let none = Lists::new(self.rooms.allocator());
         self.lists = mem::replace(lists, none);
     }
 
-    /// Leaves the scopes that an include opened, and puts back what it replaced. Names that it gave stay.
+    /// Leaves the scopes that an include opened and restores what it replaced. Names that it bound
+    /// in the remaining scopes stay.
     fn leave_include(&mut self, saved: &mut SavedInclude)
         ensures { self.new ≡ after_include saved.old self.old }
     {
@@ -269,7 +274,7 @@ impl StateData {
         mem::swap(&mut self.lists, &mut saved.lists);
     }
 
-    /// Room for a run's operands, of which there are none.
+    /// An empty vector for a run's operands.
     pub fn take_operands(&mut self, alloc: Global) -> Vec<Value>
         ensures empty { result.items ≡ [] }
         ensures unchanged { self.new ≡ self.old }
@@ -277,7 +282,7 @@ impl StateData {
         self.rooms.take_operands(alloc)
     }
 
-    /// Keeps the room of a run's operands for another one.
+    /// Keeps the memory of a run's operands for another run.
     pub fn keep_operands(&mut self, operands: Vec<Value>)
         ensures { self.new ≡ self.old }
     {

@@ -33,7 +33,7 @@ use tm_values::{
     check_defined,
 };
 
-/// What a state keeps. A contract sees it as a world of the definitions.
+/// What a state stores. A contract sees it as a world of the definitions.
 pub struct StateData {
     id: u64,
     pub(crate) context: Context,
@@ -52,7 +52,7 @@ pub struct StateData {
     pub(crate) template_place: usize,
 }
 
-// By hand: one call for each owner, in place of a drop of each part.
+// Written by hand: one drop call per owner instead of dropping each part.
 impl Drop for StateData {
     fn drop(self) {
         let StateData {
@@ -105,8 +105,8 @@ impl Model for StateData {
 }
 
 impl StateData {
-    /// The state that a render of a template starts from: one scope over the context value, the template's
-    /// blocks, of these names, and the fuel, or the greatest u64 where none is set. Fails by OutOfMemory alone.
+    /// The state at the start of a render: one scope over `context`, the template's blocks, which
+    /// have these `names`, and the fuel, or `u64::MAX` if none is set. Fails only with OutOfMemory.
     pub fn new(
         alloc: Global,
         id: u64,
@@ -141,7 +141,7 @@ impl StateData {
         })
     }
 
-    /// The innermost scope's own value of a name, where it has one.
+    /// The value that the innermost scope itself binds to `name`, if any.
     #[inline(always)]
     pub fn local(&self, name: &Name) -> Option<&Value>
         ensures own { IsLent result (find name.now (top_locals self.now.scopes.frames)) }
@@ -169,8 +169,8 @@ impl StateData {
         )
     }
 
-    /// The value of a name: of the scopes, an inner one's first, else of the globals. InvalidOperation where
-    /// a context value on the way can't be known.
+    /// The value that `name` is bound to: in the scopes, innermost first, else among the globals.
+    /// InvalidOperation if the search meets a context value without a record.
     pub fn lookup<H: Host>(&self, host: &H, name: &Name) -> Result<Option<Value>, Error>
         ensures { IsAnswer result (find_name (view_of (H.program host.now).host self.now) name.now) }
     {
@@ -183,8 +183,8 @@ impl StateData {
         }
     }
 
-    /// The names that a look-up finds, in the scopes or among the globals, each once, in their order.
-    /// InvalidOperation where a context value is a namespace whose record isn't there; OutOfMemory.
+    /// The names that a lookup finds, in the scopes or among the globals, each once, in order.
+    /// InvalidOperation if a context value is a namespace without a record; OutOfMemory.
     pub fn known_variables<'a, H: Host>(
         &'a self,
         alloc: Global,
@@ -200,14 +200,15 @@ impl StateData {
             .known_names(alloc, &self.closures, self, host.globals())
     }
 
-    /// The value that was kept at a name, where there is one.
+    /// The value that is kept under `name`, if any.
     pub fn get_temp(&self, name: &str) -> Option<&Value>
         ensures { IsLent result (find name.now self.now.temps) }
     {
         self.temps.get(name)
     }
 
-    /// Keeps a value at a name, and gives the one that was kept there. Fails by OutOfMemory alone, and then all stays as it was.
+    /// Keeps `value` under `name` and returns the value that was kept there. Fails only with
+    /// OutOfMemory; then nothing changes.
     pub fn set_temp(&mut self, name: Name, value: Value) -> Result<Option<Value>, Error>
         ensures before { IfOk result (λ before. before ≡ find name self.old.temps) }
         ensures ok { OnOk result
@@ -219,7 +220,8 @@ impl StateData {
         Ok(before)
     }
 
-    /// The names that the outermost scope exports, in their order: those of its own that don't begin with `_`. Fails by OutOfMemory alone.
+    /// The names that the outermost scope exports, in order: its own names that don't begin with
+    /// `_`. Fails only with OutOfMemory.
     pub fn exports(&self, alloc: Global) -> Result<Vec<&str>, Error>
         ensures { OkOrOutOfMemory result (λ names. texts_of names.items ≡ exported self.now) }
     {
@@ -233,7 +235,8 @@ impl StateData {
         self.id
     }
 
-    /// Keeps values by name, one after the other. Fails by OutOfMemory alone, and then only what is kept has changed.
+    /// Keeps values by name, in order. Fails only with OutOfMemory; then only kept values may have
+    /// changed.
     pub fn keep(&mut self, temps: Vec<(Name, Value)>) -> Result<(), Error>
         ensures ok { OnOk result (self.new.temps ≡ put_each temps.items self.old.temps) }
         ensures kind { IfErr result (λ e. e ≡ ErrorKind.OutOfMemory ∷ []) }
@@ -245,8 +248,8 @@ impl StateData {
         keep_each(&mut self.temps, temps)
     }
 
-    /// What a function of the language gives for these arguments; a namespace's record then stands after all
-    /// others. Fails as `range`, `dict` and `namespace` do; then the state stays as it was.
+    /// Calls a function of the language with `args`; the record of a new namespace comes after all
+    /// others. Fails as `range`, `dict` and `namespace` do; then nothing changes.
     pub fn call_language(
         &mut self,
         alloc: Global,
@@ -272,7 +275,8 @@ impl StateData {
         }
     }
 
-    /// A namespace of these pairs, whose record stands after all others. Fails by OutOfMemory alone; then the state stays as it was.
+    /// A new namespace of `pairs`, whose record comes after all others. Fails only with
+    /// OutOfMemory; then nothing changes.
     fn add_namespace(&mut self, pairs: ValueMap) -> Result<Value, Error>
         ensures ok { IfOk result (λ v. make_namespace pairs self.old ≡ Good v self.new) }
         ensures kind { IfErr result (λ e. e ≡ ErrorKind.OutOfMemory ∷ []) }
@@ -284,8 +288,8 @@ impl StateData {
         Ok(Value::namespace(self.id, number))
     }
 
-    /// Whether a value can be emitted where there is no formatter: UndefinedError where it is undefined and the
-    /// behaviour refuses that, else what the escape refuses.
+    /// Whether `value` can be emitted without a formatter: UndefinedError if it is undefined and
+    /// may not be emitted, else the error of the escape.
     pub fn check_value<H: Host>(&self, alloc: Global, host: &H, value: &Value) -> Result<(), Error>
         requires { (H.program host.now).host.formatter ≡ None }
         ensures { CanBeEmitted result (emitted (H.program host.now).host value.now self.now)
@@ -295,14 +299,14 @@ impl StateData {
         check_emission(alloc, value, self.escape, self)
     }
 
-    /// How many scopes there are.
+    /// The number of scopes.
     pub fn height(&self) -> usize
         ensures { result ≡ length self.now.scopes.frames }
     {
         self.context.height()
     }
 
-    /// Takes the state out, and leaves one of no template and without scopes in its place.
+    /// Takes the state out and leaves one without a template, scopes and fuel.
     pub fn take(&mut self, alloc: Global) -> StateData
         ensures taken { result ≡ self.old }
         ensures left { self.new ≡ nothing_left }
@@ -329,42 +333,43 @@ impl StateData {
         )
     }
 
-    /// The stream that runs.
+    /// The running stream.
     pub fn stream(&self) -> &StreamId
         ensures { result.now ≡ self.now.stream }
     {
         &self.stream
     }
 
-    /// Where the template stands that was rendered or included last, as a hint for the look-ups of a host.
+    /// The place of the template that was rendered or included last, as a hint for the host's
+    /// lookups.
     #[inline(always)]
     pub fn template_place(&self) -> usize {
         self.template_place
     }
 
-    /// Takes a place as that hint.
+    /// Sets that hint.
     pub fn set_template_place(&mut self, place: usize)
         ensures { self.new ≡ self.old }
     {
         self.template_place = place;
     }
 
-    /// How what is emitted is escaped.
+    /// How output is escaped.
     pub fn escape(&self) -> AutoEscape
         ensures { result ≡ self.now.escape }
     {
         self.escape
     }
 
-    /// Escapes what is emitted so from here on.
+    /// Sets how output is escaped.
     pub fn set_escape(&mut self, escape: AutoEscape)
         ensures { self.new ≡ with_escape escape self.old }
     {
         self.escape = escape;
     }
 
-    /// One scope more, over no context. InvalidOperation where it would lie deeper than the limit,
-    /// OutOfMemory where there is no memory; then the state stays as it was.
+    /// Pushes an empty scope. InvalidOperation if it would exceed the depth limit, OutOfMemory if
+    /// memory runs out; then nothing changes.
     pub fn push_scope(&mut self, alloc: Global, limit: usize) -> Result<(), Error>
         ensures ok { OnOk result (self.new ≡ scoped self.old) }
         ensures fits { OnOk result (nat_lt (depth self.old.scopes) limit ≡ true) }
@@ -375,9 +380,9 @@ impl StateData {
             .push_frame(Frame::new(Value::undefined()), limit)
     }
 
-    /// A loop of a number over items in a scope of its own, with a record after all others. InvalidOperation
-    /// where the scope would lie deeper than the limit, OutOfMemory where there is no memory; then the state
-    /// stays as it was.
+    /// Opens the loop `number` over `items` in a scope of its own, with a record after all others.
+    /// InvalidOperation if the scope would exceed the depth limit, OutOfMemory if memory runs out;
+    /// then nothing changes.
     pub fn open_loop(
         &mut self,
         alloc: Global,
@@ -414,7 +419,7 @@ impl StateData {
         added
     }
 
-    /// How deep a loop stands that is opened now. None where that is beyond the machine's numbers.
+    /// The depth of a loop that is opened now. None if it overflows.
     fn loop_depth(&self) -> Option<usize>
         ensures { SomeIff result (loop_depth self.now < 2 ^ 64) (loop_depth self.now) }
     {
@@ -427,21 +432,21 @@ impl StateData {
         }
     }
 
-    /// The number of the innermost loop's record, where a loop is open.
+    /// The number of the innermost loop's record, if a loop is open.
     pub(crate) fn innermost_loop(&self) -> Option<usize>
         ensures { result ≡ innermost self.now.scopes.frames }
     {
         self.context.innermost_loop()
     }
 
-    /// The record of a number, where there is one.
+    /// The loop record `number`, if there is one.
     pub(crate) fn loop_at(&self, number: usize) -> Option<&LoopState>
         ensures { IsLent result (slice_get self.now.loops number) }
     {
         self.loops.get(number)
     }
 
-    /// The record of the innermost scope, where that is a loop's.
+    /// The loop record of the innermost scope, if it is a loop's.
     #[inline(always)]
     pub fn top_loop(&self) -> Option<&LoopState>
         ensures { IsLent result (top_loop self.now) }
@@ -452,9 +457,9 @@ impl StateData {
         }
     }
 
-    /// Whether these arguments differ from those that the loop of a number keeps, which they then replace.
-    /// InvalidOperation where there is no such loop, OutOfMemory where there is no memory; then the state
-    /// stays as it was.
+    /// Whether `args` differ from the arguments that the loop `number` kept last; if so, it keeps
+    /// `args`. InvalidOperation if there is no such loop, OutOfMemory if memory runs out; then
+    /// nothing changes.
     pub(crate) fn loop_changed(
         &mut self,
         alloc: Global,
@@ -469,7 +474,8 @@ impl StateData {
         Ok(Value::boolean(changed))
     }
 
-    /// The argument whose turn it is at the item of the loop of a number. InvalidOperation where there is no such loop; OutOfMemory.
+    /// The argument for the current item of the loop `number`, in turn. InvalidOperation if there
+    /// is no such loop; OutOfMemory.
     pub(crate) fn loop_cycle(&self, number: usize, args: &[Value]) -> Result<Value, Error>
         ensures { Comes result (of_loop (slice_get self.now.loops number) self.now
             (told_turn args.now self.now)) self.now }
@@ -480,7 +486,7 @@ impl StateData {
         }
     }
 
-    /// Asks the innermost scope's loop for its next item.
+    /// Advances the innermost scope's loop to its next item.
     #[inline(always)]
     pub fn next_turn(&mut self)
         ensures { self.new ≡ next_turn self.old }
@@ -490,7 +496,7 @@ impl StateData {
         }
     }
 
-    /// The innermost scope loses its names.
+    /// Drops the names of the innermost scope.
     #[inline(always)]
     pub fn clear_locals(&mut self)
         ensures { self.new ≡ cleared self.old }
@@ -505,22 +511,22 @@ impl StateData {
         self.context.top_mark().is_some()
     }
 
-    /// Forgets the records of all loops: the values of loops are of none then.
+    /// Forgets the records of all loops; the values of loops have no record afterwards.
     pub fn forget_loops(&mut self)
         ensures { self.new ≡ record self.old { loops = [] } }
     {
         self.loops.clear();
     }
 
-    /// Leaves the innermost scope.
+    /// Drops the innermost scope.
     pub fn pop_scope(&mut self)
         ensures { self.new ≡ pop self.old }
     {
         self.context.pop_frame();
     }
 
-    /// Lets the innermost scope have a name from here on, and its own closure too, where it has one. Fails by
-    /// OutOfMemory alone, and then the state stays as it was.
+    /// Binds `name` in the innermost scope, and in its own closure, if it has one. Fails only with
+    /// OutOfMemory; then nothing changes.
     #[tactic(auto, using(crate::proofs::Stored::plainly, crate::proofs::Stored::enclosed))]
     pub fn store(&mut self, name: &Name, value: Value) -> Result<(), Error>
         ensures ok { OnOk result (self.new ≡ store name.now value self.old) }
@@ -536,8 +542,8 @@ impl StateData {
         }
     }
 
-    /// Lets the innermost scope have a name for a second owner of a value, where there is room and the scope has no
-    /// closure of its own. Else all stays as it was, and the answer is false.
+    /// Binds `name` in the innermost scope to a shared copy of `value`. If memory runs out or the
+    /// scope has a closure of its own, nothing changes and the result is false.
     #[inline(always)]
     #[tactic(auto, using(crate::proofs::Stored::at_once))]
     pub fn store_at_once(&mut self, name: &Name, value: &Value) -> bool
@@ -550,8 +556,8 @@ impl StateData {
         self.context.store_at_once(name, value)
     }
 
-    /// Gives a value to an attribute of a namespace. InvalidOperation for what is no namespace of this state;
-    /// OutOfMemory. Then the state stays as it was.
+    /// Sets an attribute of a namespace. InvalidOperation for a value that isn't a namespace of
+    /// this state; OutOfMemory. If it fails, nothing changes.
     pub fn set_member(
         &mut self,
         alloc: Global,

@@ -8,7 +8,7 @@ use std::marker::Model;
 use tm_syntax::Instruction;
 use tm_values::{Error, ErrorKind};
 
-/// The fuel of a run: what was set at its start, and what is left of it.
+/// The fuel of a run: the amount set at its start, and what is left of it.
 #[derive(Drop)]
 pub struct FuelTracker {
     initial: u64,
@@ -26,11 +26,11 @@ impl Model for FuelTracker {
     ghost invariant = { λ tracker. tracker.remaining ≤ tracker.initial };
 }
 
-/// That less fuel was left than a charge.
+/// The error that less fuel is left than the charge.
 #[derive(Clone, Copy, Debug, PartialEq, Eq)]
 pub struct Exhausted;
 
-/// What an instruction is charged: 0 where it is free.
+/// The charge of an instruction; 0 if it is free.
 #[inline(always)]
 fn charge(instruction: &Instruction) -> u64
     ensures { result ≡ charge_of instruction.now }
@@ -55,7 +55,7 @@ fn charge(instruction: &Instruction) -> u64
 }
 
 impl FuelTracker {
-    /// A tracker with this fuel, all of it left.
+    /// A tracker with `fuel`, none of it spent.
     pub fn new(fuel: u64) -> FuelTracker
         ensures { result ≡ record { set = fuel; left = fuel } }
     {
@@ -65,8 +65,8 @@ impl FuelTracker {
         }
     }
 
-    /// Charges an instruction; a free one takes nothing. OutOfFuel, with nothing left, where less
-    /// than the charge was left.
+    /// Charges an instruction; a free one costs nothing. OutOfFuel if less than the charge is left;
+    /// then nothing is left.
     pub fn track(&mut self, instruction: &Instruction) -> Result<(), Error>
         ensures ok { OnOk result
             (charged (charge_of instruction.now) self.old.left ≡ Some self.new.left) }
@@ -83,7 +83,7 @@ impl FuelTracker {
         }
     }
 
-    /// Charges an instruction as `track` does; its error needs no memory, which is faster.
+    /// Charges an instruction as `track` does. Its error needs no memory, which makes it faster.
     #[inline(always)]
     pub fn pay(&mut self, instruction: &Instruction) -> Result<(), Exhausted>
         ensures ok { OnOk result
@@ -107,7 +107,7 @@ impl FuelTracker {
         Ok(())
     }
 
-    /// Whether a charge of one can be paid.
+    /// Whether a charge of 1 can be paid.
     #[inline(always)]
     pub fn can_pay(&self) -> bool
         ensures { result ≡ can_be_paid 1 self.now.left }
@@ -115,7 +115,7 @@ impl FuelTracker {
         1 <= self.remaining
     }
 
-    /// Pays a charge of one.
+    /// Pays a charge of 1.
     #[inline(always)]
     pub fn pay_one(&mut self)
         requires { CanPay 1 self.old.left }
@@ -124,7 +124,7 @@ impl FuelTracker {
         self.remaining -= 1;
     }
 
-    /// Pays so much that this is left.
+    /// Pays all but `left`.
     #[inline(always)]
     pub fn pay_down_to(&mut self, left: u64)
         requires { left ≤ self.old.left }
@@ -133,21 +133,21 @@ impl FuelTracker {
         self.remaining = left;
     }
 
-    /// The fuel that is left.
+    /// The fuel left.
     pub fn remaining(&self) -> u64
         ensures { result ≡ self.now.left }
     {
         self.remaining
     }
 
-    /// The fuel that is spent.
+    /// The fuel spent.
     pub fn consumed(&self) -> u64
         ensures { result + self.now.left ≡ self.now.set }
     {
         self.initial - self.remaining
     }
 
-    /// The fuel that was set at the start.
+    /// The fuel set at the start.
     pub fn initial(&self) -> u64
         ensures { result ≡ self.now.set }
     {

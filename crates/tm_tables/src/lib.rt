@@ -1,4 +1,5 @@
-//! The tables of a state: its fuel, and what the crates below it give out of scopes, loops, lists of blocks and objects of the caller.
+//! The tables of a state: its fuel, and what the crates below export about scopes, loops, lists of
+//! blocks and the caller's objects.
 #![tactic(auto)]
 
 mod fuel;

@@ -1,4 +1,4 @@
--- How templates are escaped by their names.
+-- How template names choose escapes.
 use Rattle.std.specs.Prelude.{ℕ, List, [], ◌∷◌, Bool, true, false, ◌||◌, if◌then◌else◌, Option, None, Some, is_some, option_map, reverse}
 use Rattle.std.specs.Prelude.{codes}
 use Rattle.std.specs.Option.{option_or}
@@ -9,11 +9,11 @@ use Rattle.tm_meaning.specs.World.{or_is}
 use Rattle.tm_templates.specs.declared.defaults.EscapeSetting.{EscapeSetting}
 use Rattle.tm_templates.specs.declared.defaults.EscapeSetting.TheVariants as setting
 
--- what stands before a word that the text ends with
+-- the text before a word if the text ends with it
 abbrev pub before : List ℕ → List ℕ → Option (List ℕ)
 before word text = option_map reverse (after (reverse word) (reverse text))
 
--- a name without the one ending that says only that it is a template's
+-- a name without one ending that only marks a template
 abbrev pub stem_of : List ℕ → List ℕ
 stem_of name = or_is (option_or (before (codes ".j2") name) (option_or (before (codes ".jinja2") name) (before (codes ".jinja") name))) name
 
@@ -21,12 +21,12 @@ abbrev pub is_nothing : List ℕ → Bool
 is_nothing [] = true
 is_nothing (c ∷ cs) = false
 
--- nothing stands there, or something that ends with a dot
+-- the text before a word is empty or ends with a dot
 abbrev pub is_up_to_dot : Option (List ℕ) → Bool
 is_up_to_dot None = false
 is_up_to_dot (Some front) = is_nothing front || is_some (before (codes ".") front)
 
--- whether this word, without a dot, is what follows the last dot, or all where there is none
+-- whether a word without a dot is what follows the last dot, or the whole text if it has no dot
 abbrev pub has_ending : List ℕ → List ℕ → Bool
 has_ending stem word = is_up_to_dot (before word stem)
 
@@ -41,7 +41,7 @@ is_data stem =
 abbrev pub escape_by_name : List ℕ → AutoEscape
 escape_by_name name = if is_markup (stem_of name) then escapes.Html else if is_data (stem_of name) then escapes.Json else escapes.None
 
--- the escape of a template of this name
+-- the escape of the template of this name
 abbrev pub escape_of : {R : Type 0} → (R → List ℕ → AutoEscape) → EscapeSetting R → List ℕ → AutoEscape
 escape_of rules setting.ByName name = escape_by_name name
 escape_of rules setting.Never name = escapes.None

@@ -1,4 +1,4 @@
--- Sources, whoever keeps them.
+-- Sources, borrowed or owned.
 use Rattle.std.specs.Prelude.{ℕ, List}
 use Rattle.std.specs.Rc.{rc_str_bytes}
 use Rattle.tm_templates.specs.declared.compiled.Source.{Source}

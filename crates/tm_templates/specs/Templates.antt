@@ -22,8 +22,8 @@ use Rattle.tm_compiler.specs.Spells.{Spells, SpellsExpr, SpellsNoExpr, SpellsNon
 use Rattle.tm_meaning.specs.Tree.{TemplateTree, card}
 use Rattle.tm_meaning.specs.World.{Card, Template}
 
--- A template or an expression: its name, its source, how it is escaped, the tree that the source spells, where it has one, and what it runs:
--- its stream, and those of its blocks, by name.
+-- A template or an expression: its name, its source, its escape, the tree that the source spells,
+-- if it has one, and what it runs: its own stream and those of its blocks, by name.
 pub record Compiled : Type 0 where
   pub name : List ℕ
   pub source : List ℕ
@@ -47,18 +47,18 @@ of_tree name source escape tree = record {
   blocks = block_codes tree;
 }
 
--- the template of no statement, from no source, under a name; nothing is escaped
+-- the template of this name without statements and source, and with no escape
 abbrev pub empty_template : List ℕ → Compiled
 empty_template name = of_tree name [] escapes.None (trees.Statements [])
 
--- a stream under a name, as a block that isn't required
+-- a named stream as a block that isn't required
 abbrev pub given_block : Bor (List ℕ) × List Instruction → List ℕ × BlockCode
 given_block b = (b.0.now, record { required = false; code = b.1 })
 
 abbrev pub given_blocks : List (Bor (List ℕ) × List Instruction) → Named BlockCode
 given_blocks bs = each given_block bs
 
--- the template of streams, from no source and without a tree
+-- a template made of streams, without a source and a tree
 abbrev pub of_streams : List ℕ → List Instruction → List (Bor (List ℕ) × List Instruction) → AutoEscape → Compiled
 of_streams name root blocks escape = record {
   name = name;
@@ -69,11 +69,11 @@ of_streams name root blocks escape = record {
   blocks = by_name (given_blocks blocks);
 }
 
--- It is the template of a tree.
+-- The template is a tree's.
 abbrev pub IsOfTree : Compiled → Type 0
 IsOfTree t = (tree : Tree) × (t ≡ of_tree t.name t.source t.escape tree)
 
--- the names that a template reads where no open scope has assigned them before: its tree's, and none of streams
+-- the names that a tree reads with no earlier assignment in an open scope; none without a tree
 abbrev pub undeclared_by : Bool → Option Tree → List (List ℕ)
 undeclared_by nested None = []
 undeclared_by nested (Some tree) = undeclared_in nested tree
@@ -82,7 +82,7 @@ undeclared_by nested (Some tree) = undeclared_in nested tree
 abbrev pub carded : List ℕ × BlockCode → List ℕ × Card
 carded b = (b.0, record { required = b.1.required })
 
--- what the machine is told of a template
+-- what the machine knows about a template
 abbrev pub told_of : Compiled → Template
 told_of t = record { name = t.name; escape = t.escape; root = card; blocks = each carded t.blocks }
 
@@ -90,12 +90,12 @@ abbrev pub code_or_none : Option BlockCode → List Instruction
 code_or_none None = []
 code_or_none (Some b) = b.code
 
--- the code of a part: of the block of a name, or of all of it; of a block that isn't there, none
+-- the code of a block, or of the template's own stream; none if there is no such block
 abbrev pub part_code : Compiled → Option (List ℕ) → List Instruction
 part_code t None = t.root
 part_code t (Some x) = code_or_none (find x t.blocks)
 
--- a template as its meaning takes it, which is no statement without a tree
+-- a template as its meaning sees it, which has no statements if there is no tree
 abbrev pub tree_or_none : Option Tree → Tree
 tree_or_none None = trees.Statements []
 tree_or_none (Some tree) = tree
@@ -107,15 +107,16 @@ tree_of t = record { name = t.name; escape = t.escape; root = stream_of (tree_or
 abbrev pub AllAccepted : Named BlockCode → Type 0
 AllAccepted bs = AllByRecursion (λ (b : List ℕ × BlockCode). IsAccepted b.1.code) bs
 
--- All that a template runs is accepted.
+-- All streams of a template are accepted.
 abbrev pub AreAccepted : Compiled → Type 0
 AreAccepted t = (part : Option (List ℕ)) → IsAccepted (part_code t part)
 
--- So is what each of these runs.
+-- The same for each of these templates.
 abbrev pub EachAccepted : Named Compiled → Type 0
 EachAccepted ts = AllByRecursion (λ (t : List ℕ × Compiled). AreAccepted t.1) ts
 
--- These are the names of the blocks, which ascend, and the stream of no block; and all streams are accepted.
+-- These are the names of the blocks, which ascend, and `nothing` is an empty stream; all streams
+-- are accepted.
 pub record AreStreams (root : List Instruction) (blocks : Named BlockCode) (names : List (List ℕ)) (nothing : List Instruction) : Type 0 where
   pub root_accepted : IsAccepted root
   pub blocks_accepted : AllAccepted blocks
@@ -124,17 +125,18 @@ pub record AreStreams (root : List Instruction) (blocks : Named BlockCode) (name
   pub nothing_is : nothing ≡ []
 
 -- ---------------------------------------------------------------- of sources
--- the template that a source is under a name and with an escape: its tree is the one that the source spells
+-- a template compiled from a source with this name and escape: its tree is the one that the source
+-- spells
 pub record IsTemplate (syntax : Syntax) (escape : AutoEscape) (name source : List ℕ) (t : Compiled) : Type 0 where
   pub tree : Tree
   pub is : t ≡ of_tree name source escape tree
   pub spelled : Spells syntax source tree
 
--- why a source was refused: it spells no tree, or there was no memory
+-- why a source was refused: it spells no tree, or memory ran out
 abbrev pub IsRefused : Syntax → List ℕ → List ErrorKind → Type 0
 IsRefused syntax source chain = Refused chain (SpellsNone syntax source)
 
--- the expression that a source is, under the name of all expressions; nothing that it writes is escaped
+-- the expression that a source spells, under the name of all expressions and with no escape
 pub record IsExpression (source : List ℕ) (t : Compiled) : Type 0 where
   pub tree : Tree
   pub is : t ≡ of_tree (codes "<expression>") source escapes.None tree

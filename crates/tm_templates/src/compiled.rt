@@ -43,7 +43,7 @@ pub struct TemplateConfig<R: Drop> {
     pub default_auto_escape: EscapeSetting<R>,
 }
 
-// Of boxed rules alone, so that a configuration without a rule of its own needs no type.
+// Only for boxed rules, so that a configuration without a rule of its own needs no type annotation.
 impl Default for TemplateConfig<Box<dyn EscapeRule>> {
     /// The default delimiters, and escapes by name.
     fn default() -> TemplateConfig<Box<dyn EscapeRule>>
@@ -57,17 +57,17 @@ impl Default for TemplateConfig<Box<dyn EscapeRule>> {
     }
 }
 
-/// A source: a text that the caller keeps, or one of its own.
+/// The source of a template.
 #[derive(Drop)]
 pub enum Source<'source> {
-    /// The caller's.
+    /// Borrowed from the caller.
     Lent(&'source str),
-    /// Its own, which the template's raw texts share.
+    /// Owned; the template's raw texts share it.
     Owned(RcStr),
 }
 
 impl<'source> Source<'source> {
-    /// A source of its own; OutOfMemory.
+    /// An owned source; OutOfMemory.
     pub fn owned(source: String) -> Result<Source<'source>, Error>
         ensures owned { IfOk result (λ s. source_bytes s ≡ string_bytes source) }
         ensures refused { IfErr result (λ e. e ≡ OutOfMemory ∷ []) }
@@ -75,7 +75,7 @@ impl<'source> Source<'source> {
         Ok(Source::Owned(RcStr::from_string(source)?))
     }
 
-    /// The text for raw texts to share, a copy of the caller's; OutOfMemory.
+    /// The text for raw texts to share; a borrowed text is copied. OutOfMemory.
     fn shared(&self, alloc: Global) -> Result<RcStr, Error>
         ensures shared { IfOk result (λ text. rc_str_bytes text ≡ source_bytes self.now) }
         ensures refused { IfErr result (λ e. e ≡ OutOfMemory ∷ []) }
@@ -97,7 +97,7 @@ impl<'source> Source<'source> {
     }
 }
 
-/// The names of these blocks, which ascend, for states to share. OutOfMemory.
+/// The names of `blocks`, which ascend, for states to share. OutOfMemory.
 fn shared_names(alloc: Global, blocks: &NameMap<BlockCode>) -> Result<Rc<BlockNames>, Error>
     requires { IsStrictlySortedBy name_cmp (keys_of blocks.now) }
     ensures { OkOrOutOfMemory result (λ shared. shared.value ≡ keys_of blocks.now) }
@@ -105,7 +105,7 @@ fn shared_names(alloc: Global, blocks: &NameMap<BlockCode>) -> Result<Rc<BlockNa
     Ok(Rc::new(alloc, BlockNames::of(alloc, blocks)?)?)
 }
 
-/// Streams as blocks by name, none of which is required. AllocError when out of memory.
+/// Makes `streams` blocks that aren't required. AllocError if memory runs out.
 fn given_blocks(
     alloc: Global,
     mut streams: BTreeMap<&str, Verified>,
@@ -125,8 +125,8 @@ fn given_blocks(
     Ok(blocks)
 }
 
-/// A template that is compiled: its name, its source, how it is escaped, the tree that the source spells, where it has one, and
-/// its streams.
+/// A compiled template: its name, its source, its escape, the tree that the source spells, if it
+/// has one, and its streams.
 pub struct CompiledTemplate<'source> {
     name: Name,
     source: Source<'source>,
@@ -137,7 +137,7 @@ pub struct CompiledTemplate<'source> {
     nothing: Verified,
 }
 
-// By hand, so that the crates above need no proof of their own that a tree can be dropped.
+// Written by hand, so that the crates above need no proof of their own that a tree can be dropped.
 impl Drop for CompiledTemplate<'_> {
     fn drop(self) {
         let CompiledTemplate {
@@ -179,8 +179,8 @@ impl<'source> Model for CompiledTemplate<'source> {
 }
 
 impl<'source> CompiledTemplate<'source> {
-    /// Compiles a source under a name, with the escape that is chosen for it. SyntaxError where the source spells no
-    /// template, OutOfMemory where there is no memory.
+    /// Compiles `source` under `name`; `config` chooses the escape. SyntaxError if the source
+    /// spells no template, OutOfMemory if memory runs out.
     pub fn new<R: EscapeRule>(
         alloc: Global,
         name: &str,
@@ -197,8 +197,8 @@ impl<'source> CompiledTemplate<'source> {
         CompiledTemplate::with_escape(alloc, name, source, &config.syntax_config, escape)
     }
 
-    /// Compiles a source under a name and with an escape. SyntaxError where the source spells no template, OutOfMemory
-    /// where there is no memory.
+    /// Compiles `source` under `name` with `escape`. SyntaxError if the source spells no template,
+    /// OutOfMemory if memory runs out.
     pub fn with_escape(
         alloc: Global,
         name: &str,
@@ -215,7 +215,7 @@ impl<'source> CompiledTemplate<'source> {
         CompiledTemplate::of_tree(alloc, name, source, escape, tree)
     }
 
-    /// A template of no statement, from no source, under a name; nothing is escaped. Fails by OutOfMemory alone.
+    /// A template without statements and source, and with no escape. Fails only with OutOfMemory.
     pub fn empty(alloc: Global, name: &str) -> Result<CompiledTemplate<'source>, Error>
         ensures { OkOrOutOfMemory result (λ t. t ≡ empty_template name.now) }
     {
@@ -223,8 +223,8 @@ impl<'source> CompiledTemplate<'source> {
         CompiledTemplate::of_tree(alloc, name, Source::Lent(""), AutoEscape::None, tree)
     }
 
-    /// Compiles an expression's source. Nothing that it writes is escaped. SyntaxError where the source spells no
-    /// expression, OutOfMemory where there is no memory.
+    /// Compiles the source of an expression, with no escape. SyntaxError if the source spells no
+    /// expression, OutOfMemory if memory runs out.
     pub fn expression(
         alloc: Global,
         source: Source<'source>,
@@ -236,7 +236,7 @@ impl<'source> CompiledTemplate<'source> {
         CompiledTemplate::of_tree(alloc, EXPRESSION, source, AutoEscape::None, tree)
     }
 
-    /// The template of a tree. Fails by OutOfMemory alone.
+    /// Compiles a tree. Fails only with OutOfMemory.
     fn of_tree(
         alloc: Global,
         name: &str,
@@ -252,8 +252,9 @@ impl<'source> CompiledTemplate<'source> {
         CompiledTemplate::of_code(alloc, name, source, escape, Some(tree), streams)
     }
 
-    /// The template of streams under a name, without a source and a tree: that of all of it, and those of its blocks, none of
-    /// which is required. Of a stream that is an expression's the value is dropped. Fails by OutOfMemory alone.
+    /// A template made of streams, without a source and a tree: `root` is the template's stream,
+    /// and `blocks` are its blocks, none of them required. If a stream is an expression's, its
+    /// value is dropped. Fails only with OutOfMemory.
     pub fn from_streams(
         alloc: Global,
         name: &str,
@@ -270,7 +271,8 @@ impl<'source> CompiledTemplate<'source> {
         CompiledTemplate::of_code(alloc, name, Source::Lent(""), escape, None, streams)
     }
 
-    /// The template of streams that are accepted, and of their tree, where there is one. Fails by OutOfMemory alone.
+    /// A template made of accepted streams, with their tree, if there is one. Fails only with
+    /// OutOfMemory.
     fn of_code(
         alloc: Global,
         name: &str,
@@ -304,29 +306,30 @@ impl<'source> CompiledTemplate<'source> {
         })
     }
 
-    /// The name under which it was compiled.
+    /// The template's name.
     pub fn name(&self) -> &str
         ensures { result.now ≡ self.now.name }
     {
         self.name.as_str()
     }
 
-    /// The source that was compiled.
+    /// The template's source.
     pub fn source(&self) -> &str
         ensures { result.now ≡ self.now.source }
     {
         self.source.as_str()
     }
 
-    /// How it is escaped.
+    /// How the template's output is escaped.
     pub fn escape(&self) -> AutoEscape
         ensures { result ≡ self.now.escape }
     {
         self.escape
     }
 
-    /// The names that its tree reads where no open scope has assigned them before, each as its text; with what is nested
-    /// in them, as `a.b.c`, where that is asked for; none without a tree. OutOfMemory where there is no memory.
+    /// The names that the tree reads with no earlier assignment in an open scope, as texts. If
+    /// `nested` is true, they include attributes, as in `a.b.c`. Empty without a tree. OutOfMemory
+    /// if memory runs out.
     pub fn undeclared_variables(
         &self,
         alloc: Global,
@@ -342,49 +345,49 @@ impl<'source> CompiledTemplate<'source> {
         }
     }
 
-    /// The names of its blocks ascend; this takes no step.
+    /// Proves that the names of the blocks ascend; does nothing.
     pub fn ascend(&self)
         ensures { IsStrictlySortedBy name_cmp (keys_of self.now.blocks) }
     {
         let _blocks = &self.streams;
     }
 
-    /// All that it runs is accepted; this takes no step.
+    /// Proves that all streams are accepted; does nothing.
     pub fn accepted(&self)
         ensures { AreAccepted self.now }
     {
         let _streams = &self.streams;
     }
 
-    /// The code of all of it.
+    /// The code of the template's own stream.
     pub fn instructions(&self) -> &Verified
         ensures { result.now ≡ self.now.root }
     {
         &self.streams.root
     }
 
-    /// The code of its blocks, by name.
+    /// The code of the blocks, by name.
     pub fn blocks(&self) -> &NameMap<BlockCode>
         ensures { result.now ≡ self.now.blocks }
     {
         &self.streams.blocks
     }
 
-    /// The names of its blocks, for states to share.
+    /// The names of the blocks, for states to share.
     pub fn block_names(&self) -> &Rc<BlockNames>
         ensures { result.now.value ≡ keys_of self.now.blocks }
     {
         &self.block_names
     }
 
-    /// The code of its block of a name, where there is one.
+    /// The code of the block `name`, if there is one.
     pub fn block(&self, name: &str) -> Option<&BlockCode>
         ensures { IsLent result (find name.now self.now.blocks) }
     {
         self.streams.blocks.get(name)
     }
 
-    /// Whether a part is the block of a name that another template has to replace.
+    /// Whether `block` is a required block, which another template must override.
     pub fn is_required(&self, block: &Option<Name>) -> bool
         ensures { result ≡ is_required (card_in (told_of self.now) block.now) }
     {
@@ -397,7 +400,8 @@ impl<'source> CompiledTemplate<'source> {
         }
     }
 
-    /// The code of a part: of the block of a name, or of all of it. Of a block that isn't there, none.
+    /// The code of the block `block`, or of the template's own stream if it is None. Empty if there
+    /// is no such block.
     pub fn stream(&self, block: &Option<Name>) -> &Verified
         ensures { result.now ≡ part_code self.now block.now }
     {

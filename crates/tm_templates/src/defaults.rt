@@ -1,4 +1,4 @@
-//! What an environment does where nothing else was set.
+//! The defaults of an environment.
 ghost use Rattle.std.specs.Prelude.{◌≡◌};
 ghost use Rattle.tm_delimiters.specs.Views.{place_of};
 ghost use Rattle.tm_templates.specs.Defaults as spec;
@@ -6,14 +6,14 @@ ghost use Rattle.tm_templates.specs.Defaults as spec;
 use tm_tables::EscapeRule;
 use tm_values::AutoEscape;
 
-/// How the escape of a template is chosen, where the template itself doesn't say it.
+/// How the escape of a template is chosen if the template itself doesn't set it.
 #[derive(Drop)]
 pub enum EscapeSetting<R: Drop> {
-    /// By its name, as `default_auto_escape_callback` does.
+    /// By the template's name, as `default_auto_escape_callback` does.
     ByName,
     /// Nothing is escaped.
     Never,
-    /// By a rule of the caller's.
+    /// By the caller's rule.
     Own(R),
 }
 
@@ -31,9 +31,10 @@ impl<R: EscapeRule> EscapeRule for EscapeSetting<R> {
     }
 }
 
-/// How a template is escaped by its name: what follows the last dot is asked, or the whole name where there
-/// is none; one ending `.j2`, `.jinja2` or `.jinja` is left out before. `html`, `htm` and `xml` are escaped
-/// for HTML, `json`, `json5`, `js`, `yaml` and `yml` for JSON, and all else isn't escaped.
+/// Chooses the escape by a template's name: an ending `.j2`, `.jinja2` or `.jinja` is removed once,
+/// and then what follows the last dot decides, or the whole name if it has no dot. `html`, `htm`
+/// and `xml` mean HTML, `json`, `json5`, `js`, `yaml` and `yml` mean JSON, and anything else means
+/// no escape.
 pub fn default_auto_escape_callback(name: &str) -> AutoEscape
     ensures { result ≡ spec.escape_by_name name.now }
 {
@@ -47,14 +48,14 @@ pub fn default_auto_escape_callback(name: &str) -> AutoEscape
     AutoEscape::None
 }
 
-/// What stands before the word, where the text ends with it.
+/// The text before `word` if `text` ends with it.
 fn before<'t>(text: &'t str, word: &str) -> Option<&'t str>
     ensures { place_of result ≡ spec.before word.now text.now }
 {
     text.strip_suffix(word)
 }
 
-/// The name without the one ending that says only that it is a template's.
+/// The name without one ending that only marks a template.
 fn stem(name: &str) -> &str
     ensures { result.now ≡ spec.stem_of name.now }
 {
@@ -70,7 +71,7 @@ fn stem(name: &str) -> &str
     }
 }
 
-/// Whether the word is what follows the last dot, or all where there is none.
+/// Whether `word` is what follows the last dot, or all of `stem` if it has no dot.
 fn has_ending(stem: &str, word: &str) -> bool
     ensures { result ≡ spec.has_ending stem.now word.now }
 {

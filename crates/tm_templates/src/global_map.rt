@@ -1,4 +1,4 @@
-//! Values by name, which are also walked in the order of the names.
+//! Values by name that can also be walked in the order of the names.
 ghost use Rattle.std.specs.Map.{keys_of};
 ghost use Rattle.std.specs.Prelude.{◌≡◌, ◌≢◌, ◌<◌, [], ◌∷◌, None, Some, IfOk, OnOk, OnErr, IfErr, MatchResult, length, slice_get};
 ghost use Rattle.tm_syntax.specs.Named.{find, name_cmp, put, without};
@@ -11,7 +11,7 @@ use std::marker::Model;
 use tm_compiler::{Name, NameMap};
 use tm_values::{Error, Value};
 
-/// The names of these values, in their order. AllocError when out of memory.
+/// The names of `values` in order. AllocError if memory runs out.
 fn names_of(alloc: Global, values: &NameMap<Value>) -> Result<Vec<Name>, AllocError>
     ensures { IfOk result (λ names. names.items ≡ keys_of values.now) }
 {
@@ -22,14 +22,14 @@ fn names_of(alloc: Global, values: &NameMap<Value>) -> Result<Vec<Name>, AllocEr
     Ok(names)
 }
 
-/// The globals of an environment. A contract sees the pairs, in the order of the names.
+/// The globals of an environment. A contract sees the pairs, ordered by name.
 pub struct GlobalMap {
     values: NameMap<Value>,
-    // Once more in their order: a map by name takes memory to give them.
+    // The names again, in order: the map itself would need memory to list them.
     names: Vec<Name>,
 }
 
-// By hand: one call for each owner, in place of a drop of each part.
+// Written by hand: one drop call per owner instead of dropping each part.
 impl Drop for GlobalMap {
     fn drop(self) {
         let GlobalMap {
@@ -55,7 +55,7 @@ impl Model for GlobalMap {
 }
 
 impl GlobalMap {
-    /// No globals; this takes no memory.
+    /// No globals; allocates nothing.
     pub fn new(alloc: Global) -> GlobalMap
         ensures { result ≡ [] }
     {
@@ -65,7 +65,7 @@ impl GlobalMap {
         }
     }
 
-    /// These values, whose names ascend. Fails by OutOfMemory alone.
+    /// The globals `values`, whose names ascend. Fails only with OutOfMemory.
     pub fn of(alloc: Global, values: NameMap<Value>) -> Result<GlobalMap, Error>
         requires { AreOrdered values }
         ensures { OkOrOutOfMemory result (λ globals. globals ≡ values) }
@@ -81,8 +81,8 @@ impl GlobalMap {
         &self.values
     }
 
-    /// Lets a name stand for a value, in place of what it stood for. Where there is no memory, OutOfMemory, and all
-    /// stays as it was.
+    /// Binds `name` to `value` and replaces an older binding. OutOfMemory if memory runs out; then
+    /// nothing changes.
     pub fn insert(&mut self, name: Name, value: Value) -> Result<(), Error>
         ensures ok { OnOk result (self.new ≡ put name value self.old) }
         ensures kind { IfErr result (λ e. e ≡ OutOfMemory ∷ []) }
@@ -106,7 +106,7 @@ impl GlobalMap {
         }
     }
 
-    /// Drops a name, if it is there; other names stand for what they did.
+    /// Removes the global `name`, if there is one.
     pub fn remove(&mut self, name: &str)
         ensures rest { self.new ≡ without name.now self.old }
         ensures absent { find name.now self.old ≡ None → self.new ≡ self.old }
@@ -119,14 +119,14 @@ impl GlobalMap {
         }
     }
 
-    /// How many globals there are.
+    /// The number of globals.
     pub fn len(&self) -> usize
         ensures { result ≡ length self.now }
     {
         self.names.len()
     }
 
-    /// The name that stands at a place in the order of names, with its value.
+    /// The global at index `place` in the order of names.
     pub fn at(&self, place: usize) -> (&str, &Value)
         requires { place < length self.now }
         ensures { slice_get self.now place ≡ Some (result.0.now, result.1.now) }
@@ -138,14 +138,14 @@ impl GlobalMap {
         }
     }
 
-    /// The names ascend; this takes no step.
+    /// Proves that the names ascend; does nothing.
     pub fn ascend(&self)
         ensures { AreOrdered self.now }
     {
         let _ = &self.names;
     }
 
-    /// Where a name stands, or where it would stand.
+    /// The place of `name`, or as an error the place to insert it at.
     fn place(&self, name: &str) -> Result<usize, usize>
         ensures { MatchResult result (IsNameAt name.now self.now) (IsNameGap name.now self.now) }
     {

@@ -11,10 +11,12 @@ use std::marker::Model;
 use tm_compiler::Name;
 use tm_values::{Error, ErrorKind};
 
-/// The templates of an environment. A contract sees them as pairs of a name and a template, in the order of names.
+/// The templates of an environment. A contract sees them as pairs of a name and a template, ordered
+/// by name.
 #[derive(Drop)]
 pub struct Templates<'source> {
-    // No map of the library's: in one, a template can't be lent for less long than its source is.
+    // Not one of the library's maps: in such a map a template can't be borrowed for less time than
+    // its source is.
     entries: Vec<(Name, CompiledTemplate<'source>)>,
 }
 
@@ -48,7 +50,8 @@ impl<'source> Templates<'source> {
         }
     }
 
-    /// The template of a name, where there is one, wherever it stands. Makes one comparison where it stands at this place.
+    /// The template named `name`, if there is one. `place` is a hint: one comparison is enough if
+    /// the template is there.
     #[inline(always)]
     pub fn get(&self, place: usize, name: &str) -> Option<&CompiledTemplate<'source>>
         ensures { IsLent result (find name.now self.now) }
@@ -59,8 +62,8 @@ impl<'source> Templates<'source> {
         }
     }
 
-    /// The template of a name, where there is one, wherever it stands, with its place and the name that it stands at.
-    /// Makes one comparison where it stands at this place.
+    /// The template named `name`, if there is one, with its place and the shared name. `place` is a
+    /// hint: one comparison is enough if the template is there.
     #[inline(always)]
     pub fn entry(
         &self,
@@ -76,7 +79,8 @@ impl<'source> Templates<'source> {
         }
     }
 
-    /// Puts a template at a name, in place of one that is there. Where there is no memory, OutOfMemory, and all stays as it was.
+    /// Adds a template and replaces one of the same name. OutOfMemory if memory runs out; then
+    /// nothing changes.
     pub fn insert(&mut self, name: Name, template: CompiledTemplate<'source>) -> Result<(), Error>
         ensures ok { OnOk result (self.new ≡ put name template.entry self.old) }
         ensures kind { IfErr result (λ e. e ≡ ErrorKind.OutOfMemory ∷ []) }
@@ -95,7 +99,8 @@ impl<'source> Templates<'source> {
         }
     }
 
-    /// Where the template of a name stands, or where it would stand. Makes one comparison where it stands at this place.
+    /// The place of the template named `name`, or as an error the place to insert it at. `place`
+    /// is a hint: one comparison is enough if the template is there.
     #[inline(always)]
     fn place_from(&self, place: usize, name: &str) -> Result<usize, usize>
         ensures { MatchResult result (IsNameAt name.now self.now) (IsNameGap name.now self.now) }
@@ -106,7 +111,7 @@ impl<'source> Templates<'source> {
         }
     }
 
-    /// Drops the template of a name, if there is one; other names keep theirs.
+    /// Removes the template named `name`, if there is one.
     pub fn remove(&mut self, name: &str)
         ensures rest { self.new ≡ without name.now self.old }
         ensures absent { find name.now self.old ≡ None → self.new ≡ self.old }
@@ -118,21 +123,21 @@ impl<'source> Templates<'source> {
         }
     }
 
-    /// Drops all templates.
+    /// Removes all templates.
     pub fn clear(&mut self)
         ensures { self.new ≡ [] }
     {
         self.entries.clear();
     }
 
-    /// How many templates there are.
+    /// The number of templates.
     pub fn len(&self) -> usize
         ensures { result ≡ length self.now }
     {
         self.entries.len()
     }
 
-    /// The template that stands at a place in the order of names, with its name.
+    /// The template at index `place` in the order of names, with its name.
     pub fn at(&self, place: usize) -> (&Name, &CompiledTemplate<'source>)
         requires { place < length self.now }
         ensures entry { slice_get self.now place ≡ Some (result.0.now, result.1.now) }
@@ -142,21 +147,21 @@ impl<'source> Templates<'source> {
         (&entry.0, &entry.1)
     }
 
-    /// All that the templates run is accepted; this takes no step.
+    /// Proves that all streams of the templates are accepted; does nothing.
     pub fn accepted(&self)
         ensures { EachAccepted self.now }
     {
         let _ = &self.entries;
     }
 
-    /// The names ascend; this takes no step.
+    /// Proves that the names ascend; does nothing.
     pub fn ascend(&self)
         ensures { AreOrdered self.now }
     {
         let _ = &self.entries;
     }
 
-    /// Where the template of a name stands, or where it would stand.
+    /// The place of the template named `name`, or as an error the place to insert it at.
     fn place(&self, name: &str) -> Result<usize, usize>
         ensures { MatchResult result (IsNameAt name.now self.now) (IsNameGap name.now self.now) }
     {

@@ -1,4 +1,4 @@
--- What the machine's functions answer, beside what the definitions say.
+-- What the machine's functions answer, beyond the definitions.
 use Rattle.std.specs.Prelude.{◌≡◌, ◌+◌, ◌<◌, ◌≤◌, ◌-◌, ◌*◌, ℕ, List, [], ◌∷◌, length, Option, None, Some, Result, Ok, Err, Bool, true}
 use Rattle.std.specs.Prelude.{false, drop}
 use Rattle.std.specs.Io.KnownBytes.{Appends}
@@ -26,7 +26,8 @@ use Rattle.tm_vm.specs.declared.flow.Flow.{Flow}
 use Rattle.tm_vm.specs.declared.flow.Flow.TheVariants as flow
 
 -- ---------------------------------------------------------------- ends
--- The end that a halt is has a property. A halt by the writer, or by running out of memory, is no end of the definitions.
+-- The end that a halt means has a property. A halt by the writer or because memory ran out is no
+-- end of the definitions.
 abbrev pub HaltsAs : Halt → World → (End → Type 0) → Type 0
 HaltsAs halt.Writer w Holds = Unit {0}
 HaltsAs halt.Stuck w Holds = Holds (Stuck w)
@@ -37,23 +38,23 @@ abbrev pub EndsAs : Result (Unit {0}) Halt → Config → (End → Type 0) → T
 EndsAs (Ok _) c Holds = Holds (finished_at c)
 EndsAs (Err why) c Holds = HaltsAs why c.world Holds
 
--- What a step gave leads to this end, by when the writer has got the text.
+-- The result of a step leads to this end, and the writer has received the text of all that.
 abbrev pub ComesTo : Program → Base → Next → Option (List ℕ) → Option (List ℕ) → End → Type 0
 ComesTo p f n told now e = (text : List ℕ) × Appends told now text × Leads p f [] n (final text e)
 
--- From here the machine comes to this end.
+-- From this configuration the machine reaches this end.
 abbrev pub ReachesEnd : Program → Base → Config → Option (List ℕ) → Option (List ℕ) → End → Type 0
 ReachesEnd p f c told now e = ComesTo p f (step p f c) told now e
 
 -- ---------------------------------------------------------------- steps
--- what a step writes itself
+-- what a step itself writes
 abbrev pub output : Next → List ℕ
 output (More t c) = t
 output (Over e) = []
 output (Restart c) = []
 output (Nest f c back) = []
 
--- the run that is needed first, where the world before it was b, and the configuration is c
+-- the run that must come first; b is the world before it, and c the configuration
 abbrev pub entered : Program → NestedRun → World → Config → Next
 entered p e b c =
     nested (first_run p (callee_of e.run) (length c.captures)) e.heard c.captures c.world
@@ -62,7 +63,8 @@ entered p e b c =
 abbrev pub Enters : Program → NestedRun → Config → Next → Type 0
 Enters p e c n = (b : World) × IsSaved e.saved b × (n ≡ entered p e b c)
 
--- A step needed a run of its own first, which came to its end and wrote nothing, and the run that waited goes on.
+-- A step first needed a run of its own, which ended and wrote nothing, and the waiting run
+-- continues.
 pub record Ran (p : Program) (n : Next) (c : Config) : Type 0 where
   pub base : Base
   pub first : Config
@@ -72,8 +74,9 @@ pub record Ran (p : Program) (n : Next) (c : Config) : Type 0 where
   pub leads : Leads p base [] (step p base first) (final [] end)
   pub goes : back_to back end ≡ More [] c
 
--- A step was done, of which the writer got the text; or the run restarts; or it first needs a run of its own, which is over or is to come;
--- or it is over by that; or it halted, and the writer got a beginning.
+-- A step was done, and the writer received its text; or the run restarts; or the step first needs a
+-- run of its own, which is finished or still to come; or the run is over; or it halted, and the
+-- writer received a prefix of the text.
 abbrev pub Did : Program → Result Flow Halt → Option (List ℕ) → Option (List ℕ) → Config → Next → Type 0
 Did p (Ok flow.GoOn) told now c n = (n ≡ More (output n) c) × Appends told now (output n)
 Did p (Ok flow.Done) told now c n = (n ≡ Over (finished_at c)) × (now ≡ told)
@@ -82,8 +85,8 @@ Did p (Ok flow.Called) told now c n = Ran p n c × (now ≡ told)
 Did p (Ok (flow.Enter e)) told now c n = Enters p e.value c n × (now ≡ told)
 Did p (Err why) told now c n = HaltsAs why c.world (λ e. n ≡ Over e) × AppendsBeginning told now (output n)
 
--- Of so many outermost scopes all below the innermost one are the very ones, where they stood; and the places in lists of blocks are the
--- same.
+-- Of the n outermost scopes all but the innermost are the same, at the same depth; and the places
+-- in the lists of blocks are the same.
 abbrev pub SameGround : ℕ → Scopes → Scopes → Named ℕ → Named ℕ → Type 0
 SameGround n old new were are = (outermost (n - 1) new.frames ≡ outermost (n - 1) old.frames) × (new.outer ≡ old.outer) × (are ≡ were)
 
@@ -94,17 +97,17 @@ KeepsGround n old new = SameGround n old.scopes new.scopes old.places new.places
 abbrev pub SameStanding : World → World → Type 0
 SameStanding old new = (length new.scopes.frames ≡ length old.scopes.frames) × KeepsGround (length old.scopes.frames) old new
 
--- No scope is left, and they stand on the same ground.
+-- No scope was dropped, and they are on the same ground.
 abbrev pub NoFewer : World → World → Type 0
 NoFewer old new = (length old.scopes.frames ≤ length new.scopes.frames) × KeepsGround (length old.scopes.frames) old new
 
--- No scope that stood before the run is left, and they stand on the same ground.
+-- No scope from before the run was dropped, and they are on the same ground.
 abbrev pub KeepsBaseScopes : Base → World → World → Type 0
 KeepsBaseScopes f old new =
     f.scopes ≤ length old.scopes.frames → (f.scopes ≤ length new.scopes.frames) × KeepsGround f.scopes old new
 
--- How the scopes lie after a step: none of before is left; there is one more, within the limit, where a run of its own is needed; and a
--- run that is over has closed what it opened.
+-- The scopes after a step: none from before the run was dropped; there is a new one, within the
+-- limit, if a run of its own is needed; and a finished run has closed what it opened.
 abbrev pub Depths : ℕ → Base → Result Flow Halt → World → World → Type 0
 Depths limit f (Ok flow.GoOn) old new = KeepsBaseScopes f old new
 Depths limit f (Ok flow.Called) old new = KeepsBaseScopes f old new
@@ -113,17 +116,17 @@ Depths limit f (Ok flow.Done) old new = KeepsBaseScopes f old new × (f.scopes �
 Depths limit f (Ok (flow.Enter e)) old new = OneDeeper limit e.value.saved old new
 Depths limit f (Err why) old new = KeepsBaseScopes f old new
 
--- No more names are left to be loaded; and before a run of its own as many.
+-- The number of names that can still be loaded doesn't grow; before a run of its own it stays.
 abbrev pub Names : HostValue → Result Flow Halt → World → World → Type 0
 Names host (Ok (flow.Enter e)) old new = new.loaded ≡ old.loaded
 Names host _ old new = names_left host new ≤ names_left host old
 
--- The stream is the same, but for a restart.
+-- The stream is the same, except after a restart.
 abbrev pub StaysIn : Result Flow Halt → Activation → Activation → Type 0
 StaysIn (Ok flow.Restart) old new = Unit {0}
 StaysIn _ old new = new.stream ≡ old.stream
 
--- The stream, the loops and the parent that waits are the same.
+-- The stream, the loops and the waiting parent are the same.
 abbrev pub StaysRun : Activation → Activation → Type 0
 StaysRun old new = (new.stream ≡ old.stream) × (new.loops ≡ old.loops) × (new.parent ≡ old.parent)
 
@@ -143,7 +146,8 @@ pending [] = 0
 pending (None ∷ rs) = pending rs
 pending (Some r ∷ rs) = pending rs + 1
 
--- what is left of a run: each unit of fuel twice, for a call of a loop and for its return, and each return that waits
+-- what a run has left: each unit of fuel twice, for a call of a loop and for its return, and each
+-- pending return
 abbrev pub returns_left : Config → ℕ
 returns_left c = c.world.fuel + c.world.fuel + pending c.run.loops
 
@@ -151,7 +155,7 @@ returns_left c = c.world.fuel + c.world.fuel + pending c.run.loops
 abbrev pub weight : ℕ → Config → ℕ
 weight size c = returns_left c * (size + 1) + (size - c.run.place)
 
--- 1 where a parent waits now, or is put back after a called loop, and else 0
+-- 1 if a parent is waiting now or will be restored after a called loop, else 0
 abbrev pub waits_in : Option TemplateId → List (Option Return) → ℕ
 waits_in (Some t) rs = 1
 waits_in None [] = 0
@@ -161,12 +165,13 @@ waits_in None (Some r ∷ rs) = waits_in r.parent rs
 abbrev pub waits : Activation → ℕ
 waits r = waits_in r.parent r.loops
 
--- how many parents may still be restarted in
+-- how many parents the run may still restart in
 abbrev pub parents_left : HostValue → Config → ℕ
 parents_left host c = waits c.run + names_left host c.world
 
--- Less is left after a step: it is paid for, or returns from a loop, or is free and at the next place; and no more parents are left. A
--- restart leaves a parent fewer. Before a run of its own it is paid for, where that run can begin.
+-- Less is left after a step: it is charged, or returns from a loop, or is free and moves to the
+-- next place; and the number of parents left doesn't grow. A restart lowers that number. Before a
+-- run of its own a step is charged, if that run can begin.
 abbrev pub Paid : Program → ℕ → Result Flow Halt → Config → Config → Type 0
 Paid p size (Ok flow.GoOn) old new = (weight size new < weight size old) × (parents_left p.host new ≤ parents_left p.host old)
 Paid p size (Ok flow.Called) old new = (weight size new < weight size old) × (parents_left p.host new ≤ parents_left p.host old)
@@ -176,7 +181,7 @@ Paid p size (Ok (flow.Enter e)) old new =
     (returns_left new < returns_left old) × (waits new.run ≤ waits old.run)
 Paid p size _ old new = Unit {0}
 
--- The same of an instruction that needs no run.
+-- The same for an instruction that needs no run.
 abbrev pub Wrote : Result Flow Halt → Option (List ℕ) → Option (List ℕ) → Config → Next → Type 0
 Wrote (Ok flow.GoOn) told now c n = (n ≡ More (output n) c) × Appends told now (output n)
 Wrote (Ok flow.Done) told now c n = ⊥
@@ -192,7 +197,7 @@ pub record WritesNext (n : Next) (old new : Config) (told now : Told) (result : 
   pub same_standing : SameStanding old.world new.world
   pub same_stream : new.run.stream ≡ old.run.stream
 
--- And of one that writes nothing.
+-- And for one that writes nothing.
 abbrev pub Quietly : Result Flow Halt → Config → Next → Type 0
 Quietly (Ok flow.GoOn) c n = n ≡ More [] c
 Quietly (Ok flow.Done) c n = ⊥
@@ -209,21 +214,21 @@ pub record Silently (n : Next) (old new : Config) (result : Result Flow Halt) : 
   pub same_standing : SameStanding old.world new.world
   pub same_stream : new.run.stream ≡ old.run.stream
 
--- And of one that may open a scope, and leaves none.
+-- And for one that may open a scope, and drops none.
 pub record Opens (n : Next) (old new : Config) (result : Result Flow Halt) : Type 0 where
   pub did : Quietly result new n
   pub kept : KeepsFixedAndNames old.world new.world
   pub no_fewer : NoFewer old.world new.world
   pub same_stream : new.run.stream ≡ old.run.stream
 
--- And of one that may leave a scope that the run opened.
+-- And for one that may drop a scope that the run opened.
 pub record Shifts (f : Base) (n : Next) (old new : Config) (result : Result Flow Halt) : Type 0 where
   pub did : Quietly result new n
   pub kept : KeepsFixedAndNames old.world new.world
   pub stays : KeepsBaseScopes f old.world new.world
   pub same_stream : new.run.stream ≡ old.run.stream
 
--- And of one that may load a template.
+-- And for one that may load a template.
 pub record Loads (host : HostValue) (n : Next) (old new : Config) (result : Result Flow Halt) : Type 0 where
   pub did : Quietly result new n
   pub kept : KeepsFixed old.world new.world
@@ -231,7 +236,7 @@ pub record Loads (host : HostValue) (n : Next) (old new : Config) (result : Resu
   pub same_standing : SameStanding old.world new.world
   pub same_stream : new.run.stream ≡ old.run.stream
 
--- And of one that may need a run of its own.
+-- And for one that may need a run of its own.
 abbrev pub Needed : Program → Result Flow Halt → Config → Next → Type 0
 Needed p (Ok flow.GoOn) c n = n ≡ More [] c
 Needed p (Ok flow.Done) c n = ⊥
@@ -242,7 +247,8 @@ Needed p (Err halt.Writer) c n = ⊥
 Needed p (Err halt.Stuck) c n = n ≡ Over (Stuck c.world)
 Needed p (Err (halt.Fault chain)) c n = is_want_of_memory chain ≡ false → n ≡ Over (Failed chain c.world)
 
--- how the scopes lie after an instruction: with one more for the run that it needs, and else none of them is left
+-- the scopes after an instruction: with more for the run that it needs, and otherwise none was
+-- dropped
 abbrev pub Deepens : ℕ → Result Flow Halt → World → World → Type 0
 Deepens limit (Ok (flow.Enter e)) old new = OneDeeper limit e.value.saved old new
 Deepens limit _ old new = NoFewer old new
@@ -253,7 +259,8 @@ pub record Needs (p : Program) (n : Next) (old new : Config) (result : Result Fl
   pub deepens : Deepens p.host.limit result old.world new.world
   pub same_stream : new.run.stream ≡ old.run.stream
 
--- The run's text will be a value, in place of so many operands; or no memory was found, and what it replaced is put back.
+-- The run's text will be a value in place of `count` operands; or memory ran out, and what the run
+-- replaced is restored.
 abbrev pub EntersAsValue : NestedRun → ℕ → Result Flow Halt → Config → Config → Type 0
 EntersAsValue run count (Ok (flow.Enter e)) old new = (e.value ≡ run) ×
     (new ≡ record { run = waiting (drop count old.run.operands) old; captures = new_capture true ∷ old.captures; world = old.world })
@@ -261,14 +268,15 @@ EntersAsValue run count (Err (halt.Fault chain)) old new = (is_want_of_memory ch
     (new.world ≡ put_back run.saved old.world) × (new.run.stream ≡ old.run.stream)
 EntersAsValue run count _ old new = ⊥
 
--- A run goes on after a call of so many operands, which came to this and left this world, whatever was asked for in the world before.
+-- A run continues after a call with `count` operands that had this result and left this world,
+-- whatever was asked for in the world before.
 abbrev pub GoesOnWith : Program → CallResult → ℕ → Config → Config → Result Flow Halt → Type 0
 GoesOnWith p came count old new result = (q : Asked) (before : World) → NamedBecomes (Ok came) q old.world →
     LeavesState p.host.limit (Ok came) before old.world →
     Needs p (asked p (record old { world = before }) (drop count old.run.operands) q) (record old { world = before }) new result
 
--- A run is over after its last instruction, where it has closed what it opened, or restarts in the parent that waits; and else it is stuck.
--- No memory may be found for a restart.
+-- A run ends after its last instruction if it has closed what it opened, or restarts in the waiting
+-- parent; otherwise it is stuck. Memory may run out for a restart.
 abbrev pub Finishes : Result Flow Halt → Base → Config → Config → Next → Type 0
 Finishes (Ok flow.Done) f old new n =
     (n ≡ Over (finished_at new)) × (f.scopes ≡ length new.world.scopes.frames) × (new ≡ old)
@@ -278,22 +286,23 @@ Finishes (Err halt.Stuck) f old new n = (n ≡ Over (Stuck new.world)) × (new �
 Finishes (Err (halt.Fault chain)) f old new n = (is_want_of_memory chain ≡ true) × (new ≡ old)
 Finishes _ f old new n = ⊥
 
--- The run of a callee has begun over the same captures and world, and gives the run that waits; or there is none, and all stays as it was.
+-- The run of a callee has begun with the same captures and world, and the result is the waiting
+-- run; or there is no such run, and nothing changes.
 abbrev pub BeginsRun : Option Activation → Option Activation → Config → Config → Type 0
 BeginsRun first (Some waits) old new =
     (waits ≡ old.run) × (first ≡ Some new.run) × (new.captures ≡ old.captures) × (new.world ≡ old.world)
 BeginsRun first None old new = (first ≡ None) × (new ≡ old)
 
--- A machine stands at the first place of a run; or there is none, and the state is given back.
+-- The machine is at the first place of a run; or there is no such run, and the state is returned.
 abbrev pub IsAtFirst : Option Activation → List Capture → World → Result Config World → Type 0
 IsAtFirst first captures w (Ok c) = (first ≡ Some c.run) × (c ≡ running c.run captures w)
 IsAtFirst first captures w (Err left) = (first ≡ None) × (left ≡ w)
 
--- a loop is called over the operands and captures that there are
+-- a loop is called with the present operands and captures
 abbrev pub recurses : Program → Recursion → Bool → Config → Next
 recurses p r value c = recursion p c value c.run.operands c.captures r.number (place_of_loop p c r.number) r.items.value.items c.world
 
--- Goes on at a place where the topmost value has this truth, and leaves it there; else pops it.
+-- Jumps to a place if the top value has this truth, and leaves the value there; otherwise pops it.
 abbrev pub jump_or_pop_of : HostValue → Bool → ℕ → Config → Next
 jump_or_pop_of host true = jump_if_true_or_pop_of host
 jump_or_pop_of host false = jump_if_false_or_pop_of host

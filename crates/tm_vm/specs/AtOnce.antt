@@ -14,20 +14,20 @@ use Rattle.tm_runs.specs.declared.attempt.Attempt.{Attempt}
 use Rattle.tm_runs.specs.declared.attempt.Attempt.TheVariants.{Done, DoneFree, Left, WriterFailed, NoMemory}
 use Rattle.tm_vm.specs.declared.flow.Flow.TheVariants as flow
 
--- out of memory ends a run
+-- a run that ends because memory ran out
 abbrev pub no_memory : Halt
 no_memory = halt.Fault (OutOfMemory ∷ [])
 
--- a charge of one is paid
+-- a charge of 1 is paid
 abbrev pub paid : Config → Config
 paid c = record c { world = record c.world { fuel = c.world.fuel - 1 } }
 
--- It was paid for and done, and the run goes on; or all stayed as it was.
+-- The instruction was charged and done, and the run continues; or nothing changed.
 abbrev pub IsAtOnce : Bool → (Config → Next) → Config → Config → Type 0
 IsAtOnce true n old new = Silently (n (paid old)) (paid old) new (Ok flow.GoOn)
 IsAtOnce false n old new = new ≡ old
 
--- It is free of charge and was done, and the run goes on; or all stayed as it was.
+-- The instruction is free and was done, and the run continues; or nothing changed.
 abbrev pub IsFree : Bool → (Config → Next) → Config → Config → Type 0
 IsFree true n old new = Silently (n old) old new (Ok flow.GoOn)
 IsFree false n old new = new ≡ old
@@ -40,7 +40,7 @@ Attempted DoneFree n old new told now = WritesNext (n old) old new told now (Ok 
 Attempted NoMemory n old new told now = WritesNext (n (paid old)) (paid old) new told now (Err no_memory)
 Attempted Left n old new told now = (new ≡ old) × (now ≡ told)
 
--- The same of one that wrote nothing.
+-- The same for one that wrote nothing to the writer.
 abbrev pub AttemptedUntold : Attempt → (Config → Next) → Config → Config → Type 0
 AttemptedUntold attempt n old new = (told : Told) → Attempted attempt n old new told told
 
@@ -49,7 +49,7 @@ abbrev pub IsCharged : Attempt → Type 0
 IsCharged DoneFree = ⊥
 IsCharged _ = Unit {0}
 
--- What was done is free of charge, or charged one, which there was.
+-- What was done is free of charge, or its charge of 1 could be paid.
 abbrev pub IsPaid : Attempt → Instruction → ℕ → Type 0
 IsPaid Left x fuel = Unit {0}
 IsPaid DoneFree x fuel = charge_of x ≡ 0

@@ -21,20 +21,21 @@ use Rattle.tm_records.specs.declared.saved.Saved.{Saved}
 use Rattle.tm_records.specs.declared.saved.Saved.TheVariants as saved
 use Rattle.tm_records.specs.declared.nested.NestedRun.{NestedRun}
 
--- what the run stands on, and how it begins, where the configuration is c
+-- the base and the beginning of the run; c is the configuration
 abbrev pub base_in : NestedRun → Config → Base
 base_in e c = base_of e.heard c.captures c.world
 
 abbrev pub begins_in : Program → NestedRun → Config → Next
 begins_in p e c = begins p (base_in e c) (callee_of e.run) c.captures c.world
 
--- What its end leads to, after what is put back, for the run that waits: as it was, or with the captured text on top; or that ends so too.
+-- What the run's end means for the waiting run, after the state is restored: it continues, with the
+-- captured text on top if that is a value; or it ends in the same way.
 abbrev pub after : NestedRun → Activation → End → Next
 after e r (Finished vs ks w) = back_with e.value e.text r ks (put_back e.saved w)
 after e r (Failed chain w) = Over (Failed (wrapped e.wrap chain) (put_back e.saved w))
 after e r (Stuck w) = stuck (put_back e.saved w)
 
--- The run was done, the writer got its text, and the run that waited goes on.
+-- The run finished, the writer received its text, and the waiting run continues.
 pub record Went (p : Program) (e : NestedRun) (old new : Config) (told now : Option (List ℕ)) : Type 0 where
   pub text : List ℕ
   pub operands : List Val
@@ -44,16 +45,17 @@ pub record Went (p : Program) (e : NestedRun) (old new : Config) (told now : Opt
   pub leads : Leads p (base_in e old) [] (begins_in p e old) (final text (Finished operands captures world))
   pub goes : after e old.run (Finished operands captures world) ≡ More [] new
 
--- A block's run stands on the scopes that were saved, and one of its own; a macro's has the names loaded that were; and an include's both,
--- with a scope of its own or not.
+-- The scopes of a block's run are those from before and one of its own; a macro's run has the same
+-- loaded names as before; and for an include's both hold, with a scope of its own or without.
 abbrev pub StandsOn : Saved → World → Type 0
 StandsOn (saved.Block s) w = length w.scopes.frames ≡ s.scopes + 1
 StandsOn (saved.Super s) w = length w.scopes.frames ≡ s.replaced.scopes + 1
 StandsOn (saved.Macro s) w = s.lists.loaded ≡ w.loaded
 StandsOn (saved.Include s) w = (s.replaced.scopes ≤ length w.scopes.frames) × (s.lists.loaded ≡ w.loaded)
 
--- The scopes are those below the run's own, where those that were saved stood, or those that were saved; after an include they are as
--- many, and the very ones below the innermost. The places in lists of blocks are those that were saved, or from before a block's run.
+-- The scopes are those below the run's own, at the former depth, or the saved ones; after an
+-- include they are as many, and the same below the innermost. The places in the lists of blocks are
+-- the saved ones, or those from before a block's run.
 abbrev pub IsBack : Saved → World → World → Type 0
 IsBack (saved.Block s) begun w =
     (w.scopes.frames ≡ without_first begun.scopes.frames) × (w.scopes.outer ≡ s.outer) × (w.places ≡ begun.places)
@@ -65,29 +67,30 @@ IsBack (saved.Include s) begun w =
     × (outermost (s.replaced.scopes - 1) w.scopes.frames ≡ outermost (s.replaced.scopes - 1) begun.scopes.frames)
     × (w.scopes.outer ≡ s.replaced.outer) × (w.places ≡ s.lists.places)
 
--- The run came to an end that leads to the end of the run that waits.
+-- The run came to an end that means this end for the waiting run.
 abbrev pub EndsNested : Program → NestedRun → Config → Option (List ℕ) → Option (List ℕ) → End → Type 0
 EndsNested p e old told now x = (inner : End) × ComesTo p (base_in e old) (begins_in p e old) told now inner ×
     (after e old.run inner ≡ Over x)
 
--- The run was done, or the halt is the end that it leads to.
+-- The run finished, or the halt is the end that it means.
 abbrev pub RanNested : Program → NestedRun → Config → Config → Option (List ℕ) → Option (List ℕ) → Result (Unit {0}) Halt → Type 0
 RanNested p e old new told now (Ok _) = Went p e old new told now
 RanNested p e old new told now (Err why) = HaltsAs why new.world (EndsNested p e old told now)
 
--- A kind is put before a fault, and touches neither the writer's failure nor what is stuck; no memory may be found for it.
+-- A kind wraps a fault, but neither the writer's failure nor a stuck run; memory may run out for
+-- it.
 abbrev pub IsWrapped : Option Wrapping → Halt → Halt → Type 0
 IsWrapped wrap halt.Writer now = now ≡ halt.Writer
 IsWrapped wrap halt.Stuck now = now ≡ halt.Stuck
 IsWrapped wrap (halt.Fault chain) now = (now ≡ halt.Fault (wrapped wrap chain)) ⊎ (now ≡ halt.Fault (OutOfMemory ∷ []))
 
--- The innermost capture's text was put on top; or none was open; or no memory was found.
+-- The innermost capture's text was pushed; or none was open; or memory ran out.
 abbrev pub IsCaptured : RunText → Result (Unit {0}) Halt → Config → Config → Type 0
 IsCaptured kind (Ok _) old new = back_with true kind old.run old.captures old.world ≡ More [] new
 IsCaptured kind (Err halt.Writer) old new = ⊥
 IsCaptured kind (Err halt.Stuck) old new = old.captures ≡ []
 IsCaptured kind (Err (halt.Fault chain)) old new = is_want_of_memory chain ≡ true
 
--- What the writer has got is a beginning of all that is written from a step on.
+-- What the writer has received is a prefix of all that is written from this step on.
 abbrev pub WroteBeginning : Program → Base → Next → Option (List ℕ) → Option (List ℕ) → Type 0
 WroteBeginning p f n told now = (o : Final) → Leads p f [] n o → AppendsBeginning told now o.text

@@ -20,7 +20,7 @@ use tm_tables::{Host, Parties};
 use tm_values::Value;
 
 impl Machine {
-    /// Pays a charge of one and goes on to the next place.
+    /// Pays a charge of 1 and moves to the next place.
     #[inline(always)]
     fn pay_and_advance(&mut self)
         requires in_place { CanGoOn self.old.run }
@@ -33,7 +33,7 @@ impl Machine {
         self.run.advance();
     }
 
-    /// Pushes the innermost scope's own value of a name.
+    /// Pushes the value that the innermost scope itself binds to `name`.
     #[inline(always)]
     fn lookup_at_once(&mut self, name: &Name) -> bool
         requires in_place { CanGoOn self.old.run }
@@ -51,7 +51,7 @@ impl Machine {
         true
     }
 
-    /// Replaces a map by its attribute.
+    /// Replaces a map by its member `name`.
     #[inline(always)]
     fn get_attr_at_once(&mut self, name: &Name) -> bool
         requires in_place { CanGoOn self.old.run }
@@ -80,7 +80,7 @@ impl Machine {
         true
     }
 
-    /// Replaces two numbers by what an operator gives of them.
+    /// Replaces two numbers by the result of `operator`.
     #[inline(always)]
     fn binary_at_once(&mut self, operator: BinaryOperator) -> bool
         requires in_place { CanGoOn self.old.run }
@@ -95,7 +95,7 @@ impl Machine {
         true
     }
 
-    /// Pops a truth value, and goes on at a place where it is false.
+    /// Pops a boolean and jumps to `place` if it is false.
     #[inline(always)]
     fn jump_if_false_at_once(&mut self, place: usize) -> bool
         requires in_place { CanGoOn self.old.run }
@@ -112,7 +112,7 @@ impl Machine {
         true
     }
 
-    /// Pops a value, and gives it to a name of the innermost scope.
+    /// Pops a value and binds `name` to it in the innermost scope.
     #[inline(always)]
     fn store_local_at_once(&mut self, name: &Name) -> bool
         requires in_place { CanGoOn self.old.run }
@@ -130,7 +130,7 @@ impl Machine {
         true
     }
 
-    /// Pushes the next item of the innermost loop, where one is left.
+    /// Pushes the next item of the innermost loop, if one is left.
     #[inline(always)]
     fn iterate_at_once(&mut self) -> bool
         requires in_place { CanGoOn self.old.run }
@@ -169,7 +169,7 @@ impl Machine {
         true
     }
 
-    /// Pushes the topmost value once more.
+    /// Pushes the top value again.
     #[inline(always)]
     fn dup_top_at_once(&mut self) -> bool
         requires { CanGoOn self.old.run }
@@ -182,7 +182,7 @@ impl Machine {
         true
     }
 
-    /// Drops the topmost value.
+    /// Drops the top value.
     #[inline(always)]
     fn discard_top_at_once(&mut self) -> bool
         requires { CanGoOn self.old.run }
@@ -196,7 +196,7 @@ impl Machine {
         true
     }
 
-    /// Puts a text as it stands into the innermost capture, or drops it where it isn't heard.
+    /// Appends a raw text to the innermost capture, or drops it if it isn't heard.
     #[inline(never)]
     fn put_raw_at_once(&mut self, base: &Base, text: &RawText) -> bool
         requires in_place { CanGoOn self.old.run }
@@ -210,7 +210,7 @@ impl Machine {
         true
     }
 
-    /// Writes a text as it stands, or puts it into the innermost capture; drops it where it isn't heard.
+    /// Writes a raw text, or appends it to the innermost capture; drops it if it isn't heard.
     #[inline(always)]
     #[tactic(auto, using(crate::proofs::Performed::at_once, crate::proofs::Performed::charged))]
     fn emit_raw_at_once<W: Sink>(&mut self, base: &Base, text: &RawText, writer: &mut W) -> Attempt
@@ -230,8 +230,8 @@ impl Machine {
         }
     }
 
-    /// Pops a number or a text and puts what it is emitted as into the innermost capture, as a run does that has no formatter and
-    /// is heard.
+    /// Pops a number or a text and appends what it emits to the innermost capture. Only for a run
+    /// that has no formatter and is heard.
     #[inline(never)]
     #[tactic(auto, using(crate::proofs::Performed::charged))]
     fn capture_at_once(&mut self) -> Attempt
@@ -253,8 +253,8 @@ impl Machine {
         Attempt::captured(answer)
     }
 
-    /// Pops a number or a text and writes what it is emitted as, or puts that into the innermost capture, where there
-    /// is no formatter and it is heard.
+    /// Pops a number or a text and writes what it emits, or appends it to the innermost capture, if
+    /// there is no formatter and the text is heard.
     #[inline(always)]
     #[tactic(auto, using(crate::proofs::Performed::charged, crate::proofs::Emitted::no_formatter))]
     fn emit_at_once<H: Host, W: Sink>(&mut self, host: &H, base: &Base, writer: &mut W) -> Attempt
@@ -284,7 +284,7 @@ impl Machine {
         Attempt::written(answer)
     }
 
-    /// Pays for an instruction and does it, where it can be done at once.
+    /// Charges and performs an instruction, if it can be done at once.
     #[inline(always)]
     #[tactic(auto, using(crate::proofs::Performed::attempts))]
     pub(crate) fn attempt<H: Host, W: Sink>(

@@ -20,8 +20,8 @@ use tm_tables::Host;
 use tm_values::{Error, ErrorKind, Value};
 
 impl Machine {
-    /// Replaces so many values by what the function of a name answers to them, or by the text of the loop or macro that it
-    /// calls.
+    /// Calls `name` with the top `count` values and replaces these by the result, or by the text of
+    /// the loop or macro that is called.
     pub(crate) fn do_call_function<H: Host>(
         &mut self,
         alloc: Global,
@@ -45,7 +45,7 @@ impl Machine {
         self.call_counted(alloc, host, code, name, count)
     }
 
-    /// The same, where no leaf is called.
+    /// `do_call_function` without the shortcut for leaves.
     #[inline(never)]
     fn call_counted<H: Host>(
         &mut self,
@@ -68,7 +68,7 @@ impl Machine {
         }
     }
 
-    /// The same of so many values.
+    /// `call_counted` with a known `count`.
     #[inline(always)]
     fn call_function<H: Host>(
         &mut self,
@@ -92,8 +92,8 @@ impl Machine {
         self.go_on_with(alloc, host, code, count, called)
     }
 
-    /// Goes on after a call of so many values: its value replaces them, or the text of the loop or of the run that
-    /// it needs will.
+    /// Continues after a call with `count` values: its value replaces them, or the text of the
+    /// called loop or of the needed run will.
     #[inline(always)]
     fn go_on_with<H: Host>(
         &mut self,
@@ -117,7 +117,8 @@ impl Machine {
         }
     }
 
-    /// Begins a loop that is called, whose text is a value in place of so many operands. As `recurse`; OutOfMemory.
+    /// Begins a called loop whose text becomes a value in place of `count` operands. Errors as in
+    /// `recurse`; OutOfMemory.
     fn begin_recursion<H: Host>(
         &mut self,
         alloc: Global,
@@ -138,8 +139,8 @@ impl Machine {
         self.recurse(alloc, host, code, called, true)
     }
 
-    /// Goes on after a run, whose text is a value in place of so many operands. OutOfMemory where there is no memory
-    /// for its capture; then what the run replaced is put back.
+    /// Enters a run whose text becomes a value in place of `count` operands. OutOfMemory if there
+    /// is no memory for its capture; then what the run replaced is restored.
     #[inline(always)]
     fn enter_as_value(
         &mut self,
@@ -159,7 +160,7 @@ impl Machine {
         Ok(Flow::Enter(run))
     }
 
-    /// Pops a value, and calls the innermost loop with it, which writes in place.
+    /// Pops a value and calls the innermost loop with it; the loop writes in place.
     pub(crate) fn do_fast_recurse<H: Host>(
         &mut self,
         alloc: Global,
@@ -178,8 +179,9 @@ impl Machine {
         self.recurse(alloc, host, code, recursion, false)
     }
 
-    /// Begins a loop of the run's code that is called; `value` says whether its text is one. InvalidOperation
-    /// where there is none of the number that can be called, or its scope would lie deeper than the limit.
+    /// Begins a called loop of the run's code; `value` tells whether its text becomes a value.
+    /// InvalidOperation if there is no callable loop with this number, or if its scope would exceed
+    /// the depth limit.
     fn recurse<H: Host>(
         &mut self,
         alloc: Global,
@@ -209,8 +211,8 @@ impl Machine {
         Ok(Flow::GoOn)
     }
 
-    /// Replaces so many values by what they give, passed to what a name stands for: the first one's method, a
-    /// filter or a test. The place is a hint at where that stands.
+    /// Replaces the top `count` values by the result of applying the first one's method, a filter
+    /// or a test named `name` to them. `place` is a hint for finding the filter or test.
     pub(crate) fn do_apply<H: Host>(
         &mut self,
         alloc: Global,
@@ -234,7 +236,7 @@ impl Machine {
         }
     }
 
-    /// The same of so many values.
+    /// `do_apply` with a known `count`.
     fn apply<H: Host>(
         &mut self,
         alloc: Global,
@@ -263,7 +265,7 @@ impl Machine {
         self.go_on_with(alloc, host, code, count, called)
     }
 
-    /// Replaces so many values by what the first one, a function, answers to the others.
+    /// Replaces the top `count` values by the result of calling the first one with the others.
     pub(crate) fn do_call_object<H: Host>(
         &mut self,
         alloc: Global,
@@ -284,7 +286,7 @@ impl Machine {
         }
     }
 
-    /// The same of so many values.
+    /// `do_call_object` with a known `count`.
     fn call_object<H: Host>(
         &mut self,
         alloc: Global,
@@ -306,8 +308,8 @@ impl Machine {
         self.go_on_with(alloc, host, code, count, called)
     }
 
-    /// Replaces so many values by what the filter of a name answers to them. Stuck where it can't be used by its
-    /// cache number.
+    /// Replaces the top `count` values by the result of the filter `name`. Stuck if the cache
+    /// number can't be used for it.
     #[tactic(auto, using(crate::proofs::Used::filter_used))]
     pub(crate) fn do_apply_filter<H: Host>(
         &mut self,
@@ -329,8 +331,8 @@ impl Machine {
         self.do_apply(alloc, host, code, Application::Filter, name, place, count)
     }
 
-    /// Replaces so many values by whether what the test of a name answers to them is true. Stuck where it can't be
-    /// used by its cache number.
+    /// Replaces the top `count` values by whether the result of the test `name` is true. Stuck if
+    /// the cache number can't be used for it.
     #[tactic(auto, using(crate::proofs::Used::test_used))]
     pub(crate) fn do_perform_test<H: Host>(
         &mut self,
@@ -352,7 +354,7 @@ impl Machine {
         self.do_apply(alloc, host, code, Application::Test, name, place, count)
     }
 
-    /// Replaces so many values by one.
+    /// Replaces the top `count` values by `value`.
     pub(crate) fn replace(&mut self, count: usize, value: Value) -> Result<Flow, Halt>
         requires { CanGoOn self.old.run }
         ensures { Silently (goes (value ∷ drop count self.old.run.operands) self.old.world self.old)
@@ -363,7 +365,7 @@ impl Machine {
         Ok(Flow::GoOn)
     }
 
-    /// Runs the block of a name in place, where it is heard and no parent waits.
+    /// Runs the block `name` in place, if it is heard and no parent is waiting.
     #[inline(never)]
     pub(crate) fn do_call_block<H: Host>(
         &mut self,

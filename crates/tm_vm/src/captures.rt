@@ -1,4 +1,4 @@
-//! The instructions of captures and escapes.
+//! The instructions for captures and escapes.
 ghost use Rattle.std.specs.Prelude.{◌≡◌, IfOk, IfErr, true};
 ghost use Rattle.tm_meaning.specs.Memory.{is_want_of_memory};
 ghost use Rattle.tm_meaning.specs.World.{captured_text};
@@ -15,7 +15,7 @@ use tm_syntax::CaptureMode;
 use tm_values::{Error, Value};
 
 impl Machine {
-    /// A captured text as a value, safe where the state escapes. Fails by OutOfMemory alone.
+    /// A captured text as a value, marked safe if the state escapes. Fails only with OutOfMemory.
     pub(crate) fn captured(&self, alloc: Global, text: &str) -> Result<Value, Error>
         ensures ok { IfOk result (λ value. value ≡ captured_text text.now self.now.world) }
         ensures kind { IfErr result (λ e. is_want_of_memory e ≡ true) }
@@ -23,7 +23,7 @@ impl Machine {
         captured_value(alloc, text, self.state.escape())
     }
 
-    /// Begins a capture, which takes what is written from here on.
+    /// Begins a capture, which collects the output from here on.
     pub(crate) fn do_begin_capture(
         &mut self,
         alloc: Global,
@@ -37,8 +37,8 @@ impl Machine {
         Ok(Flow::GoOn)
     }
 
-    /// Ends the innermost capture, and pushes its text, or undefined where that is dropped; stuck where it
-    /// stood when the run or the innermost called loop began.
+    /// Ends the innermost capture and pushes its text, or undefined if the text is dropped. Stuck
+    /// if the capture was open before the run or the innermost called loop began.
     pub(crate) fn do_end_capture(&mut self, alloc: Global) -> Result<Flow, Halt>
         requires { CanGoOn self.old.run }
         ensures { Silently (end_capture_of self.old) self.old self.new result }
@@ -57,7 +57,7 @@ impl Machine {
         self.push_next(value?)
     }
 
-    /// Pops a value, and escapes from here on as it says; InvalidOperation where it names no escape.
+    /// Pops a value and sets the escape that it names. InvalidOperation if it names none.
     pub(crate) fn do_push_auto_escape(&mut self, base: &Base) -> Result<Flow, Halt>
         requires { CanGoOn self.old.run }
         ensures { Silently (push_auto_escape_of base.now self.old) self.old self.new result }
@@ -70,7 +70,8 @@ impl Machine {
         Ok(Flow::GoOn)
     }
 
-    /// Escapes as before the innermost open `autoescape`; stuck where the run, or the innermost called loop, has none open.
+    /// Restores the escape from before the innermost open `autoescape`. Stuck if the run, or the
+    /// innermost called loop, has none open.
     pub(crate) fn do_pop_auto_escape(&mut self) -> Result<Flow, Halt>
         requires { CanGoOn self.old.run }
         ensures { Silently (pop_auto_escape_of self.old) self.old self.new result }

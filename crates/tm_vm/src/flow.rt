@@ -1,17 +1,17 @@
-//! Where a run goes on after a step.
+//! How a run continues after a step.
 use tm_state::NestedRun;
 
-/// Where a run goes on after a step.
+/// How a run continues after a step.
 #[derive(Drop)]
 pub enum Flow {
     /// At its place.
     GoOn,
-    /// After a run that was needed first and is over.
+    /// After a run that had to come first and is finished.
     Called,
-    /// After a run that is needed first. Boxed, since each step hands its answer on.
+    /// After a run that must come first. Boxed because this result is passed on at every step.
     Enter(Box<NestedRun>),
     /// In the root of a parent, which has begun.
     Restart,
-    /// Nowhere: its stream is at the end.
+    /// Not at all: its stream is at the end.
     Done,
 }

@@ -1,4 +1,4 @@
-//! The instructions of templates that others include and import.
+//! The instructions for includes and imports.
 ghost use Rattle.tm_meaning.specs.Instructions.{export_locals_of, include_of};
 ghost use Rattle.tm_runs.specs.Runs.{CanGoOn};
 ghost use Rattle.tm_vm.specs.Answers.{Needs, Silently};
@@ -11,8 +11,9 @@ use tm_parts::Halt;
 use tm_tables::Host;
 
 impl Machine {
-    /// Pops a value, and runs the first template that is there of those that it names, in place, `apart` in a scope of its
-    /// own or not; nothing where none is there and one may be missing, or the value names none.
+    /// Pops a value and runs the first existing template that it names, in place; in a scope of its
+    /// own if `apart`. Does nothing if none exists and `missing` allows this, or if the value names
+    /// none.
     #[inline(never)]
     pub(crate) fn do_include<H: Host>(
         &mut self,
@@ -40,8 +41,8 @@ impl Machine {
         }
     }
 
-    /// Replaces a value, as a captured text, by the module of the innermost scope's names and of what the value is
-    /// printed as. What refuses to be printed is refused.
+    /// Replaces a captured text by a module of the innermost scope's names and that text. Any other
+    /// value counts by its text; fails if it can't be printed.
     #[inline(never)]
     pub(crate) fn do_export_locals(&mut self, alloc: Global) -> Result<Flow, Halt>
         requires { CanGoOn self.old.run }

@@ -1,4 +1,4 @@
-//! The instructions of parents and of the blocks after those that run.
+//! The instructions for parents and `super()`.
 ghost use Rattle.tm_meaning.specs.Instructions.{fast_super_of, load_blocks_of};
 ghost use Rattle.tm_runs.specs.Runs.{CanGoOn};
 ghost use Rattle.tm_vm.specs.Answers.{Loads, Needs};
@@ -11,7 +11,7 @@ use tm_parts::Halt;
 use tm_tables::Host;
 
 impl Machine {
-    /// Runs the block after the one that runs, in place.
+    /// Runs the next block of the running block's name, toward the root, in place.
     #[inline(never)]
     pub(crate) fn do_fast_super<H: Host>(
         &mut self,
@@ -31,7 +31,7 @@ impl Machine {
         Ok(Flow::Enter(entry))
     }
 
-    /// Pops a value, and loads the template that it names, which waits as the parent from here on.
+    /// Pops a value and loads the template that it names, which then waits as the parent.
     #[inline(never)]
     pub(crate) fn do_load_blocks<H: Host>(
         &mut self,

@@ -10,7 +10,7 @@ use tm_parts::Halt;
 use tm_tables::Host;
 
 impl Machine {
-    /// Goes on at a place.
+    /// Jumps to `place`.
     pub(crate) fn do_jump(&mut self, place: usize) -> Result<Flow, Halt>
         ensures { Silently (jump_of place self.old) self.old self.new result }
     {
@@ -18,7 +18,7 @@ impl Machine {
         Ok(Flow::GoOn)
     }
 
-    /// Pops a value, and goes on at a place where it is false.
+    /// Pops a value and jumps to `place` if it is false.
     pub(crate) fn do_jump_if_false<H: Host>(&mut self, host: &H, place: usize) -> Result<Flow, Halt>
         requires { CanGoOn self.old.run }
         ensures { Silently (jump_if_false_of (H.program host.now).host place self.old)
@@ -34,7 +34,8 @@ impl Machine {
         Ok(Flow::GoOn)
     }
 
-    /// Goes on at a place where the topmost value has this truth, and leaves it there; else pops it.
+    /// Jumps to `place` if the truth of the top value is `jumps`, and leaves the value there.
+    /// Otherwise pops it and moves on.
     pub(crate) fn jump_or_pop<H: Host>(
         &mut self,
         host: &H,

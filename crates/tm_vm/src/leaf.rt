@@ -1,4 +1,4 @@
-//! The call of a macro that is a leaf.
+//! Calls of macros that are leaves.
 ghost use Rattle.std.specs.Prelude.{◌≡◌, IfErr, IfOk, IfSome, Some, true};
 ghost use Rattle.tm_meaning.specs.Memory.{is_want_of_memory};
 ghost use Rattle.tm_meaning.specs.Instructions.{call_function_of};
@@ -12,8 +12,8 @@ use tm_tables::{Host, Parties};
 use tm_values::{Error, Value};
 
 impl Machine {
-    /// The text of the macro of a name that is called with so many values, where that is a leaf, and the fuel that is left
-    /// after it. OutOfMemory.
+    /// The text of the macro `name` called with the top `count` values, if it is a leaf, and the
+    /// fuel left after it. OutOfMemory.
     fn leaf_text<H: Host>(
         &mut self,
         alloc: Global,
@@ -61,8 +61,9 @@ impl Machine {
         Ok(Some((self.leaf.value(escape)?, left)))
     }
 
-    /// Replaces so many values by the text of the macro of a name that is called with them, where that is a leaf. Else all
-    /// stays as it was, and the answer is false. OutOfMemory.
+    /// Replaces the top `count` values by the text of the macro `name` called with them and returns
+    /// true, if the macro is a leaf. Otherwise nothing changes and the result is false.
+    /// OutOfMemory.
     #[inline(never)]
     pub(crate) fn call_leaf<H: Host>(
         &mut self,

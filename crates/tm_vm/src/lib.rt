@@ -1,4 +1,4 @@
-//! The machine: one method for each instruction, and the loop.
+//! The machine: a method for each instruction, and the main loop.
 #![tactic(auto)]
 
 mod at_once;

@@ -1,4 +1,4 @@
-//! The instructions of loops.
+//! The instructions for loops.
 ghost use Rattle.std.specs.Prelude.{◌≡◌};
 ghost use Rattle.tm_meaning.specs.Instructions.{push_loop_of, iterate_of, push_did_not_iterate_of, pop_loop_frame_of, returns};
 ghost use Rattle.tm_runs.specs.Runs.{resumed, CanGoOn};
@@ -17,9 +17,9 @@ use tm_tables::Host;
 use tm_values::Value;
 
 impl Machine {
-    /// Pops a value, and begins a loop over its items in a scope of its own, whose number is that of its
-    /// place in the run's code. Its error where it can't be iterated, InvalidOperation where the scope would
-    /// lie deeper than the limit.
+    /// Pops a value and begins a loop over its items in a scope of its own. The loop's number is
+    /// that of its place in the code. The error of the iteration if the value has no items,
+    /// InvalidOperation if the scope would exceed the depth limit.
     pub(crate) fn do_push_loop<H: Host>(
         &mut self,
         alloc: Global,
@@ -43,8 +43,8 @@ impl Machine {
         Ok(Flow::GoOn)
     }
 
-    /// Pushes the next item of the innermost loop, or goes to a place where none is left; stuck where the run
-    /// has no loop open, or its scope isn't on top.
+    /// Pushes the next item of the innermost loop, or jumps to `place` if none is left. Stuck if
+    /// the run has no open loop or its scope isn't the innermost.
     pub(crate) fn do_iterate(&mut self, place: usize) -> Result<Flow, Halt>
         requires { CanGoOn self.old.run }
         ensures { Silently (iterate_of place self.old) self.old self.new result }
@@ -72,7 +72,7 @@ impl Machine {
         }
     }
 
-    /// Pushes whether the innermost loop has no items; stuck as `Iterate` is.
+    /// Pushes whether the innermost loop has no items. Stuck as in `do_iterate`.
     pub(crate) fn do_push_did_not_iterate(&mut self) -> Result<Flow, Halt>
         requires { CanGoOn self.old.run }
         ensures { Silently (push_did_not_iterate_of self.old) self.old self.new result }
@@ -87,7 +87,8 @@ impl Machine {
         self.push_next(Value::boolean(none))
     }
 
-    /// Leaves the innermost loop, and goes on where that was called if it was; stuck as `Iterate` is.
+    /// Leaves the innermost loop and returns to its call, if it was called. Stuck as in
+    /// `do_iterate`.
     pub(crate) fn do_pop_loop_frame(&mut self, alloc: Global, base: &Base) -> Result<Flow, Halt>
         requires { CanGoOn self.old.run }
         ensures { Shifts base.now (pop_loop_frame_of base.now self.old) self.old self.new result }
@@ -108,7 +109,7 @@ impl Machine {
         }
     }
 
-    /// Goes on where a loop was called; its text is put on top where that is a value.
+    /// Returns to where a loop was called, and pushes the loop's text if it becomes a value.
     #[tactic(auto, using(crate::proofs::Returned::with_its_text))]
     fn return_to(&mut self, alloc: Global, pending: Return) -> Result<Flow, Halt>
         ensures { Silently (returns pending pending.value

@@ -1,4 +1,4 @@
-//! The machine: a run with its operands, the captures and the state, and the loop.
+//! The machine: a run with its operands, the captures, the state, and the main loop.
 ghost use Rattle.std.specs.Prelude.{◌≡◌, ◌≤◌, [], ◌∷◌, length, MatchOption, OnOk};
 ghost use Rattle.tm_meaning.specs.Inheritance.{names_left};
 ghost use Rattle.tm_meaning.specs.Machine.{audible, base_of, first_run, run_from, running};
@@ -21,7 +21,7 @@ use tm_state::{NestedRun, RunOf, Saved, StateData};
 use tm_tables::Host;
 use tm_values::{Error, ErrorKind, Value};
 
-/// A halt of a nested run, as it is reported: a fault is wrapped in the kind, where there is one.
+/// The halt of a nested run as it is reported: a fault is wrapped in a kind, if there is one.
 #[cold]
 #[inline(never)]
 fn wrapped(alloc: Global, wrap: Option<Wrapping>, halt: Halt) -> Halt
@@ -48,7 +48,7 @@ pub struct Machine {
     pub(crate) leaf: Leaf,
 }
 
-// By hand: one call for each owner, in place of a drop of each part.
+// Written by hand: one drop call per owner instead of dropping each part.
 impl Drop for Machine {
     fn drop(self) {
         let Machine {
@@ -73,7 +73,7 @@ impl Model for Machine {
 }
 
 impl Machine {
-    /// A machine at a stream's first instruction, over captures and a state.
+    /// A machine at the first instruction of `stream`, with these captures and this state.
     pub fn new(alloc: Global, stream: StreamId, captures: Captures, state: StateData) -> Machine
         ensures { result ≡ running (run_from stream (length captures)) captures state }
     {
@@ -85,8 +85,8 @@ impl Machine {
         }
     }
 
-    /// A machine at the first instruction of what is called, over captures and a state; the state where there is no such
-    /// run: where its stream has no such macro, or one that takes other arguments.
+    /// A machine at the first instruction of `run`, with these captures and this state. Returns the
+    /// state if there is no such run: if the stream has no such macro, or one with other arguments.
     pub fn of_run<H: Host>(
         alloc: Global,
         host: &H,
@@ -108,7 +108,7 @@ impl Machine {
         }
     }
 
-    /// The captures and the state that are left.
+    /// The remaining captures and state.
     pub fn into_parts(self) -> (Captures, StateData)
         ensures captures { result.0 ≡ self.captures }
         ensures state { result.1 ≡ self.world }
@@ -122,7 +122,7 @@ impl Machine {
         (captures, state)
     }
 
-    /// The value that the run left, where it left one and no other, and the state.
+    /// The operand that the run left, if it left exactly one, and the state.
     pub fn into_value(self) -> (Option<Value>, StateData)
         ensures value { MatchOption result.0 (length self.run.operands ≡ 1 → ⊥)
             (λ v. self.run.operands ≡ v ∷ []) }
@@ -138,7 +138,8 @@ impl Machine {
     }
 
     // ------------------------------------------------------------ parts
-    /// Whether what is written is heard: by the innermost capture of this run, else as the run is.
+    /// Whether output is heard: by the innermost capture of this run, or else as the run's own text
+    /// is.
     pub(crate) fn is_audible(&self, base: &Base) -> bool
         ensures { result ≡ audible base.now self.now }
     {
@@ -148,7 +149,7 @@ impl Machine {
         base.heard && self.run.none_waits()
     }
 
-    /// What a run from here on stands on.
+    /// The base of a run that starts here.
     pub fn base(&self, heard: bool) -> Base
         ensures { result ≡ base_of heard self.now.captures self.now.world }
     {
@@ -161,8 +162,8 @@ impl Machine {
     }
 
     // ------------------------------------------------------------ runs
-    /// Runs a run that is needed first, over the same captures and state; the run that waits goes on. InvalidOperation
-    /// where there is no such run. However it ended, what it replaced is put back after it.
+    /// Runs a nested run on the same captures and state, after which the waiting run continues.
+    /// InvalidOperation if there is no such run. However it ends, what it replaced is restored.
     #[cycle(machine)]
     fn run_nested<H: Host, W: Sink>(
         &mut self,
@@ -208,7 +209,8 @@ impl Machine {
         Ok(())
     }
 
-    /// Puts the innermost capture's text on top, as such a value; stuck where no capture is open.
+    /// Pushes the innermost capture's text as a value of the form `kind`. Stuck if no capture is
+    /// open.
     #[inline(always)]
     pub(crate) fn push_captured(&mut self, alloc: Global, kind: RunText) -> Result<(), Halt>
         ensures captured { IsCaptured kind result self.old self.new }
@@ -224,8 +226,8 @@ impl Machine {
         Ok(())
     }
 
-    /// Begins the run of what is called over the same captures and state, and gives the run that waits; none where there
-    /// is no such run.
+    /// Begins a run on the same captures and state and returns the waiting run; None if there is no
+    /// such run.
     fn begin<H: Host>(&mut self, alloc: Global, host: &H, run: RunOf) -> Option<Activation>
         ensures { BeginsRun (first_run (H.program host.now)
             (callee_of run) (length self.old.captures)) result self.old self.new }
@@ -247,7 +249,7 @@ impl Machine {
         }
     }
 
-    /// Begins a run, and gives the one that waits.
+    /// Begins `run` and returns the waiting run.
     #[inline(always)]
     fn enter(&mut self, run: Activation) -> Activation
         ensures waiting { result ≡ self.old.run }
@@ -256,7 +258,7 @@ impl Machine {
         mem::replace(&mut self.run, run)
     }
 
-    /// Goes on with a run that waited, and keeps the room of the one that is over.
+    /// Continues the waiting run and keeps the memory of the finished one.
     fn resume(&mut self, alloc: Global, waiting: Activation)
         ensures { self.new ≡ record self.old { run = waiting } }
     {
@@ -264,14 +266,14 @@ impl Machine {
         self.run = waiting;
     }
 
-    /// Puts back in the state what a run replaced, and leaves the scopes that it opened.
+    /// Restores what a run replaced in the state and leaves the scopes that it opened.
     fn put_back(&mut self, saved: &mut Saved)
         ensures { self.new ≡ record self.old { world = put_back saved.old self.old.world } }
     {
         self.state.put_back(saved);
     }
 
-    /// The same of what the run in a box replaced.
+    /// `put_back` for a run in a box.
     #[inline(always)]
     fn put_back_of(&mut self, entry: Box<NestedRun>)
         ensures { self.new ≡ record self.old { world = put_back entry.value.saved self.old.world } }
@@ -286,7 +288,8 @@ impl Machine {
         host.instructions(self.run.stream(), self.state.template_place())
     }
 
-    /// Runs to the end of the stream, or of the last one of its parents; `heard` says whether its text is.
+    /// Runs to the end of the stream, or of the last of its parents; `heard` tells whether its text
+    /// is output.
     #[cycle(machine)]
     pub fn run<H: Host, W: Sink>(
         &mut self,

@@ -1,4 +1,4 @@
-//! The instructions of macros.
+//! The instructions for macros.
 ghost use Rattle.std.specs.Prelude.{◌≡◌};
 ghost use Rattle.tm_meaning.specs.Instructions.{build_macro_of, enclose_of, get_closure_of};
 ghost use Rattle.tm_meaning.specs.Instructions.{is_undefined_of};
@@ -26,7 +26,8 @@ impl Machine {
         self.push_next(Value::boolean(value.is_undefined()))
     }
 
-    /// Lets the innermost scope's own closure have a name with its present value, unless it has it.
+    /// Binds `name` to its present value in the innermost scope's own closure, unless the closure
+    /// binds it already.
     pub(crate) fn do_enclose<H: Host>(
         &mut self,
         alloc: Global,
@@ -51,7 +52,8 @@ impl Machine {
         self.push_next(closure)
     }
 
-    /// Replaces a closure, and the names of arguments on top of it, by a macro whose code begins at a place.
+    /// Replaces a closure, and the argument names on top of it, by a macro whose code begins at
+    /// `place`.
     pub(crate) fn do_build_macro(
         &mut self,
         alloc: Global,

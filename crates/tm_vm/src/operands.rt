@@ -1,4 +1,4 @@
-//! The instructions of operands, operators, lists and maps.
+//! The instructions for operands, operators, lists and maps.
 ghost use Rattle.std.specs.Prelude.{◌<◌, ◌∷◌, Some};
 ghost use Rattle.tm_meaning.specs.Machine.{goes};
 ghost use Rattle.tm_meaning.specs.Instructions.{lookup_of, load_const_of, get_attr_of, unary_of, binary_of};
@@ -19,7 +19,7 @@ use tm_tables::Host;
 use tm_values::{Value, ValueMap};
 
 impl Machine {
-    /// Pushes an operand and goes on.
+    /// Pushes `value` and moves on.
     pub(crate) fn push_next(&mut self, value: Value) -> Result<Flow, Halt>
         requires { CanGoOn self.old.run }
         ensures { Silently (goes (value ∷ self.old.run.operands) self.old.world self.old)
@@ -30,7 +30,7 @@ impl Machine {
         Ok(Flow::GoOn)
     }
 
-    /// Pushes the value of a name, undefined where there is none.
+    /// Pushes the value that `name` is bound to, or undefined.
     pub(crate) fn do_lookup<H: Host>(&mut self, host: &H, name: &Name) -> Result<Flow, Halt>
         requires { CanGoOn self.old.run }
         ensures { Silently (lookup_of (H.program host.now).host name.now self.old)
@@ -51,7 +51,7 @@ impl Machine {
         self.push_next(value.share()?)
     }
 
-    /// Replaces a value by its attribute of a name.
+    /// Replaces a value by its attribute `name`.
     pub(crate) fn do_get_attr<H: Host>(
         &mut self,
         alloc: Global,
@@ -68,7 +68,7 @@ impl Machine {
         self.push_next(found)
     }
 
-    /// Replaces a value by what a prefix operator gives of it.
+    /// Replaces a value by the result of a unary operator.
     pub(crate) fn do_unary<H: Host>(
         &mut self,
         alloc: Global,
@@ -84,7 +84,7 @@ impl Machine {
         self.push_next(given)
     }
 
-    /// Replaces two values by what an operator gives of them.
+    /// Replaces two values by the result of a binary operator.
     #[inline(never)]
     pub(crate) fn do_binary<H: Host>(
         &mut self,
@@ -103,7 +103,7 @@ impl Machine {
         self.push_next(given)
     }
 
-    /// Replaces two values by the second and, over it, what an operator gives of them.
+    /// Replaces two values by the second one and, on top, the result of a binary operator.
     pub(crate) fn do_compare_and_preserve<H: Host>(
         &mut self,
         alloc: Global,
@@ -122,7 +122,7 @@ impl Machine {
         self.push_next(given)
     }
 
-    /// Turns the two topmost values round.
+    /// Swaps the top two values.
     pub(crate) fn do_swap(&mut self) -> Result<Flow, Halt>
         requires { CanGoOn self.old.run }
         ensures { Silently (swap_of self.old) self.old self.new result }
@@ -133,7 +133,7 @@ impl Machine {
         self.push_next(below)
     }
 
-    /// Pushes the topmost value once more.
+    /// Pushes the top value again.
     pub(crate) fn do_dup_top(&mut self) -> Result<Flow, Halt>
         requires { CanGoOn self.old.run }
         ensures { Silently (dup_top_of self.old) self.old self.new result }
@@ -145,7 +145,7 @@ impl Machine {
         self.push_next(value)
     }
 
-    /// Drops the topmost value.
+    /// Drops the top value.
     pub(crate) fn do_discard_top(&mut self) -> Result<Flow, Halt>
         requires { CanGoOn self.old.run }
         ensures { Silently (discard_top_of self.old) self.old self.new result }
@@ -155,7 +155,7 @@ impl Machine {
         Ok(Flow::GoOn)
     }
 
-    /// Replaces a value and a key by the value's item there.
+    /// Replaces a value and a key by the value's item at this key.
     pub(crate) fn do_get_item<H: Host>(&mut self, alloc: Global, host: &H) -> Result<Flow, Halt>
         requires { CanGoOn self.old.run }
         ensures { Silently (get_item_of (H.program host.now).host self.old)
@@ -191,7 +191,8 @@ impl Machine {
         self.push_next(part)
     }
 
-    /// Replaces so many values by the list of them, or as many as the number on top of them counts.
+    /// Replaces the top `count` values by a list of them; without a count, the number on top tells
+    /// how many.
     pub(crate) fn do_build_list(
         &mut self,
         alloc: Global,
@@ -206,7 +207,7 @@ impl Machine {
         }
     }
 
-    /// Replaces so many values by the list of them.
+    /// Replaces the top `count` values by a list of them.
     fn build_list(&mut self, alloc: Global, count: usize) -> Result<Flow, Halt>
         requires { CanGoOn self.old.run }
         ensures { Silently (build_list_of (Some count) self.old) self.old self.new result }
@@ -217,7 +218,7 @@ impl Machine {
         self.push_next(Value::list(alloc, values)?)
     }
 
-    /// Replaces so many keys, each with its value after it, by the map of them.
+    /// Replaces the top `count` pairs of a key and its value by a map.
     pub(crate) fn do_build_map(&mut self, alloc: Global, count: usize) -> Result<Flow, Halt>
         requires { CanGoOn self.old.run }
         ensures { Silently (build_map_of count self.old) self.old self.new result }
@@ -229,7 +230,7 @@ impl Machine {
         self.push_next(Value::from_map(alloc, pairs)?)
     }
 
-    /// Replaces so many names, each with its value after it, by the keyword map of them.
+    /// Replaces the top `count` pairs of a name and its value by a keyword map.
     pub(crate) fn do_build_kwargs(&mut self, alloc: Global, count: usize) -> Result<Flow, Halt>
         requires { CanGoOn self.old.run }
         ensures { Silently (build_kwargs_of count self.old) self.old self.new result }
@@ -241,8 +242,8 @@ impl Machine {
         self.push_next(Value::keywords(alloc, pairs)?)
     }
 
-    /// Replaces so many maps by the keyword map of their pairs. InvalidOperation or UndefinedError for what is
-    /// no map.
+    /// Replaces the top `count` maps by a keyword map of their pairs. InvalidOperation or
+    /// UndefinedError for a value that isn't a map.
     #[inline(never)]
     pub(crate) fn do_merge_kwargs<H: Host>(
         &mut self,
@@ -262,8 +263,8 @@ impl Machine {
         self.replace(count, keywords)
     }
 
-    /// Replaces so many values by the items of all of them, and on top how many these are. InvalidOperation for
-    /// what has no items.
+    /// Replaces the top `count` values by their items and, on top, the number of these.
+    /// InvalidOperation for a value without items.
     #[inline(never)]
     pub(crate) fn do_unpack_lists<H: Host>(
         &mut self,

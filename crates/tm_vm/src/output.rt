@@ -1,4 +1,4 @@
-//! What is written.
+//! Output.
 ghost use Rattle.tm_meaning.specs.World.{records_of};
 ghost use Rattle.tm_meaning.specs.Machine.{writes};
 ghost use Rattle.tm_meaning.specs.Instructions.{emit_raw_of, emit_of};
@@ -16,7 +16,7 @@ use tm_tables::{Host, Parties};
 use tm_values::Value;
 
 impl Machine {
-    /// Writes a text where it is heard.
+    /// Writes `text` if it is heard.
     pub(crate) fn write_text<W: Sink>(
         &mut self,
         base: &Base,
@@ -33,7 +33,7 @@ impl Machine {
         Ok(Flow::GoOn)
     }
 
-    /// Writes what is emitted for a value, where it is heard.
+    /// Writes what `value` emits if it is heard.
     pub(crate) fn write_value<W: Sink>(
         &mut self,
         base: &Base,
@@ -52,7 +52,7 @@ impl Machine {
         Ok(Flow::GoOn)
     }
 
-    /// Writes a text as it stands.
+    /// Writes a raw text.
     pub(crate) fn do_emit_raw<W: Sink>(
         &mut self,
         base: &Base,
@@ -67,7 +67,7 @@ impl Machine {
         self.write_text(base, text.as_str(), writer)
     }
 
-    /// Pops a value and writes what it is emitted as; its error where it can't be.
+    /// Pops a value and writes what it emits; fails if it can't be emitted.
     pub(crate) fn do_emit<H: Host, W: Sink>(
         &mut self,
         alloc: Global,
@@ -90,7 +90,8 @@ impl Machine {
         self.write_value(base, &value, writer)
     }
 
-    /// Pops a value and writes the text of its own that it is emitted as; its error where it can't be.
+    /// Pops a value and writes it as the formatter or the escape turns it into text; fails if it
+    /// can't be emitted.
     #[inline(never)]
     fn emit_formatted<H: Host, W: Sink>(
         &mut self,

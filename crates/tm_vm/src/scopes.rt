@@ -1,4 +1,4 @@
-//! The instructions of scopes and targets.
+//! The instructions for scopes and targets.
 ghost use Rattle.tm_meaning.specs.Instructions.{store_local_of, unpack_list_of, set_attr_of, push_with_of, pop_frame_of};
 ghost use Rattle.tm_runs.specs.Runs.{CanGoOn};
 ghost use Rattle.tm_vm.specs.Answers.{Silently, Opens, Shifts};
@@ -13,7 +13,7 @@ use tm_syntax::Name;
 use tm_tables::Host;
 
 impl Machine {
-    /// Pops a value, and gives it to a name of the innermost scope.
+    /// Pops a value and binds `name` to it in the innermost scope.
     pub(crate) fn do_store_local(&mut self, name: &Name) -> Result<Flow, Halt>
         requires { CanGoOn self.old.run }
         ensures { Silently (store_local_of name.now self.old) self.old self.new result }
@@ -24,7 +24,7 @@ impl Machine {
         Ok(Flow::GoOn)
     }
 
-    /// Replaces a value by its items, the first on top, of which there are so many.
+    /// Replaces a value by its `count` items, the first on top.
     pub(crate) fn do_unpack_list(&mut self, alloc: Global, count: usize) -> Result<Flow, Halt>
         requires { CanGoOn self.old.run }
         ensures { Silently (unpack_list_of count self.old) self.old self.new result }
@@ -36,7 +36,7 @@ impl Machine {
         Ok(Flow::GoOn)
     }
 
-    /// Pops a namespace and a value below it, and gives the value to its attribute.
+    /// Pops a namespace and the value below it, and sets the attribute `name` to that value.
     pub(crate) fn do_set_attr(&mut self, alloc: Global, name: &Name) -> Result<Flow, Halt>
         requires { CanGoOn self.old.run }
         ensures { Silently (set_attr_of name.now self.old) self.old self.new result }
@@ -48,7 +48,7 @@ impl Machine {
         Ok(Flow::GoOn)
     }
 
-    /// Opens a scope; InvalidOperation where it would lie deeper than the limit.
+    /// Opens a scope. InvalidOperation if it would exceed the depth limit.
     pub(crate) fn do_push_with<H: Host>(&mut self, alloc: Global, host: &H) -> Result<Flow, Halt>
         requires { CanGoOn self.old.run }
         ensures { Opens (push_with_of (H.program host.now).host self.old) self.old self.new result }
@@ -58,7 +58,7 @@ impl Machine {
         Ok(Flow::GoOn)
     }
 
-    /// Leaves the innermost scope; stuck where the run didn't open it.
+    /// Leaves the innermost scope. Stuck if the run didn't open it.
     pub(crate) fn do_pop_frame(&mut self, base: &Base) -> Result<Flow, Halt>
         requires { CanGoOn self.old.run }
         ensures { Shifts base.now (pop_frame_of base.now self.old) self.old self.new result }

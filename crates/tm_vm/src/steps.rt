@@ -1,4 +1,4 @@
-//! A step: an instruction is paid for and done.
+//! A step: an instruction is charged and performed.
 ghost use Rattle.std.specs.Prelude.{◌≡◌, ◌+◌, [], ◌∷◌, OnOk, OnErr, length};
 ghost use Rattle.tm_values.specs.declared.error.ErrorKind.TheVariants.{OutOfFuel};
 ghost use Rattle.tm_meaning.specs.World.{Good, Bad};
@@ -20,7 +20,7 @@ use tm_tables::{Exhausted, Host, NO_PLACE};
 use tm_values::{Error, ErrorKind};
 
 impl Machine {
-    /// Does an instruction that was paid for.
+    /// Performs an instruction that was charged.
     #[inline(always)]
     #[tactic(auto, using(crate::proofs::Performed::kinds))]
     pub(crate) fn perform<H: Host, W: Sink>(
@@ -132,14 +132,14 @@ impl Machine {
         }
     }
 
-    /// The place at which the run stands.
+    /// The place in the stream.
     pub(crate) fn place(&self) -> usize
         ensures { result ≡ self.now.run.place }
     {
         self.run.place()
     }
 
-    /// Pays for an instruction; Exhausted where less than its charge is left.
+    /// Charges an instruction; Exhausted if less than its charge is left.
     #[inline(always)]
     pub(crate) fn charge(&mut self, instruction: &Instruction) -> Result<(), Exhausted>
         ensures ok { OnOk result
@@ -156,7 +156,7 @@ impl Machine {
         self.state.charge(instruction)
     }
 
-    /// Whether all is closed that the run opened.
+    /// Whether the run has closed all that it opened.
     fn is_closed(&self, base: &Base) -> bool
         ensures { result ≡ closed base.now self.now }
     {
@@ -166,7 +166,8 @@ impl Machine {
             && !self.run.has_loop()
     }
 
-    /// Ends the run after its last instruction, at once where it has closed all and no parent waits, or as `finish`.
+    /// Ends the run after its last instruction: at once if it has closed everything and no parent
+    /// is waiting, and otherwise as `finish` does.
     #[inline(always)]
     fn end_run(&mut self, alloc: Global, base: &Base, size: usize) -> Result<Flow, Halt>
         ensures { Finishes result base.now self.old self.new (finish size base.now self.old) }
@@ -177,8 +178,8 @@ impl Machine {
         self.finish(alloc, base, size)
     }
 
-    /// Ends the run after its last instruction, or restarts it in the root of the parent that waits; stuck where it has
-    /// left something open.
+    /// Ends the run after its last instruction, or restarts it in the root of the waiting parent.
+    /// Stuck if something is still open.
     #[inline(never)]
     pub(crate) fn finish(&mut self, alloc: Global, base: &Base, size: usize) -> Result<Flow, Halt>
         ensures { Finishes result base.now self.old self.new (finish size base.now self.old) }
@@ -194,7 +195,7 @@ impl Machine {
         Ok(Flow::Restart)
     }
 
-    /// Ends the run where it stands; stuck where it has left something open.
+    /// Ends the run at its place. Stuck if something is still open.
     pub(crate) fn do_return(&self, base: &Base) -> Result<Flow, Halt>
         ensures { Finishes result base.now self.now self.now (return_of base.now self.now) }
     {
@@ -204,7 +205,8 @@ impl Machine {
         Err(Halt::Stuck)
     }
 
-    /// Pays for the instruction at the place and does it by its method, and answers where the run goes on.
+    /// Charges the instruction at the place and performs it by its method; tells how the run
+    /// continues.
     #[inline(always)]
     fn step_by_method<H: Host, W: Sink>(
         &mut self,
@@ -231,7 +233,8 @@ impl Machine {
         self.perform(alloc, host, base, code, instruction, writer)
     }
 
-    /// Pays for the instruction at the place and does it, where there is one and it can be done at once.
+    /// Charges and performs the instruction at the place, if there is one and it can be done at
+    /// once.
     #[inline(always)]
     fn attempt_next<H: Host, W: Sink>(
         &mut self,
@@ -251,7 +254,8 @@ impl Machine {
         }
     }
 
-    /// Pays for the instruction at the place and does it, at once where it can be, and answers where the run goes on.
+    /// Charges the instruction at the place and performs it, at once if possible; tells how the run
+    /// continues.
     #[inline(always)]
     pub fn step<H: Host, W: Sink>(
         &mut self,

@@ -1,4 +1,4 @@
-//! Expressions on their own: their code, and what is none.
+//! Expressions on their own: their code, and sources that aren't expressions.
 use crate::code;
 use crate::rows::{expect, halves};
 use std::alloc::Global;
@@ -6,7 +6,7 @@ use std::test::Fail;
 use tm_compiler::parse_expr;
 use tm_values::{Error, ErrorKind};
 
-/// What they are compiled to.
+/// Expressions and their code.
 static CODES: [&str; 9] = [
     "a + 1 => $a #1 +",
     " \n a.b|f(1)\t => $a .b #1 filter:f2@0",
@@ -19,7 +19,7 @@ static CODES: [&str; 9] = [
     "\"}}\" ~ '%}' => #}} #%} ~",
 ];
 
-/// What spells no expression.
+/// Sources that spell no expression.
 static REFUSED: [&str; 14] = [
     "",
     " ",
@@ -49,7 +49,7 @@ fn is_refused(alloc: Global, source: &str) -> bool {
     }
 }
 
-/// The code of each row's source is the row's.
+/// Expects that each row's source has the row's code.
 fn expect_codes(alloc: Global, rows: &[&str]) -> Result<(), Fail> {
     for row in rows {
         let (source, wanted) = halves(row);

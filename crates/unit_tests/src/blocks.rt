@@ -1,6 +1,6 @@
-//! Blocks, their parents and their calls: their code, and what is none.
+//! Blocks, their parents and their calls: their code, and sources that aren't templates.
 
-/// What they are compiled to.
+/// Sources and their code.
 pub(crate) static CODES: [&str; 15] = [
     "{% block x required %}a{% endblock x %}{% block y %}{% endblock %} => block:x block:y | x! raw:a | y",
     "{% block required required %}{% endblock required %} => block:required",
@@ -19,7 +19,7 @@ pub(crate) static CODES: [&str; 15] = [
     r#"{% call(a) self.x().y() %}{% endcall %} => capture block:x captured #caller jump:7 store:a return closure #["a"] macro:caller5 named:1 method:y2 emit"#,
 ];
 
-/// What spells no template.
+/// Sources that spell no template.
 pub(crate) static REFUSED: [&str; 9] = [
     "{% block x required required %}{% endblock %}",
     "{% block x optional %}{% endblock %}",

@@ -1,4 +1,4 @@
-//! Cache numbers of a stream that has more names than there are caches.
+//! Cache numbers of a stream with more names than there are caches.
 use crate::sources::expect_codes;
 use crate::syntax;
 use std::alloc::Global;
@@ -8,14 +8,15 @@ use tm_values::Error;
 
 static NAMES: &str = "abcdefghijklmnopqrstuvwxyzABCDEFGHIJKLMNOPQRSTUVWXYZ";
 
-/// Writes the words of a filter of a name with a cache number.
+/// Writes the code of a filter with a cache number.
 fn write_filter(alloc: Global, out: &mut String, name: char, cache: i128) -> Result<(), Error> {
     let words = format!(in alloc; " filter:{name}1@{cache}")?;
     out.push_str(words.as_str())?;
     Ok(())
 }
 
-/// Writes a source that passes a value to filters of all names, and again to the last one and to the first.
+/// Writes a source that applies filters of all names to a value, and then the last and the first
+/// one again.
 fn write_source(out: &mut String) -> Result<(), Error> {
     out.push_str("{{ x")?;
     for name in NAMES.chars() {

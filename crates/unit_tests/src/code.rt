@@ -1,4 +1,4 @@
-//! The code of a tree as a text.
+//! The code of a tree as text.
 use std::alloc::Global;
 use tm_compiler::{Instruction, Streams, Tree, generate};
 use tm_printing::to_text;
@@ -17,7 +17,8 @@ fn numeral(number: usize) -> &'static str {
     }
 }
 
-/// Writes a value as it is printed, and an undefined one as `silent`: no other is a constant.
+/// Writes a constant as it is printed, and an undefined one as `silent`; no other undefined value
+/// is a constant.
 fn write_constant(alloc: Global, out: &mut String, value: &Value) -> Result<(), Error> {
     if let Node::Undefined(_) = &value.node {
         out.push_str("silent")?;
@@ -129,7 +130,7 @@ fn comparison(operator: BinaryOperator) -> &'static str {
     }
 }
 
-// The name, the place, the number or the operator of an instruction.
+// The name, place, number or operator of an instruction.
 fn detail(instruction: &Instruction) -> &str {
     match instruction {
         Instruction::EmitRaw(text) => text.as_str(),
@@ -161,7 +162,8 @@ fn detail(instruction: &Instruction) -> &str {
     }
 }
 
-// The count of a call's values, or `*` where it is on top of them; where a macro is entered.
+// The number of a call's values, or `*` if it is on top of them; or the place where a macro is
+// entered.
 fn count(instruction: &Instruction) -> &'static str {
     match instruction {
         Instruction::CallFunction(_, number)
@@ -177,7 +179,7 @@ fn count(instruction: &Instruction) -> &'static str {
     }
 }
 
-// Writes the cache number of an instruction after `@`.
+// Writes an instruction's cache number after `@`.
 fn write_cache(alloc: Global, out: &mut String, instruction: &Instruction) -> Result<(), Error> {
     match instruction {
         Instruction::ApplyFilter(_, _, cache) | Instruction::PerformTest(_, _, cache) => {

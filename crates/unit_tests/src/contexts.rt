@@ -1,4 +1,5 @@
-//! The scopes of a state beside a plain model, a list of maps: over many random calls, and with many names.
+//! Compares the scopes of a state with a plain model, a list of maps: over many random calls, and
+//! with many names.
 use crate::rows::expect;
 use std::alloc::Global;
 use std::collections::BTreeMap;
@@ -8,31 +9,31 @@ use tm_syntax::Name;
 use tm_tables::{Closures, Context, Found, Frame};
 use tm_values::{Error, ErrorKind, NoRecords, Value};
 
-/// How many random calls are made.
+/// The number of random calls.
 const CALLS: usize = 6000;
 
-/// How deep scopes may lie in them.
+/// The greatest depth of scopes in the random calls.
 const LIMIT: usize = 12;
 
-/// How many names there are beside the few that come again and again.
+/// The number of names besides the few that occur again and again.
 const MANY: usize = 120;
 
-/// How many names the wide scope has, and how many scopes lie inside it.
+/// The number of names in the wide scope, and how many scopes are inside it.
 const WIDE: usize = 3000;
 
 const FURTHER_IN: usize = 20;
 
-/// Names that come again and again.
+/// Names that occur again and again.
 static FEW: [&str; 8] = ["a", "b", "_c", "row", "loop", "é", "_", "item"];
 
-/// Numbers that look random, and are the same in each run.
+/// Numbers that look random and are the same in each run.
 #[derive(Drop)]
 struct Dice {
     seed: u64,
 }
 
 impl Dice {
-    /// A number below `sides`, or 0.
+    /// A number below `sides`, or 0 if `sides` is 0.
     fn roll(&mut self, sides: usize) -> usize {
         self.seed = self
             .seed
@@ -45,7 +46,7 @@ impl Dice {
         }
     }
 
-    /// The mark of a loop of this number, or none.
+    /// The mark of the loop `number`, or none.
     fn mark(&mut self, number: usize) -> Option<LoopMark> {
         match self.roll(4) {
             0 => Some(LoopMark {
@@ -61,7 +62,7 @@ impl Dice {
     }
 }
 
-/// One of many names; each fifth one is not exported.
+/// One of many names; every fifth one isn't exported.
 fn one_of_many(alloc: Global, number: usize) -> Result<String, Error> {
     let name = if number % 5 == 0 {
         format!(in alloc; "_name{number}")?
@@ -71,7 +72,7 @@ fn one_of_many(alloc: Global, number: usize) -> Result<String, Error> {
     Ok(name)
 }
 
-/// A number's value: a text or the number itself, so that values of both kinds are stored.
+/// The value of a number: the number itself or its text, so that values of both kinds are stored.
 fn value_of(alloc: Global, number: i128) -> Result<Value, Error> {
     if number % 3 == 0 {
         let text = format!(in alloc; "{number}")?;
@@ -80,7 +81,7 @@ fn value_of(alloc: Global, number: i128) -> Result<Value, Error> {
     Ok(Value::number(number))
 }
 
-/// Whether a value is there where a number is, and is the number's.
+/// Whether the value found is that of the number, or both are missing.
 fn is_value(alloc: Global, found: Option<&Value>, number: Option<i128>) -> Result<bool, Error> {
     match (found, number) {
         (Some(value), Some(number)) => Ok(*value == value_of(alloc, number)?),
@@ -89,7 +90,7 @@ fn is_value(alloc: Global, found: Option<&Value>, number: Option<i128>) -> Resul
     }
 }
 
-/// What a name stands for in the model.
+/// What a name means in the model.
 #[derive(Clone, Copy)]
 enum Meant {
     /// A value, by its number.
@@ -98,7 +99,7 @@ enum Meant {
     Loop(usize),
 }
 
-/// Whether what is found is what the model means.
+/// Whether what was found is what the model means.
 fn is_meant(alloc: Global, found: &Option<Found<'_>>, meant: Option<Meant>) -> Result<bool, Error> {
     match (found, meant) {
         (Some(Found::Value(value)), Some(Meant::Number(number))) => {
@@ -110,7 +111,7 @@ fn is_meant(alloc: Global, found: &Option<Found<'_>>, meant: Option<Meant>) -> R
     }
 }
 
-/// Whether two scopes are marked alike.
+/// Whether two marks are equal.
 fn is_mark(found: Option<LoopMark>, wanted: Option<LoopMark>) -> bool {
     match (found, wanted) {
         (Some(found), Some(wanted)) => {
@@ -121,7 +122,7 @@ fn is_mark(found: Option<LoopMark>, wanted: Option<LoopMark>) -> bool {
     }
 }
 
-/// A scope of no loop, or of the loop that is marked.
+/// The scope of the marked loop, or a scope without a loop.
 fn frame_of(mark: Option<LoopMark>) -> Frame {
     match mark {
         Some(mark) => Frame::of_loop(mark),
@@ -137,7 +138,7 @@ struct Scope {
 }
 
 impl Scope {
-    /// What a name stands for in the scope alone.
+    /// What a name means in this scope alone.
     fn meant(&self, name: &str) -> Option<Meant> {
         if let Some(number) = self.names.get(name) {
             return Some(Meant::Number(*number));
@@ -149,18 +150,18 @@ impl Scope {
     }
 }
 
-/// Scopes and their model, whose scopes stand outermost first.
+/// Scopes and their model, which has the outermost scope first.
 #[derive(Drop)]
 struct Pair {
     context: Context,
     closures: Closures,
     model: Vec<Scope>,
     outer: usize,
-    /// How many values and loops there were so far.
+    /// The number of values and loops so far.
     count: usize,
-    /// How many scopes were refused.
+    /// The number of refused scopes.
     refused: usize,
-    /// How many names a scope had at most.
+    /// The greatest number of names in a scope so far.
     widest: usize,
 }
 
@@ -178,7 +179,7 @@ impl Pair {
         }
     }
 
-    /// Pushes a scope on both sides. Whether it is refused where it would lie deeper than the limit, and only there.
+    /// Pushes a scope on both sides. Returns whether it is refused exactly if it exceeds the limit.
     fn push(&mut self, alloc: Global, mark: Option<LoopMark>, limit: usize) -> Result<bool, Error> {
         let fits = self.model.len().saturating_add(self.outer) < limit;
         match self.context.push_frame(frame_of(mark), limit) {
@@ -195,7 +196,8 @@ impl Pair {
         }
     }
 
-    /// Lets the innermost scope have a name for a new value on both sides, by one of the two calls for that.
+    /// Binds a name to a new value in the innermost scope on both sides, by one of the two calls
+    /// for that.
     fn store(&mut self, alloc: Global, text: String, is_shared: bool) -> Result<(), Error> {
         self.count = self.count.wrapping_add(1);
         let number = self.count as i128;
@@ -213,7 +215,7 @@ impl Pair {
         Ok(())
     }
 
-    /// Stores so many different names, from the first one on.
+    /// Stores the first `many` names.
     fn store_many(&mut self, alloc: Global, many: usize) -> Result<(), Error> {
         for number in 0..many {
             let text = one_of_many(alloc, number)?;
@@ -222,7 +224,7 @@ impl Pair {
         Ok(())
     }
 
-    /// Pops a scope on both sides, where one is. Whether a name stood for the same on both.
+    /// Pops a scope on both sides, if there is one. Returns whether both agreed on a name before.
     fn pop(&mut self, alloc: Global, text: &str) -> Result<bool, Error> {
         let agrees = self.agrees_on(alloc, text)?;
         self.context.pop_frame();
@@ -230,7 +232,7 @@ impl Pair {
         Ok(agrees)
     }
 
-    /// The innermost scope loses its names on both sides.
+    /// Drops the names of the innermost scope on both sides.
     fn clear(&mut self) {
         self.context.clear_locals();
         if let Some(scope) = self.model.last_mut() {
@@ -238,14 +240,14 @@ impl Pair {
         }
     }
 
-    /// Leaves so many scopes on both sides, at a depth.
+    /// Drops all but the `count` outermost scopes on both sides, and sets their depth.
     fn cut(&mut self, count: usize, outer: usize) {
         self.context.cut_to(count, outer);
         self.model.truncate(count);
         self.outer = outer;
     }
 
-    /// What a name stands for in the model: in the innermost scope that has it.
+    /// What a name means in the model: in the innermost scope that has it.
     fn meant(&self, name: &str) -> Option<Meant> {
         for scope in self.model.iter().rev() {
             let meant = scope.meant(name);
@@ -256,7 +258,7 @@ impl Pair {
         None
     }
 
-    /// The innermost loop of the model, by its number.
+    /// The number of the model's innermost loop.
     fn innermost_loop(&self) -> Option<usize> {
         for scope in self.model.iter().rev() {
             if let Some(mark) = scope.mark {
@@ -266,7 +268,7 @@ impl Pair {
         None
     }
 
-    /// Whether both sides answer the same of a name: the innermost scope alone, and all of them.
+    /// Whether both sides agree on a name, in the innermost scope alone and in all scopes.
     fn agrees_on(&self, alloc: Global, text: &str) -> Result<bool, Error> {
         let name = Name::new(alloc, text)?;
         let own = match self.model.last() {
@@ -280,7 +282,7 @@ impl Pair {
         )
     }
 
-    /// Whether both sides answer the same of so many different names, from the first one on.
+    /// Whether both sides agree on the first `many` names.
     fn agrees_on_many(&self, alloc: Global, many: usize) -> Result<bool, Error> {
         for number in 0..many {
             let text = one_of_many(alloc, number)?;
@@ -291,7 +293,8 @@ impl Pair {
         Ok(true)
     }
 
-    /// Whether both sides export the same: the outermost scope's names in their order, but those that begin with `_`.
+    /// Whether both sides export the same: the outermost scope's names in order, without those that
+    /// begin with `_`.
     fn agrees_on_exports(&self, alloc: Global) -> Result<bool, Error> {
         let exports = self.context.exports(alloc)?;
         let mut rest = exports.iter();
@@ -309,7 +312,7 @@ impl Pair {
         Ok(rest.next().is_none())
     }
 
-    /// Whether both sides have as many scopes, as deep, and the same loops.
+    /// Whether both sides have as many scopes, at the same depth, and the same loops.
     fn agrees_on_scopes(&self) -> bool {
         let mark = match self.model.last() {
             Some(scope) => scope.mark,
@@ -322,7 +325,8 @@ impl Pair {
             && is_mark(self.context.top_mark(), mark)
     }
 
-    /// Whether both sides agree on all that is asked after each call, and on a name of the many.
+    /// Whether both sides agree on everything that is checked after each call, and on one of the
+    /// many names.
     fn agrees(&self, alloc: Global, number: usize) -> Result<bool, Error> {
         for name in &FEW {
             if !self.agrees_on(alloc, name)? {
@@ -338,7 +342,7 @@ impl Pair {
     }
 }
 
-/// A name: mostly one of the few, else one of the many.
+/// Mostly one of the few names, otherwise one of the many.
 fn name_of(alloc: Global, dice: &mut Dice) -> Result<String, Error> {
     if dice.roll(4) == 0 {
         return one_of_many(alloc, dice.roll(MANY));
@@ -349,7 +353,7 @@ fn name_of(alloc: Global, dice: &mut Dice) -> Result<String, Error> {
     }
 }
 
-/// Makes one of the rarer calls on both sides. Whether both agree on what it gives.
+/// Makes one of the rarer calls on both sides. Returns whether both agree on the result.
 fn call_seldom(alloc: Global, pair: &mut Pair, dice: &mut Dice) -> Result<bool, Error> {
     match dice.roll(8) {
         0 => {
@@ -369,7 +373,7 @@ fn call_seldom(alloc: Global, pair: &mut Pair, dice: &mut Dice) -> Result<bool, 
     }
 }
 
-/// Makes a random call on both sides. Whether both agree on what it gives.
+/// Makes a random call on both sides. Returns whether both agree on the result.
 fn call(alloc: Global, pair: &mut Pair, dice: &mut Dice) -> Result<bool, Error> {
     match dice.roll(16) {
         0 | 1 | 2 | 3 => {
@@ -389,7 +393,7 @@ fn call(alloc: Global, pair: &mut Pair, dice: &mut Dice) -> Result<bool, Error> 
     }
 }
 
-/// The place of the first random call after which the sides don't agree, where there is one.
+/// The number of the first random call after which the sides don't agree, if any.
 fn first_difference(alloc: Global, pair: &mut Pair) -> Result<Option<usize>, Error> {
     let mut dice = Dice { seed: 20 };
     for place in 0..CALLS {
@@ -419,7 +423,7 @@ fn is_wide(alloc: Global, pair: &Pair) -> Result<bool, Error> {
     )
 }
 
-/// Pushes scopes further in, each third one a loop's. Whether none is refused.
+/// Pushes more scopes inside, every third one a loop's. Returns whether none is refused.
 fn pushes_further(alloc: Global, pair: &mut Pair) -> Result<bool, Error> {
     for number in 0..FURTHER_IN {
         let mark = if number % 3 == 0 {

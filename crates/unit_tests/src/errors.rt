@@ -18,7 +18,7 @@ fn bad_include(alloc: Global) -> Error {
     Error::new(alloc, ErrorKind::BadInclude, "in \"page\"")
 }
 
-// Whether the later of two causes is the cause.
+// Whether the later of two causes replaces the earlier one.
 fn takes_a_cause(alloc: Global, error: Error) -> Result<bool, Error> {
     let error = error.with_source(alloc, Error::from(ErrorKind::UnknownTest))?;
     let error = error.with_source(alloc, Error::from(ErrorKind::OutOfFuel))?;
@@ -34,7 +34,7 @@ fn prints(alloc: Global, error: &Error, wanted: &str) -> Result<bool, Error> {
     Ok(text.as_str() == wanted)
 }
 
-// Whether an error and its cause are written for a reader of code as Rust's derive does it.
+// Whether an error and its cause are formatted for debugging as Rust's derive does it.
 fn is_spelled_out(alloc: Global) -> Result<bool, Error> {
     let error = bad_include(alloc).with_source(alloc, Error::from(ErrorKind::OutOfFuel))?;
     let text = format!(in alloc; "{error:?}")?;
@@ -44,7 +44,7 @@ fn is_spelled_out(alloc: Global) -> Result<bool, Error> {
 const SPELLED_OUT: &str =
     r#"Error { kind: BadInclude, more: Some(More { detail: Some("in \"page\""), cause: Some(Error { kind: OutOfFuel, more: None }) }) }"#;
 
-// An error with as many causes, each the one before.
+// An error with a chain of `causes` causes.
 fn with_causes(alloc: Global, causes: usize) -> Result<Error, Error> {
     let mut error = Error::from(ErrorKind::OutOfFuel);
     for _ in 0..causes {
@@ -53,7 +53,7 @@ fn with_causes(alloc: Global, causes: usize) -> Result<Error, Error> {
     Ok(error)
 }
 
-// A long chain of causes takes no deep stack where it is dropped.
+// Dropping a long chain of causes needs no deep stack.
 fn drops_a_long_chain(alloc: Global) -> Result<bool, Error> {
     let error = with_causes(alloc, 1_000_000)?;
     Ok(is_caused_by(&error, ErrorKind::BadInclude))

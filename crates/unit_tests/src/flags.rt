@@ -1,4 +1,4 @@
-//! Sources under flags and delimiters of the caller's own, and who owns the texts of a source.
+//! Sources under the caller's own flags and delimiters, and the owners of a source's texts.
 use crate::rows::expect;
 use crate::sources::expect_codes;
 use crate::syntax::{self, Flags, NO_FLAG};
@@ -19,7 +19,7 @@ fn delimiters_are_the_callers(rt: HostRuntime) -> Result<(), Fail> {
     expect_codes(rt.alloc(), &*syntax, &DELIMITED)
 }
 
-/// Ends that stand in longer signs count at their first place.
+/// A delimiter's end counts at its first place, even inside a longer operator.
 static ENDED: [&str; 4] = [
     "${a >= b => $a emit raw:= b",
     "${a>b => $a emit raw:b",
@@ -113,7 +113,7 @@ fn flags_trim(rt: HostRuntime) -> Result<(), Fail> {
     Ok(())
 }
 
-/// Whether each raw text of a source owns a share of it, and no copy.
+/// Whether each raw text of a source shares the source and isn't a copy.
 fn shares_raw_texts(alloc: Global, syntax: &SyntaxConfig, source: &str) -> Result<bool, Error> {
     let source = RcStr::from_str(alloc, source)?;
     let tokens = scan(alloc, syntax, &source)?;

@@ -1,4 +1,5 @@
-//! What the text of a run is as a value: no template asks for that yet, so a law stands for rows.
+//! How the text of a run becomes a value: no template of a row needs this yet, so a law takes the
+//! place of rows.
 ghost use Rattle.std.specs.Prelude.{◌≡◌, [], codes, true, false};
 ghost use Rattle.tm_values.specs.Val.{boolean, text};
 ghost use Rattle.tm_values.specs.declared.escape.AutoEscape.TheVariants as escapes;
@@ -6,8 +7,8 @@ ghost use Rattle.tm_meaning.specs.Calls.{NestedCall, as_truth, run_value, runs};
 ghost use Rattle.tm_meaning.specs.World.{World, with_escape};
 ghost use Rattle.tm_meaning.specs.declared.run_text.RunText.TheVariants as texts;
 
-/// A captured text is safe where an escape is in force, a plain one never; as a truth it says whether there is any text. Of a test that needs a
-/// run the truth alone counts.
+/// A captured text is marked safe if an escape is active, and a plain one never is; as a truth it
+/// tells whether there is any text. For a test that needs a run only the truth counts.
 pub fn run_text_guards()
     ensures captured { (w : World) →
         run_value texts.Captured (codes "a") (with_escape escapes.Html w) ≡ text (codes "a") true }

@@ -1,6 +1,6 @@
-//! Templates that are included, and what is imported from them: their code, and what is none.
+//! Included and imported templates: their code, and sources that aren't templates.
 
-/// What they are compiled to.
+/// Sources and their code.
 pub(crate) static CODES: [&str; 16] = [
     "{% include \"a\" %} => #a include",
     "{% include [a, \"b\"] ignore missing %} => $a #b list:2 include?",
@@ -20,7 +20,7 @@ pub(crate) static CODES: [&str; 16] = [
     r#"{% macro m(a) %}{% import a as b %}{{ b }}{{ c }}{% endmacro %} => jump:15 store:a capture with $a include! captured module leave store:b $b emit $c emit return enclose:c closure #["a"] macro:m1 store:m"#,
 ];
 
-/// What spells no template.
+/// Sources that spell no template.
 pub(crate) static REFUSED: [&str; 22] = [
     "{% include %}",
     "{% include a ignore %}",

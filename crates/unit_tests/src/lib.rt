@@ -1,5 +1,5 @@
-//! Tests of parts by themselves: errors, writers and what stands around them, fuel, scopes, and the way
-//! from a source to its tree and its streams.
+//! Tests of separate parts: errors, writers and what wraps them, fuel, scopes, and the way from a
+//! source to its tree and its streams.
 #![tactic(auto)]
 
 #[cfg(test)]

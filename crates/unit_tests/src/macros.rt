@@ -1,6 +1,6 @@
-//! Macros and call tags: their code, and what is none.
+//! Macros and call tags: their code, and sources that aren't templates.
 
-/// What they are compiled to.
+/// Sources and their code.
 pub(crate) static CODES: [&str; 18] = [
     "{% macro m() %}x{% endmacro %} => jump:3 raw:x return closure #[] macro:m1 store:m",
     r#"{% macro m(a, b=a) %}{{ b }}{{ c }}{% endmacro %} => jump:13 copy undefined if-false:6 drop $a store:b store:a $b emit $c emit return enclose:c closure #["a", "b"] macro:m1 store:m"#,
@@ -22,7 +22,7 @@ pub(crate) static CODES: [&str; 18] = [
     "{% for x in y %}{% call f() %}{{ x }}{% endcall %}{% endfor %} => $y loop iterate:17 store:x #caller jump:9 $x emit return enclose:x closure #[] macro:caller6 named:1 call:f1 emit jump:2 looped",
 ];
 
-/// What spells no template.
+/// Sources that spell no template.
 pub(crate) static REFUSED: [&str; 10] = [
     "{% for x in [1] %}{% macro m() %}{% break %}{% endmacro %}{% endfor %}",
     "{% for x in [1] %}{% call m() %}{% continue %}{% endcall %}{% endfor %}",

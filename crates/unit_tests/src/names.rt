@@ -1,4 +1,4 @@
-//! Sources with the names that they read where no open scope has assigned them.
+//! Sources with the names that they read with no earlier assignment in an open scope.
 use crate::rows::{expect, halves};
 use crate::syntax;
 use std::alloc::Global;
@@ -9,7 +9,7 @@ use tm_compiler::{SyntaxConfig, parse};
 use tm_names::undeclared;
 use tm_values::Error;
 
-/// The names alone.
+/// Plain names.
 static ALONE: [&str; 38] = [
     "{% set x = foo %}{{ x }}{{ bar.baz }} => bar foo",
     "{{ bar.baz() }} => bar",
@@ -51,7 +51,7 @@ static ALONE: [&str; 38] = [
     "{% call(a, b) f(c) %}{{ a }}{{ caller }}{{ d }}{% endcall %}{{ a }} => a c d f",
 ];
 
-/// With what is nested in them.
+/// Names with their attributes.
 static NESTED: [&str; 15] = [
     "{% set x = foo %}{{ x }}{{ bar.baz }} => bar.baz foo",
     "{{ bar.baz() }} => bar.baz",
@@ -70,7 +70,7 @@ static NESTED: [&str; 15] = [
     "{% call a.b.m() %}{{ c.d }}{% endcall %} => a.b.m c.d",
 ];
 
-/// Whether these are the names, each after a blank.
+/// Whether these are the names, separated by blanks.
 fn are(names: &BTreeSet<String>, wanted: &str) -> bool {
     let mut rest = wanted.split_whitespace();
     for name in names.iter() {

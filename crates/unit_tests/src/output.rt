@@ -1,4 +1,4 @@
-//! What no clause says: that calls succeed, and what becomes of a target that fails.
+//! What no contract says: that calls succeed, and what happens if a target fails.
 ghost use Rattle.std.specs.Prelude.{◌++◌};
 ghost use Rattle.tm_output.specs.Targets.{Takes};
 
@@ -9,8 +9,8 @@ use tm_output::{Counted, Limited, NullWriter, Target, TargetFailed, write_text};
 use tm_printing::{Html, Unwritten, check_emission, emit, write_spelled};
 use tm_values::{AutoEscape, Error, ErrorKind, NoRecords, Value};
 
-/// A writer that takes at most `step` bytes a call until `room` is spent, and then fails, also at a
-/// flush, or takes nothing where it has no error.
+/// A writer that accepts at most `step` bytes per call until `room` is used up. After that it
+/// fails, even on a flush, or accepts no bytes if it has no error.
 #[derive(Drop)]
 struct Fake {
     bytes: Vec<u8>,
@@ -55,7 +55,7 @@ impl Write for Fake {
     }
 }
 
-/// Two texts, one after the other.
+/// Writes two texts, one after the other.
 fn take_both<T: Target>(target: &mut T, first: &str, second: &str) -> Result<(), TargetFailed>
     ensures { Takes T.took T.stopped result target.old (first.now ++ second.now) target.new }
 {
@@ -63,7 +63,7 @@ fn take_both<T: Target>(target: &mut T, first: &str, second: &str) -> Result<(),
     target.take_text(second)
 }
 
-/// What comes of texts that a writer is given: the answer, the text, the calls and the failures.
+/// The result of writing texts to a writer: the answer, the text, the calls and the failures.
 type Told = (Result<(), TargetFailed>, &'static str, u64, u64);
 
 fn is_told(answer: Result<(), TargetFailed>, writer: &Counted<Fake>, told: Told) -> bool {
@@ -74,21 +74,21 @@ fn is_told(answer: Result<(), TargetFailed>, writer: &Counted<Fake>, told: Told)
         && writer.failures() == told.3
 }
 
-/// Whether two texts come to that over the fake.
+/// Whether writing two texts to the fake has this result.
 fn tells(fake: Fake, texts: (&str, &str), told: Told) -> bool {
     let mut writer = Counted::new(fake);
     let answer = take_both(&mut writer, texts.0, texts.1);
     is_told(answer, &writer, told)
 }
 
-/// Whether a text escaped for HTML comes to that over the fake.
+/// Whether writing a text, escaped for HTML, to the fake has this result.
 fn spells(fake: Fake, text: &str, told: Told) -> bool {
     let mut writer = Counted::new(fake);
     let answer = write_spelled::<Html, Counted<Fake>>(text, &mut writer);
     is_told(answer, &writer, told)
 }
 
-/// How many bytes a fake takes in a call and in all, its error, and what comes of `Hello!`.
+/// The bytes that a fake accepts per call and in total, its error, and the result for `Hello!`.
 type Failing = (usize, usize, Option<io::ErrorKind>, Told);
 
 static FAILING: [Failing; 4] = [
@@ -144,7 +144,7 @@ fn a_string_takes_texts(rt: HostRuntime) -> Result<(), Fail> {
     Ok(())
 }
 
-/// The kind that a flush is refused with.
+/// The kind of error that a flush fails with.
 fn flush_refused(writer: &mut Counted<Fake>) -> Option<io::ErrorKind> {
     match writer.flush() {
         Ok(()) => None,
@@ -162,7 +162,8 @@ fn a_flush_is_no_write(rt: HostRuntime) {
     assert!(rt; is_told(Ok(()), &writer, (Ok(()), "a", 1, 0)));
 }
 
-/// The error of a text to a writer that takes nothing, or fails with this error.
+/// The error of writing a text to a writer that fails with this error, or accepts no bytes if there
+/// is none.
 fn fault_of(alloc: Global, error: Option<io::ErrorKind>) -> Option<io::ErrorKind> {
     let mut sink = Counted::new(Fake::new(alloc, 9, 0, error));
     match write_text(&mut sink, b"a") {
@@ -178,7 +179,7 @@ fn the_error_of_a_fault(rt: HostRuntime) {
     assert!(rt; fault_of(rt.alloc(), interrupted) == interrupted);
 }
 
-// A number within so many lists, each of as many items, which are the same.
+// The number 1 inside `depth` lists, each of which holds the same item `items` times.
 fn nested(alloc: Global, depth: usize, items: usize) -> Result<Value, Error> {
     let mut value = Value::number(1);
     for _ in 0..depth {
@@ -195,7 +196,7 @@ fn repeated(alloc: Global, value: Value, count: usize) -> Result<Value, Error> {
     Value::list(alloc, items)
 }
 
-/// A writer that only counts what it takes.
+/// A writer that only counts the bytes that it accepts.
 #[derive(Drop)]
 struct Length {
     taken: usize,
@@ -212,7 +213,7 @@ impl Write for Length {
     }
 }
 
-// Whether the value is written, in so many bytes.
+// Whether the value is written, with `length` bytes.
 fn is_written(alloc: Global, value: &Value, escape: AutoEscape, length: usize) -> bool {
     let mut writer = Counted::new(Length { taken: 0 });
     check_emission(alloc, value, escape, &NoRecords).is_ok()
@@ -220,7 +221,7 @@ fn is_written(alloc: Global, value: &Value, escape: AutoEscape, length: usize) -
         && writer.inner().taken == length
 }
 
-// Whether the value, which is too long for the writer, is written up to its end in few calls.
+// Whether a value that is too long for the writer is written up to the limit in few calls.
 fn is_cut_off(alloc: Global, value: &Value, escape: AutoEscape) -> bool {
     let writer = Counted::new(Fake::new(alloc, usize::MAX, usize::MAX, None));
     let mut limited = Limited::new(writer, 1000);
@@ -249,7 +250,7 @@ fn doubled_values_are_checked_at_once(rt: HostRuntime) -> Result<(), Fail> {
     Ok(())
 }
 
-// Why a number isn't doubled so often, by lists of two; none where it is.
+// Why a list of a number can't be doubled `levels` times; None if it can.
 fn refusal_of_doubled(alloc: Global, levels: usize) -> Option<ErrorKind> {
     match nested(alloc, levels, 2) {
         Ok(_value) => None,

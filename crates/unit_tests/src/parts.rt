@@ -1,4 +1,4 @@
-//! What stands by itself of a render: fuel, the block of one name, and the parts around a writer.
+//! Separate parts of a render: fuel, the blocks of one name, and what wraps a writer.
 use std::alloc::{AllocError, Global};
 use std::io::{self, Write};
 use std::test::Fail;
@@ -10,8 +10,8 @@ use tm_syntax::{CaptureMode, Name};
 use tm_tables::{BlockStack, FuelTracker};
 use tm_values::{AutoEscape, Error, ErrorKind, Value};
 
-/// So much fuel, how often a charge is taken from it, whether the last one is refused, and then
-/// what is consumed and what remains.
+/// An amount of fuel, how often a charge is paid from it, whether the last one is refused, and then
+/// the fuel consumed and the fuel left.
 type Charges = (u64, u64, bool, u64, u64);
 
 static CHARGES: [Charges; 4] = [
@@ -45,7 +45,8 @@ fn entry(alloc: Global, name: &str) -> Result<TemplateId, AllocError> {
     Ok(TemplateId::Entry(Name::new(alloc, name)?))
 }
 
-/// Whether of the blocks of so many templates the one at a place is meant, which is this template's.
+/// Whether the stack has `len` templates, and the current one is at `place` and is the expected
+/// one.
 fn means(stack: &BlockStack, len: usize, place: usize, wanted: &TemplateId) -> bool {
     let is_meant = match stack.template() {
         Some(template) => template.is(wanted),
@@ -54,21 +55,21 @@ fn means(stack: &BlockStack, len: usize, place: usize, wanted: &TemplateId) -> b
     is_meant && stack.len() == len && stack.place() == place
 }
 
-/// Whether the block of the last template is meant, after which there is none.
+/// Whether this template is current and has no next one.
 fn is_last(stack: &mut BlockStack, len: usize, place: usize, wanted: &TemplateId) -> bool {
     let is_meant = means(stack, len, place, wanted);
     let is_moved = stack.push();
     is_meant && !is_moved && means(stack, len, place, wanted)
 }
 
-/// Whether the first template's block is meant, before which there is none.
+/// Whether the first template is current and has no previous one.
 fn is_first(stack: &mut BlockStack, len: usize) -> bool {
     let is_meant = means(stack, len, 0, &TemplateId::Own);
     stack.pop();
     is_meant && means(stack, len, 0, &TemplateId::Own)
 }
 
-/// Whether the next template's block is meant up to the last one's, and those before down to the first one's.
+/// Whether a stack moves forward up to the last template, and back to the first one.
 fn moves(stack: &mut BlockStack, parent: &TemplateId, root: &TemplateId) -> bool {
     let is_before = is_first(stack, 3);
     let is_next = stack.push() && means(stack, 3, 1, parent);
@@ -79,7 +80,7 @@ fn moves(stack: &mut BlockStack, parent: &TemplateId, root: &TemplateId) -> bool
     is_before && is_next && is_after && is_back && is_first(stack, 3)
 }
 
-/// Whether a template's block is meant alone at first, and before those of its parents once these are added.
+/// Whether the template is alone at first, and comes before its parents once these are added.
 fn grows(alloc: Global, stack: &mut BlockStack) -> Result<bool, Error> {
     let is_alone = is_last(stack, 1, 0, &TemplateId::Own) && is_first(stack, 1);
     let (parent, root) = (entry(alloc, "parent")?, entry(alloc, "root")?);
@@ -95,7 +96,7 @@ fn blocks_are_moved_along(rt: HostRuntime) -> Result<(), Fail> {
     Ok(())
 }
 
-/// A writer that fails; where it has no error, it takes nothing.
+/// A writer that fails; without an error it accepts no bytes.
 #[derive(Drop)]
 struct Broken(Option<io::ErrorKind>);
 
@@ -112,7 +113,7 @@ impl Write for Broken {
     }
 }
 
-/// The kind that a write is refused with.
+/// The kind of error that a write fails with.
 fn refused<W: Sink>(wrapper: &mut WriteWrapper<W>) -> Option<ErrorKind> {
     match wrapper.write_str("Hello!") {
         Ok(()) => None,
@@ -120,14 +121,14 @@ fn refused<W: Sink>(wrapper: &mut WriteWrapper<W>) -> Option<ErrorKind> {
     }
 }
 
-/// The kind of the error that is taken out, where InvalidOperation is given.
+/// The kind of the error that is taken out if InvalidOperation is passed in.
 fn taken_out<W: Sink>(wrapper: &mut WriteWrapper<W>) -> ErrorKind {
     wrapper
         .take_err(Error::from(ErrorKind::InvalidOperation))
         .kind()
 }
 
-/// Whether a wrapper keeps the writer's error, and gives it once.
+/// Whether a wrapper keeps the writer's error and returns it once.
 fn keeps_the_error(error: Option<io::ErrorKind>, kept: io::ErrorKind) -> bool {
     let mut wrapper = WriteWrapper::new(Counted::new(Broken(error)));
     let is_refused = refused(&mut wrapper) == Some(ErrorKind::WriteFailure);
@@ -148,7 +149,7 @@ fn a_wrapper_keeps_the_error(rt: HostRuntime) {
     assert!(rt; keeps_the_error(None, io::ErrorKind::WriteZero));
 }
 
-/// Whether an output over a vector writes what it is given.
+/// Whether an output over a vector writes the texts.
 fn writes(output: &mut Output<Counted<Vec<u8>>>) -> Result<bool, Error> {
     output.write_str("Hello ")?;
     output.write_str("Ada!")?;
@@ -162,7 +163,7 @@ fn an_output_over_a_vector(rt: HostRuntime) -> Result<(), Fail> {
     Ok(())
 }
 
-/// Whether a capture gives its text, which is safe under an escape.
+/// Whether a capture returns its text, marked safe under an escape.
 fn captures(output: &mut Output<Counted<Vec<u8>>>) -> Result<bool, Error> {
     output.begin_capture(CaptureMode::Capture)?;
     output.write_str("<b>")?;
@@ -171,12 +172,13 @@ fn captures(output: &mut Output<Counted<Vec<u8>>>) -> Result<bool, Error> {
     Ok(is_heard && text.is_safe() && text.as_str() == Some("<b>"))
 }
 
-/// Whether the end of a capture gives undefined.
+/// Whether the end of a capture returns undefined.
 fn gives_nothing(output: &mut Output<Counted<Vec<u8>>>) -> Result<bool, Error> {
     Ok(output.end_capture(AutoEscape::None)? == Value::undefined())
 }
 
-/// Whether a capture that drops its text gives undefined, and so does an end where none is open.
+/// Whether a capture that drops its text returns undefined, and so does an end without an open
+/// capture.
 fn discards(output: &mut Output<Counted<Vec<u8>>>) -> Result<bool, Error> {
     output.begin_capture(CaptureMode::Discard)?;
     output.write_str("lost")?;

@@ -1,9 +1,9 @@
-//! Rows of tables, each one text: an array of texts is proved far faster than one of pairs.
+//! Rows of tables, each one text: an array of texts is proved far faster than an array of pairs.
 use std::alloc::Global;
 use std::test::Fail;
 use tm_values::Error;
 
-/// A failure of this name, where something isn't so.
+/// Fails with this name unless `holds`.
 pub(crate) fn expect(holds: bool, name: &str) -> Result<(), Fail> {
     if holds {
         return Ok(());
@@ -11,13 +11,13 @@ pub(crate) fn expect(holds: bool, name: &str) -> Result<(), Fail> {
     Err(Fail::new(name))
 }
 
-/// A row's parts before and after its ` =>`.
+/// The parts of a row before and after its ` =>`.
 pub(crate) fn halves(row: &str) -> (&str, &str) {
     row.split_once(" =>").unwrap_or((row, ""))
 }
 
-// How often a piece stands, and its words: once, or so many times less than a count as the number
-// before its `*` says.
+// How often a piece is repeated, and its words: once, or with a number before `*`, `count` times
+// less that number.
 fn repeated(piece: &str, count: usize) -> (usize, &str) {
     match piece.split_once('*') {
         Some((less, words)) if less.len() == 1 => (
@@ -28,7 +28,7 @@ fn repeated(piece: &str, count: usize) -> (usize, &str) {
     }
 }
 
-/// Words with a `|` for each `¦`.
+/// The words with `|` for each `¦`.
 fn with_bars(alloc: Global, words: &str) -> Result<String, Error> {
     let mut text = String::new(alloc);
     for (place, part) in words.split('¦').enumerate() {
@@ -40,7 +40,7 @@ fn with_bars(alloc: Global, words: &str) -> Result<String, Error> {
     Ok(text)
 }
 
-/// The pieces between `|` after one another, with a blank between them.
+/// Joins the pieces between `|`, repeated, with blanks between them.
 pub(crate) fn joined(alloc: Global, pieces: &str, count: usize) -> Result<String, Error> {
     let mut text = String::new(alloc);
     for piece in pieces.split('|') {

@@ -1,4 +1,4 @@
-//! Sources with their code, and what is no source of a template.
+//! Sources with their code, and sources that spell no template.
 use crate::rows::{expect, halves, joined};
 use crate::{blocks, code, imports, macros, syntax};
 use std::alloc::Global;
@@ -7,7 +7,7 @@ use std::test::Fail;
 use tm_compiler::{SyntaxConfig, Tree, parse};
 use tm_values::{Error, ErrorKind};
 
-/// What a source is compiled to.
+/// Sources and their code.
 static EXPRESSIONS_AND_STATEMENTS: [&str; 122] = [
     "{# c #} =>",
     "{{ \"}}\" }}\n => #}} emit",
@@ -133,7 +133,7 @@ static EXPRESSIONS_AND_STATEMENTS: [&str; 122] = [
     "{%for a in b %}{%autoescape a %}{%continue %}{%endautoescape %}{%endfor %} => $b loop iterate:10 store:a $a escape escaped jump:2 escaped jump:2 looped",
 ];
 
-/// Where one token ends and the next one begins, what is blank, and what a mark trims.
+/// Where tokens end and begin, what counts as blank, and what a mark trims.
 static TOKENS: [&str; 36] = [
     " =>",
     "\r\n =>",
@@ -212,7 +212,7 @@ fn sources_have_their_code(rt: HostRuntime) -> Result<(), Fail> {
     Ok(())
 }
 
-/// What spells no template.
+/// Sources that spell no template.
 static REFUSED: [&str; 166] = [
     "a{#",
     "{{ \"a }}",
@@ -382,7 +382,7 @@ static REFUSED: [&str; 166] = [
     "{{ 'a' \"\" }}",
 ];
 
-/// What may nest 150 deep, by its pieces.
+/// What can be nested 150 levels deep, in pieces.
 static NESTINGS: [&str; 35] = [
     "{{|0*(|a|0*)|}}",
     "{{|0*f (|a|0*)|}}",
@@ -421,7 +421,7 @@ static NESTINGS: [&str; 35] = [
     "1*{% if a %}|{{ (1) }}|1*{% endif %}",
 ];
 
-/// A long row nests no deeper than a short one.
+/// A long row isn't nested deeper than a short one.
 static LONG: [&str; 11] = [
     "{{ a|0*and b . c|}}",
     "{{ a|0*+ b|}}",
@@ -436,7 +436,7 @@ static LONG: [&str; 11] = [
     "{%from a import b|0*, c as d|, %}",
 ];
 
-/// Whether the source spells a template; an error that isn't one of syntax is given on.
+/// Whether the source spells a template; errors other than SyntaxError are passed on.
 fn is_template(alloc: Global, syntax: &SyntaxConfig, source: &str) -> Result<bool, Error> {
     match tree_of(alloc, syntax, source) {
         Ok(_) => Ok(true),
@@ -449,7 +449,7 @@ fn is_template(alloc: Global, syntax: &SyntaxConfig, source: &str) -> Result<boo
     }
 }
 
-/// Whether a row's pieces, joined, spell a template.
+/// Whether a row's joined pieces spell a template.
 fn is_joined(
     alloc: Global,
     syntax: &SyntaxConfig,
@@ -460,7 +460,7 @@ fn is_joined(
     is_template(alloc, syntax, source.as_str())
 }
 
-/// Expects that each row's pieces spell a template, or that none do.
+/// Expects that each row's joined pieces spell a template, or that none do.
 fn expect_joined(alloc: Global, rows: &[&str], count: usize, wanted: bool) -> Result<(), Fail> {
     let syntax = syntax::usual(alloc)?;
     for pieces in rows {

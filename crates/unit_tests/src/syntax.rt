@@ -1,5 +1,5 @@
-//! Flags and delimiters that the tests take, each after a pointer, so that the tests' proofs are
-//! spared what a drop of six delimiters does.
+//! Flags and delimiters for the tests, each behind a pointer, so that the tests' proofs needn't
+//! deal with the drop of six delimiters.
 use std::alloc::{AllocError, Global};
 use std::rc::Rc;
 use tm_scanner::SyntaxConfig;
@@ -52,7 +52,7 @@ fn built(
         .build()
 }
 
-/// Starts and ends of block tags, emissions and comments.
+/// A syntax with these starts and ends of blocks, variables and comments.
 pub(crate) fn with_delimiters(alloc: Global, texts: &[&str; 6]) -> Result<Rc<SyntaxConfig>, Error> {
     let block = owned(alloc, texts[0], texts[1])?;
     let variable = owned(alloc, texts[2], texts[3])?;

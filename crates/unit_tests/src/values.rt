@@ -19,7 +19,7 @@ fn sizes_and_records(rt: HostRuntime) {
     assert!(rt; has_no_records());
 }
 
-// Whether there is memory for a module, and it has what it exports.
+// Whether a module can be made, and has the member that it exports.
 fn makes_a_module(alloc: Global) -> Result<bool, Error> {
     let mut exports = ValueMap::new(alloc);
     exports.insert(Value::text(alloc, "a")?, Value::number(1))?;
@@ -27,7 +27,7 @@ fn makes_a_module(alloc: Global) -> Result<bool, Error> {
     Ok(module.member("a") == Some(&Value::number(1)))
 }
 
-// Whether there is memory for a macro, which equals itself and isn't none.
+// Whether a macro can be made, equals itself and isn't none.
 fn makes_a_macro(alloc: Global) -> Result<bool, Error> {
     let name = RcStr::from_str(alloc, "m")?;
     let declared = Value::declared(
