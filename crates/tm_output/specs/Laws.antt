@@ -1,4 +1,4 @@
--- The laws of strings and of writers as targets.
+-- The laws of targets, for strings and for writers.
 use Rattle.std.proofs.Common.{ℕ, List, Option, Some, refl, sym, ◌∙◌, append-nil}
 use Rattle.tm_output.specs.Pieces.{appends_then, appends_nothing, beginning_longer, appends_then_beginning}
 use Rattle.tm_output.specs.Targets.{Laws, StringGrows, StringGrowsInPart, WriterTakes, WriterTakesInPart}
