@@ -6,7 +6,7 @@ use std::alloc::AllocError;
 pub(crate) enum Refusal {
     /// There are none.
     BadStream,
-    /// Memory is out.
+    /// Memory ran out.
     OutOfMemory,
 }
 
