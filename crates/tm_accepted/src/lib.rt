@@ -58,8 +58,8 @@ pub fn numbers_change_no_flow()
     ensures seeds { (code : List Instruction) → entry_seeds (numbered code) ≡ entry_seeds code }
 {}
 
-/// An accepted stream has shapes. A stream is accepted if its macros' parts are adjacent and there
-/// are shapes that meet the rules with each `LoadConst 0` read as a value.
+/// An accepted stream has shapes. A stream is accepted if it passes the checks of every instruction
+/// and there are shapes that meet the rules with each `LoadConst 0` read as a value.
 pub fn a_stream_is_accepted_where_shapes_fit()
     ensures shaped { (form : Form) (code : List Instruction) → accepts form code ≡ true →
         (shapes : Shapes) × IsShaped code shapes }

@@ -16,7 +16,7 @@ pub enum LoopAttribute {
     First,
     /// Whether this is the last item.
     Last,
-    /// The number of recursive loops around this item, including this loop.
+    /// The number of recursive loops around this one, plus 1.
     Depth,
     /// The number of recursive loops around this one.
     Depth0,
