@@ -75,7 +75,7 @@ impl Cursor<'_> {
         self.conditioned(alloc, depth, value)
     }
 
-    /// The conditions after a value.
+    /// The value with the conditions after it.
     #[cycle(expressions)]
     #[inline(never)]
     fn conditioned(
