@@ -1,4 +1,4 @@
--- How the tags beside a raw text trim it.
+-- How the tags next to a raw text trim it.
 use Rattle.std.specs.Prelude.{ℕ, List, [], ◌∷◌, Bool, true, false, not, Option, Some, None, is_some, if◌then◌else◌, ◌==◌, ◌||◌, ◌&&◌}
 use Rattle.std.specs.Option.{option_or, unwrap_or}
 use Rattle.std.specs.Str.{trim_start, trim_end}
@@ -29,8 +29,8 @@ abbrev pub is_indent : List ℕ → Bool
 is_indent [] = true
 is_indent (c ∷ cs) = is_space c && is_indent cs
 
--- Without the last line, if that consists of spaces and tabs only. `starts_line` says whether the
--- bytes start a line.
+-- Without the spaces and tabs at the end, if they are the whole last line. `starts_line` says
+-- whether the bytes start a line.
 abbrev pub without_indent : Bool → List ℕ → List ℕ
 without_indent starts_line [] = []
 without_indent starts_line (c ∷ cs) = if starts_line && is_indent (c ∷ cs) then [] else c ∷ without_indent (c == 10) cs
@@ -56,7 +56,7 @@ abbrev pub by_after : Syntax → Bool → Option Side → List ℕ → List ℕ
 by_after s starts_line None text = text
 by_after s starts_line (Some side) text = left_before s starts_line side.kind side.whitespace text
 
--- A raw text, trimmed by the tags beside it. There is no tag before it at the start of the source,
+-- A raw text, trimmed by the tags next to it. There is no tag before it at the start of the source,
 -- and none after it at the end.
 abbrev pub trimmed : Syntax → Option Side → Option Side → List ℕ → List ℕ
 trimmed s before after text = by_before s before (by_after s (not (is_some before)) after text)

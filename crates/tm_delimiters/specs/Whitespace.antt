@@ -1,4 +1,4 @@
--- The marks `-` and `+` beside delimiters.
+-- The marks `-` and `+` next to delimiters.
 use Rattle.std.specs.Prelude.{ℕ, List, [], ◌∷◌, Bool, nat_eq, Option, is_some, option_map, codes, if◌then◌else◌, ◌==◌}
 use Rattle.std.specs.Option.{option_or}
 use Rattle.std.specs.List.{ends_with}

@@ -103,7 +103,7 @@ impl UncheckedSyntax {
         block != variable && block != comment && variable != comment
     }
 
-    /// Whether tags can be told from one another.
+    /// Whether tags can be told apart.
     pub(crate) fn is_usable(&self) -> bool
         ensures { Decides result (IsUsable self.now) }
     {
@@ -111,7 +111,7 @@ impl UncheckedSyntax {
     }
 }
 
-/// The delimiters of templates, and how newlines and indents beside them are treated. A contract
+/// The delimiters of templates, and how newlines and indents next to them are treated. A contract
 /// sees each delimiter as its bytes.
 #[derive(Drop)]
 pub struct SyntaxConfig {

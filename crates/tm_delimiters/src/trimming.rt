@@ -1,4 +1,4 @@
-//! How the tags beside a raw text trim it.
+//! How the tags next to a raw text trim it.
 ghost use Rattle.std.specs.Prelude.{◌≡◌, ◌≤◌, ◌<◌, ◌-◌, true, false, length, drop, slice_index};
 ghost use Rattle.tm_delimiters.specs.Trimming as spec;
 
@@ -58,7 +58,8 @@ fn indent_start(bytes: &[u8]) -> usize
     0
 }
 
-/// The text without its last line, if that consists of spaces and tabs only.
+/// The text without the spaces and tabs at its end, if they are the whole last line. `starts_line`
+/// says whether the text starts a line.
 fn without_indent(starts_line: bool, text: &str) -> &str
     ensures { result.now ≡ spec.without_indent starts_line text.now }
 {

@@ -1,11 +1,11 @@
-//! The marks `-` and `+` beside delimiters.
+//! The marks `-` and `+` next to delimiters.
 ghost use Rattle.std.specs.Prelude.{◌≡◌, ◌≤◌, ◌<◌, length, IfSome, None};
 ghost use Rattle.tm_delimiters.specs.Views.{IsBeforeMark, IsKnown, step_of};
 ghost use Rattle.tm_delimiters.specs.Whitespace as spec;
 
 use crate::front::{ascii, cut, is_blank, strip};
 
-/// How the mark beside a delimiter, if any, trims the raw text on that side.
+/// How the mark next to a delimiter, if any, trims the raw text on that side.
 #[derive(Clone, Copy)]
 pub enum Whitespace {
     /// No mark: the flags decide.

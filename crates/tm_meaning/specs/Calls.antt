@@ -299,7 +299,7 @@ value_call make levels host (function n) args w =
 value_call make levels host (macro m) args w = enter_macro levels host m args w
 value_call make levels host v args w = refused (InvalidOperation ∷ []) w
 
--- what a name stands for is called as a value
+-- calls the value of a name
 abbrev pub named_call : MakesFurther → ℕ → HostValue → List ℕ → List Val → World → Asked
 named_call make levels host x args w =
     ask (lookup host x w) (λ found world1. ask (need found UnknownFunction world1) (λ f world2. value_call make levels host f args world2))

@@ -378,7 +378,7 @@ abbrev pub owning : Option ℕ → List Scope → List Scope
 owning closure [] = []
 owning closure (s ∷ ss) = record s { own_closure = closure } ∷ ss
 
--- gives the innermost scope the closure with number n
+-- sets the closure of the innermost scope to number n
 abbrev pub with_own : ℕ → List Scope → List Scope
 with_own n frames = owning (Some n) frames
 

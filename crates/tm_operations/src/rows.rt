@@ -37,8 +37,8 @@ pub fn range_faults()
     ensures first_text { RangeFails (letter ∷ numbers (1 ∷ 1 ∷ 1 ∷ [])) InvalidOperation }
 {}
 
-/// `dict()`, `dict({"a": 1}, a=2, b=3)`, and refused calls: `dict(1)`, `dict({}, {})`, `dict(1,
-/// {})`, and a keyword map before another argument.
+/// `dict()`, `dict({"a": 1}, a=2, b=3)`, and refused calls: `dict(1)`, `dict({}, {})`,
+/// `dict(1, {})`, and a keyword map before another argument.
 pub fn dict_rows()
     ensures nothing { DictIs [] [] }
     ensures both { DictIs (map_of (a_is 1 ∷ []) ∷ keywords_given (a_is 2 ∷ b_is 3 ∷ []) ∷ [])

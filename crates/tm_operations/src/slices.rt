@@ -11,11 +11,11 @@ use tm_values::{
     Error, ErrorKind, Node, SharedText, UndefinedBehavior, UndefinedUse, Value, check_defined,
 };
 
-/// The slice `value[start:stop:step]`: items of a list, or characters of a text, not marked safe;
-/// undefined and none have the empty slice. The bounds and the step are whole numbers, or none if
-/// they are missing; negative bounds count from the end. UndefinedError if the value is undefined
-/// and the behaviour refuses that. InvalidOperation for other bounds or steps, for a step of 0 and
-/// for other values. OutOfMemory if memory runs out.
+/// The slice `value[start:stop:step]`: a list of items, or a text of characters, not marked safe.
+/// The slice of undefined or none is the empty list. The bounds and the step are whole numbers, or
+/// none if they are missing; negative bounds count from the end. UndefinedError if the value is
+/// undefined and the behaviour refuses that. InvalidOperation for other bounds or steps, for a step
+/// of 0 and for other values. OutOfMemory if memory runs out.
 pub fn slice(
     alloc: Global,
     value: &Value,

@@ -50,7 +50,7 @@ Advances took stopped (Ok (Some step)) old text value after new =
     × (text ≡ before ++ (value step.levels step.value.now ++ after step.after)))
 Advances took stopped (Err e) old text value after new = stopped old text new
 
--- ---- how much it is: a level outweighs what any one namespace holds
+-- ---- the weight: a level outweighs the content of any one namespace
 
 -- more than twice the size of each of these maps
 abbrev pub all_sizes : List (List (Val × Val)) → ℕ

@@ -93,8 +93,7 @@ self_alone = alone (SelfBlock (codes "b"))
 abbrev pub loop_alone : Page
 loop_alone = alone (called (codes "loop") (literal_number 1))
 
--- a
--- upper, without the filter
+-- a|upper, without the filter
 abbrev pub without_filter : Page
 without_filter = alone (and_one a (Apply' applications.Filter (codes "upper") [] no_argument [] no_keyword))
 

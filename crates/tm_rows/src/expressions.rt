@@ -19,8 +19,8 @@ pub fn expression_rows()
     ensures without_else { EvaluatesTo without_else (undefined true) 3 }
 {}
 
-/// `x.y`, and names that an expression lacks: `super()`, `self.b()`, `loop(1)`, and `a
-/// upper` without the filter.
+/// `x.y`, and what an expression can't use: `super()`, `self.b()`, `loop(1)`, and `a|upper` without
+/// the filter.
 pub fn refused_expression_rows()
     ensures member { EvaluationFails member_of_none (UndefinedError ∷ []) 2 }
     ensures parent { EvaluationFails super_alone (InvalidOperation ∷ []) 1 }

@@ -73,7 +73,8 @@ pub fn two_names_rows()
     ensures before_the_only_text { StopsAt one_name 1 [] }
 {}
 
-/// `{% if a %}x{% else %}y{% endif %}`, `{% if a %}1{% elif b %}2{% else %}3{% endif %}` and `{% if a %}{% endif %}`.
+/// `{% if a %}x{% else %}y{% endif %}`, `{% if a %}1{% elif b %}2{% else %}3{% endif %}` and
+/// `{% if a %}{% endif %}`.
 pub fn condition_rows()
     ensures other { Charges (either_text nothing) (codes "y") 3 }
     ensures first { Charges (either_text (with_value (codes "a") (boolean true))) (codes "x") 4 }
@@ -102,8 +103,8 @@ pub fn chain_rows()
     ensures stops { Charges (shown false_before_fault nothing) (codes "false") 12 }
 {}
 
-/// `{{ 1 if false }}`, `{{ 1 if true else 2 }}`, `{{ 1 if true if false else 2 }}` and `{{ 1 if
-/// false if true else 2 }}`: the last condition is evaluated first.
+/// `{{ 1 if false }}`, `{{ 1 if true else 2 }}`, `{{ 1 if true if false else 2 }}` and
+/// `{{ 1 if false if true else 2 }}`: the last condition is evaluated first.
 pub fn conditional_rows()
     ensures no_value { Charges (shown (one_condition false no_value) nothing) [] 4 }
     ensures value { Charges (shown (one_condition true (literal_number 2)) nothing) (decimal 1) 5 }
@@ -123,8 +124,9 @@ pub fn block_rows()
     ensures restores { Restores fault_in_block }
 {}
 
-/// `{% with a = 1, b = a %}{{ b }}{% endwith %}{{ b }}`, `{% with %}{% endwith %}`, `{% set a, b = 1, 2 %}{{ a }}{{ b }}`,
-/// `{% set a, b = [1] %}`, `{% set a.b = 1 %}` and `{% do f() %}x`.
+/// `{% with a = 1, b = a %}{{ b }}{% endwith %}{{ b }}`, `{% with %}{% endwith %}`,
+/// `{% set a, b = 1, 2 %}{{ a }}{{ b }}`, `{% set a, b = [1] %}`, `{% set a.b = 1 %}` and
+/// `{% do f() %}x`.
 pub fn scope_rows()
     ensures with_two { Charges with_two (decimal 1) 8 }
     ensures deep_enough { Charges (empty_with 2) [] 0 }
@@ -135,9 +137,9 @@ pub fn scope_rows()
     ensures do_call { Charges do_call (codes "x") 2 }
 {}
 
-/// `{% set x %}a{{ 1 }}{% endset %}{{ x }}`, `b{% set x %}a{{ nope() }}{% endset %}`, `{% set a, b
-/// %}1{% endset %}`, and how texts are escaped in a set block or when emitted under `{% autoescape
-/// e %}`.
+/// `{% set x %}a{{ 1 }}{% endset %}{{ x }}`, `b{% set x %}a{{ nope() }}{% endset %}`,
+/// `{% set a, b %}1{% endset %}`, and how texts are escaped in a set block or when emitted under
+/// `{% autoescape e %}`.
 pub fn capture_rows()
     ensures set_block { Charges set_block (codes "a" ++ decimal 1) 7 }
     ensures fuel_ends_inside { StopsAt set_block 2 [] }
@@ -219,11 +221,9 @@ pub fn call_rows()
     ensures not_found { Fails (unknown_after last_function) (codes "a") (UnknownFunction ∷ []) }
 {}
 
-/// `{{ "a"
-/// upper }}`, `{{ 1
-/// second("b")
-/// upper }}`, `{{ 1 is not odd }}`, `{{ 6 is divisible 3 }}`, `{{ not 6 is divisible 3 }}`, a test
-/// that returns undefined, under Strict, and unknown filters and tests.
+/// `{{ "a"|upper }}`, `{{ 1|second("b")|upper }}`, `{{ 1 is not odd }}`, `{{ 6 is divisible 3 }}`,
+/// `{{ not 6 is divisible 3 }}`, a test that returns undefined, under Strict, and unknown filters
+/// and tests.
 pub fn filter_rows()
     ensures upper { Charges in_capitals (codes "A") 3 }
     ensures chain { Charges one_after_the_other (codes "B") 5 }
@@ -237,8 +237,7 @@ pub fn filter_rows()
 {}
 
 /// `{{ sum(*[1], 2, *[3, 4]) }}`, `{{ sum(1, *[2]) }}`, `{{ sum(*x) }}` with an undefined x, also
-/// under Strict, `{{ sum(*5) }}`, and `{{ 1
-/// second(*["b"]) }}`.
+/// under Strict, `{{ sum(*5) }}`, and `{{ 1|second(*["b"]) }}`.
 pub fn spread_rows()
     ensures lists { Charges sum_of_lists (decimal 10) 10 }
     ensures both { Charges sum_of_both (decimal 3) 7 }
@@ -248,9 +247,9 @@ pub fn spread_rows()
     ensures filter { Charges spread_to_filter (codes "b") 7 }
 {}
 
-/// `{{ dict(**{"a": 1}, **{"a": 2}, b=3) }}`, `{{ dict(a=1, **{"b": 2}, c=3) }}`, `{{
-/// dict(**namespace(z=1)) }}`, `{{ dict(**x) }}` with an undefined x, `{{ dict(**1) }}` and `{{
-/// range(*[1], **{}) }}`.
+/// `{{ dict(**{"a": 1}, **{"a": 2}, b=3) }}`, `{{ dict(a=1, **{"b": 2}, c=3) }}`,
+/// `{{ dict(**namespace(z=1)) }}`, `{{ dict(**x) }}` with an undefined x, `{{ dict(**1) }}` and
+/// `{{ range(*[1], **{}) }}`.
 pub fn spread_keyword_rows()
     ensures maps { Charges dict_of_maps
         (codes "{\"a\": " ++ decimal 2 ++ codes ", \"b\": " ++ decimal 3 ++ codes "}") 12 }
@@ -271,12 +270,10 @@ pub fn callee_rows()
     ensures text { FailsAfter called_text [] (InvalidOperation ∷ []) 2 }
 {}
 
-/// `{% filter upper %}a{{ "1" }}b{% endfilter %}`, `{% filter upper
-/// substr(1) %}ab{% endfilter %}`, `{% filter upper
-/// second("b") %}a{% endfilter %}`, how the texts of filter blocks are escaped, `{% set x
-///  upper
-///  substr(1) %}ab{% endset %}{{ x }}`, and a filter block that ends by `break`, for want of fuel
-/// and by a fault.
+/// `{% filter upper %}a{{ "1" }}b{% endfilter %}`, `{% filter upper|substr(1) %}ab{% endfilter %}`,
+/// `{% filter upper|second("b") %}a{% endfilter %}`, how the texts of filter blocks are escaped,
+/// `{% set x | upper | substr(1) %}ab{% endset %}{{ x }}`, and a filter block that ends by `break`,
+/// when the fuel runs out, and by a fault.
 pub fn filter_block_rows()
     ensures one_filter { Charges filter_block (codes "A1B") 7 }
     ensures two_filters { Charges two_filters (codes "B") 6 }
@@ -306,11 +303,9 @@ pub fn cache_rows()
 {}
 
 /// Further calls of a filter. `{{ f() }}`, alone and in a scope, where f asks for `upper` of a, and
-/// `{{ "a"
-/// twice }}`, which asks for `upper` of its text doubled; each under a limit with room for one more
-/// level, and without. `{{ "a"
-/// again }}`, which asks for itself. Values kept before a further call, which sees them. And a
-/// filter that doesn't exist.
+/// `{{ "a"|twice }}`, which asks for `upper` of its text doubled; each under a limit with room for
+/// one more level, and without. `{{ "a"|again }}`, which asks for itself. Values kept before a
+/// further call, which sees them. And a filter that doesn't exist.
 pub fn further_rows()
     ensures function { Charges (with_limit 2 further_of_function) (codes "A") 2 }
     ensures too_deep { Fails (with_limit 1 further_of_function) [] (InvalidOperation ∷ []) }

@@ -138,13 +138,13 @@ pub struct Condition {
     pub otherwise: Boxed<Expr>,
 }
 
-/// A comparison after another one.
+/// A chained comparison.
 #[cycle(expr)]
 #[derive(Drop)]
 pub struct Comparison {
     /// The operator.
     pub operator: BinaryOperator,
-    /// The right side.
+    /// The right operand.
     pub right: Boxed<Expr>,
 }
 

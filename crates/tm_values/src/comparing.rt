@@ -60,7 +60,7 @@ fn compare_top<'a>(left: &'a Value, right: &'a Value) -> Compared<'a>
     }
 }
 
-// Compares two values in a loop. Each turn compares everything beside the largest part of the left
+// Compares two values in a loop. Each turn compares everything except the largest part of the left
 // value, and goes on with that part. The other parts are compared by recursion. Each has at most
 // half of the size, so the recursion is at most 32 deep.
 #[cycle(compare)]
@@ -82,7 +82,7 @@ pub(crate) fn compare_deep(left: &Value, right: &Value) -> Ordering
     }
 }
 
-// Compares everything beside the largest part of the left value.
+// Compares everything except the largest part of the left value.
 #[cycle(compare)]
 fn beside_largest<'a>(left: &'a Value, right: &'a Value) -> Beside<'a>
     ensures { IsBeside (val_cmp left.now right.now) (val_size left.now) result }
@@ -97,7 +97,7 @@ fn beside_largest<'a>(left: &'a Value, right: &'a Value) -> Beside<'a>
     }
 }
 
-// Compares the items beside the largest item of the left list.
+// Compares all items except the largest item of the left list.
 #[cycle(compare)]
 fn beside_item<'a>(left: &'a [Value], right: &'a [Value]) -> Beside<'a>
     ensures { IsBeside (vals_cmp (vals_of left.now) (vals_of right.now))
@@ -128,7 +128,7 @@ fn beside_item<'a>(left: &'a [Value], right: &'a [Value]) -> Beside<'a>
     }
 }
 
-// Compares the keys and values beside the largest one of the left pairs.
+// Compares all keys and values except the largest one of the left pairs.
 #[cycle(compare)]
 fn beside_member<'a>(left: &'a [(Value, Value)], right: &'a [(Value, Value)]) -> Beside<'a>
     ensures { IsBeside (pairs_cmp (pairs_of left.now) (pairs_of right.now))

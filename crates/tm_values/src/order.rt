@@ -98,7 +98,7 @@ impl Value {
     }
 }
 
-// Compares a macro with another macro; `Equal` if `right` is none.
+// Compares a macro with another macro; `Equal` if `right` isn't a macro.
 pub(crate) fn compare_macro(left: &MacroValue, right: &Value) -> Ordering
     ensures { result ≡ macro_against left.now right.now }
 {

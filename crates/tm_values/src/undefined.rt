@@ -7,8 +7,8 @@ use crate::error::ErrorKind;
 /// How undefined values behave in an environment, from the mildest to the strictest.
 #[derive(Clone, Copy, PartialEq, Eq, Debug)]
 pub enum UndefinedBehavior {
-    /// An undefined value prints as nothing, has no items and is false. Looking up its attributes
-    /// fails.
+    /// An undefined value prints as nothing, has no items and is false. Looking up an attribute or
+    /// an item of it fails.
     Lenient,
     /// Like `Lenient`, but the attributes and items of an undefined value are undefined.
     Chainable,
