@@ -111,7 +111,7 @@ build_map_of n c = take_n (n + n) c.run.operands c.world (λ vs rest. goes (map_
 abbrev pub build_kwargs_of : ℕ → Config → Next
 build_kwargs_of n c = take_n (n + n) c.run.operands c.world (λ vs rest. goes (keyword_map (paired vs) ∷ rest) c.world c)
 
--- ---------------------------------------------------------------- what is spread
+-- ---------------------------------------------------------------- spread arguments
 abbrev pub merge_kwargs_of : HostValue → ℕ → Config → Next
 merge_kwargs_of host n c =
     take_n n c.run.operands c.world (λ vs rest. after (merged_values host vs c.world) (λ v w. goes (v ∷ rest) w c))

@@ -131,7 +131,7 @@ goes vs w c = More [] (on vs (with_world w c))
 abbrev pub jumps : ℕ → List Val → World → Config → Next
 jumps n vs w c = More [] (at_place n vs (with_world w c))
 
--- ---------------------------------------------------------------- what is written
+-- ---------------------------------------------------------------- written text
 abbrev pub first_heard : List Capture → Bool
 first_heard [] = true
 first_heard (k ∷ ks) = k.heard

@@ -293,7 +293,7 @@ abbrev pub set_each : Under → Run → List Assignment → World → Res (Unit 
 set_each u run [] w = Good tt w
 set_each u run (a ∷ more) w = bind (set_to u run a.target a.value w) (λ _ world1. set_each u run more world1)
 
--- ---------------------------------------------------------------- templates that run here
+-- ---------------------------------------------------------------- includes and imports
 -- Runs the template that a value names in place, which is charged, with a new scope if `apart`. It
 -- may be missing if `missing`.
 abbrev pub include : Under → Run → Bool → Expr → Bool → List ℕ → World → Outcome
@@ -356,7 +356,7 @@ take_parameters u run [] vs w = Good tt w
 take_parameters u run (p ∷ ps) [] w = Good tt w
 take_parameters u run (p ∷ ps) (v ∷ vs) w = bind (take_parameters u run ps vs w) (λ _ world1. take_parameter u run p v world1)
 
--- ---------------------------------------------------------------- calls that are given a macro
+-- ---------------------------------------------------------------- calls with a macro as `caller`
 -- after a row of names with their values: adds the macro with this number as `caller`
 abbrev pub with_caller : HostValue → ℕ → MacroHead → RowValues
 with_caller host n m row w =

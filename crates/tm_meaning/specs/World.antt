@@ -209,7 +209,7 @@ tick w = pays 1 w
 abbrev pub ticked : {A : Type 0} → World → (World → Res A) → Res A
 ticked w f = bind (tick w) (λ _ world1. f world1)
 
--- ---------------------------------------------------------------- what is known of a world
+-- ---------------------------------------------------------------- queries of a world
 abbrev pub template_at : HostValue → TemplateId → Template
 template_at host own = host.own
 template_at host (entry x) = or_is (find x host.templates) host.own

@@ -17,7 +17,7 @@ use Rattle.tm_operations.specs.declared.mapped.Kind.TheVariants as kind
 use Rattle.tm_operations.specs.declared.mapped.Ahead.{Ahead}
 use Rattle.tm_operations.specs.declared.mapped.Ahead.TheVariants as next
 
--- ---------------------------------------------------------------- what parts become
+-- ---------------------------------------------------------------- finished parts
 abbrev pub before_items : List Val → Vals → Vals
 before_items [] vs = vs
 before_items (x ∷ xs) vs = val x (before_items xs vs)
@@ -39,7 +39,7 @@ list_after r levels done rest = map_ok (λ vs. list (before_items done vs)) (map
 abbrev pub map_after : RecordData → Kind → ℕ → List (Val × Val) → Pairs → Answer Val
 map_after r k levels done rest = map_ok (λ ps. made_of k (before_pairs done ps)) (mapped_pairs (namespace_mapped r levels) rest)
 
--- ---------------------------------------------------------------- what was begun
+-- ---------------------------------------------------------------- values in progress
 -- what the value becomes once its part is finished
 abbrev pub resumed : RecordData → Begun → Answer Val → Answer Val
 resumed r (begun.List b) part = with_ok part (λ x. list_after r b.levels (b.done.items ++ x ∷ []) (vals_of b.rest.now))
@@ -69,7 +69,7 @@ abbrev pub AllAscend : List Begun → Type 0
 AllAscend [] = Unit {0}
 AllAscend (b ∷ bs) = Ascends b × AllAscend bs
 
--- ---------------------------------------------------------------- how much is left
+-- ---------------------------------------------------------------- the weight of what is left
 abbrev pub NamespaceWeights : Type 0
 NamespaceWeights = ℕ → ℕ → ℕ
 

@@ -32,7 +32,7 @@ abbrev pub is_end : Unchecked → Bool
 is_end (unchecked.End n) = true
 is_end x = false
 
--- ---- namespaces that were met
+-- ---- namespaces that were reached
 
 -- these numbers
 abbrev pub among : List ℕ → Way
@@ -82,7 +82,7 @@ pub record IsUnmet (r : RecordData) (s n : ℕ) (ps : List (Val × Val)) (marks 
   pub there : namespace_at r s n ≡ Some ps
   pub mark : mark_at marks n ≡ mark.Unmet
 
--- ---- what is left
+-- ---- the work list
 
 -- For the whole value and each open namespace: the part that was checked is fine if the namespaces
 -- found fine are, so what is left has the verdict of the whole. The innermost comes last in the
@@ -133,7 +133,7 @@ Goes form r (Err chain) part left marks new_left new_marks = is_memory_alone cha
     → (v : Val) → Stands form r v part left marks
     → verdict_within form r (length r.namespaces) nowhere v ≡ Err chain
 
--- ---- how much is left
+-- ---- the weight of what is left
 
 abbrev pub one_weight : Unchecked → ℕ
 one_weight (unchecked.Items items) = vals_size (vals_of items.now) + 1

@@ -57,7 +57,7 @@ joined e t = and_one e (binary binaries.Concatenate (literal t))
 abbrev pub fault : Stmt
 fault = EmitExpr (and_one (named (codes "y")) (Attribute (codes "z")))
 
--- ---------------------------------------------------------------- pages among templates
+-- ---------------------------------------------------------------- pages with other templates
 abbrev pub template_under : AutoEscape → List ℕ → Body → List ℕ × TemplateTree
 template_under escape name body = (name, record { name = name; escape = escape; root = statements body })
 
@@ -126,7 +126,7 @@ over_mid_joined = of_mid (raw (codes "c")) (EmitExpr (joined super (codes "!")))
 abbrev pub mid_alone : Page
 mid_alone = laid_out (one (extends (codes "mid")))
 
--- ---------------------------------------------------------------- where `extends` stands
+-- ---------------------------------------------------------------- places of `extends`
 -- {% if x %}{% extends "base" %}{% else %}{% extends "base2" %}{% endif %}t
 abbrev pub of_either : Page
 of_either = laid_out (two (if_one x (extends (codes "base")) (else_one (extends (codes "base2")))) (raw (codes "t")))
@@ -290,7 +290,7 @@ escaped_by_child of_parent of_child =
     record (among (template_under of_parent (codes "p") (two emits_tag (block_none a)) ∷ [])
     (two (extends (codes "p")) (block_one a emits_tag))) { escape = of_child }
 
--- ---------------------------------------------------------------- blocks that a state is asked for
+-- ---------------------------------------------------------------- blocks that a state is asked to render
 -- {% if false %}{% block b %}{% for x in [1] %}{{ y.z }}{% endfor %}{% endblock %}{% endif %}ok
 abbrev pub fault_in_hidden : Page
 fault_in_hidden =

@@ -166,7 +166,7 @@ method_of_map f =
 abbrev pub method_of_undefined : Page
 method_of_undefined = page (one (EmitExpr (method_none (named (codes "nope")) (codes "m")))) nothing
 
--- ---------------------------------------------------------------- loops that are called
+-- ---------------------------------------------------------------- calls of loops
 abbrev pub recursive_one : Expr → Stmt → Stmt
 recursive_one e s = For' (To (codes "x")) e None true (tt ∷ []) (statement s no_statement) no_else
 

@@ -54,7 +54,7 @@ EvaluatesTo p v charges = Ends p 1000 (v ∷ []) (1000 - charges) []
 abbrev pub EvaluationFails : Page → List ErrorKind → ℕ → Type 0
 EvaluationFails p chain charges = Ends p 1000 [] (1000 - charges) chain
 
--- ---------------------------------------------------------------- expressions alone
+-- ---------------------------------------------------------------- single expressions
 abbrev pub evaluating : Expr → Val → Page
 evaluating e context = record (page (body_of no_statement) context) { name = codes "<expression>"; root = expression e }
 

@@ -90,7 +90,7 @@ abbrev pub super_after_macro : Page
 super_after_macro =
     laid_out (three (extends (codes "base")) (macro_one m [] (raw (codes "M"))) (block_two a (called m) EmitSuper))
 
--- ---------------------------------------------------------------- names that are joined
+-- ---------------------------------------------------------------- joined names
 -- a name is in the directory that the other name denotes
 abbrev in_parent : List ℕ → List ℕ → Answer (List ℕ)
 in_parent name parent = Ok (parent ++ (codes "/" ++ name))

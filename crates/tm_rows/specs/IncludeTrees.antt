@@ -360,7 +360,7 @@ block_unheard = beside_d (in_brackets (codes "q") (imports_from (codes "d") (nam
 abbrev pub block_heard : Page
 block_heard = beside_d (one (imports_as_m (literal (codes "d"))))
 
--- ---------------------------------------------------------------- names that are joined
+-- ---------------------------------------------------------------- joined names
 -- lib/i is ok: {% include "i" %}, with this function that joins names
 abbrev pub joined_by : (List ℕ → List ℕ → Answer (List ℕ)) → Page
 joined_by join = record (beside (codes "lib/i") (one (raw (codes "ok"))) (one (includes_template (codes "i")))) { join = join }

@@ -19,7 +19,7 @@ use Rattle.tm_shapes.specs.Flows.{Site, are, flow_of, is_closed, is_zero}
 use Rattle.tm_shapes.specs.Placed.{is_entered, is_placed}
 use Rattle.tm_shapes.specs.Search.{Found, Has, Seen, note, reach, search, wander}
 
--- ---------------------------------------------------------------- shapes that are the same
+-- ---------------------------------------------------------------- equal shapes
 abbrev pub same_place : Option ℕ → Option ℕ → Bool
 same_place None None = true
 same_place (Some n) (Some m) = nat_eq n m
@@ -68,7 +68,7 @@ same_parts ps qs = false
 abbrev pub same_shape : Shape → Shape → Bool
 same_shape s t = same_part s.part t.part && same_parts s.below t.below
 
--- ---------------------------------------------------------------- where instructions stand
+-- ---------------------------------------------------------------- the surroundings of instructions
 abbrev pub swaps : Option Instruction → Bool
 swaps (Some i.Swap) = true
 swaps o = false
@@ -123,7 +123,7 @@ site_of a code n = record {
   enters = a.enters;
 }
 
--- ---------------------------------------------------------------- where runs begin
+-- ---------------------------------------------------------------- the starts of runs
 -- places, and the shapes in which they are reached
 abbrev pub Seeds : Type 0
 Seeds = List (ℕ × Shape)
@@ -175,7 +175,7 @@ found a code seeds =
     option_and_then (λ (f : Found). search same_shape code (site_of a code) (ends_with a.left) (length (no_shapes code)) f.work f.shapes)
     (begun a code seeds (nothing_found code))
 
--- ---------------------------------------------------------------- what is asked
+-- ---------------------------------------------------------------- parameters of a search
 abbrev pub left_by : Form → ℕ
 left_by forms.Template = 0
 left_by forms.Expression = 1
@@ -196,7 +196,7 @@ ask_some read n = ask read (Some n) false forms.Expression
 abbrev pub ask_openly : Asked
 ask_openly = ask_all all_open forms.Expression
 
--- ---------------------------------------------------------------- as what each 0 is taken
+-- ---------------------------------------------------------------- how each 0 is taken
 abbrev pub noted : List Instruction → Seeds → Seen → Seen
 noted code [] f = f
 noted code (e ∷ es) f = noted code es (note code (site_of ask_openly code) e.0 e.1 f)
@@ -211,7 +211,7 @@ groups_in code =
     let f = noted code (all_seeds code) (record { shapes = no_shapes code; work = []; groups = no_groups code }) in
     (wander code (site_of ask_openly code) (length (no_shapes code)) f.work f).groups
 
--- ---------------------------------------------------------------- all of it
+-- ---------------------------------------------------------------- all checks
 -- In an expression, a `Return` that the start reaches leaves one operand, and a `Return` that an
 -- entry reaches none.
 abbrev pub returns_fit : Readings → Form → List Instruction → Bool

@@ -69,7 +69,7 @@ with_operands ks s = record s { part = record s.part { operands = ks } }
 abbrev pub next : Site → List Kind → Shape → Flow
 next at ks s = leads (at.place + 1) (with_operands ks s)
 
--- ---------------------------------------------------------------- what stands together
+-- ---------------------------------------------------------------- adjacent instructions
 abbrev pub is_one : Val → Bool
 is_one (number (pos n)) = nat_eq n 1
 is_one v = false

@@ -93,6 +93,6 @@ abbrev pub parts_fit : List Instruction → ℕ → Before → List Instruction 
 parts_fit code n before [] = true
 parts_fit code n before (x ∷ more) = build_fits code n before x && parts_fit code (n + 1) (before_next before x) more
 
--- ---------------------------------------------------------------- all of it
+-- ---------------------------------------------------------------- all checks
 abbrev pub is_placed : List Instruction → Bool
 is_placed code = targets_within (length code) code && caches_fit (filters_in code) && caches_fit (tests_in code) && parts_fit code 0 befores.Nothing code

@@ -55,7 +55,7 @@ Has shapes (leads n s) = shape_at shapes n ≡ Some s
 Has shapes (both a b) = Has shapes a × Has shapes b
 Has shapes (takes p a) = Has shapes a
 
--- ---------------------------------------------------------------- as what each 0 is taken
+-- ---------------------------------------------------------------- how each 0 is taken
 -- The places reached so far, those that are left to visit, and those whose 0 is taken as a group.
 pub record Seen : Type 0 where
   pub shapes : Shapes

@@ -22,7 +22,7 @@ use Rattle.tm_shapes.specs.declared.search.Seed.{Seed}
 use Rattle.tm_shapes.specs.declared.search.Seen.{Seen as Seeing}
 use Rattle.tm_shapes.specs.declared.shape.Shape.{Shape as Stacked}
 
--- ---------------------------------------------------------------- what is asked
+-- ---------------------------------------------------------------- parameters of a search
 abbrev pub reading_of : Readings → ℕ → Reading
 reading_of read.Values n = readings.Value
 reading_of (read.Groups marks) n = read_groups marks.now n
@@ -57,7 +57,7 @@ abbrev pub entry_of : Option ℕ → Instruction → Seeds
 entry_of before (i.BuildMacro x place caller) = entry_seed before place []
 entry_of before x = []
 
--- ---------------------------------------------------------------- what is found
+-- ---------------------------------------------------------------- results
 -- The stacks of each shape, if there is one.
 abbrev pub AllShown : List Cell → List (Option Stacked) → Shapes → Type 0
 AllShown cells [] [] = Unit {0}

@@ -54,7 +54,7 @@ called_again = i.LoadConst one_list ∷ i.PushLoop (looping true) ∷ i.Iterate 
 abbrev pub left_by_loop : Instruction → List Instruction
 left_by_loop x = i.LoadConst one_list ∷ i.PushLoop (looping false) ∷ x ∷ i.PopLoopFrame ∷ []
 
--- ---------------------------------------------------------------- ways that meet
+-- ---------------------------------------------------------------- paths that meet
 -- one of two instructions, and then the end of a capture
 abbrev pub one_way_or : Instruction → Instruction → List Instruction
 one_way_or a b = i.LoadConst (boolean true) ∷ i.JumpIfFalse 4 ∷ a ∷ i.Jump 5 ∷ b ∷ i.EndCapture ∷ i.Emit ∷ []

@@ -119,7 +119,7 @@ MayWrap kind = (kind ≡ kinds.EvalBlock) ⊎ (kind ≡ kinds.BadInclude) ⊎ (k
 abbrev pub StatesNoMemory : HostValue → Type 0
 StatesNoMemory host = StatesOnly (λ chain. ends_in_memory chain ≡ false) host
 
--- ---------------------------------------------------------------- kinds of other things
+-- ---------------------------------------------------------------- foreign kinds
 -- the kinds for sources, delimiters, writers and streams of instructions, which no render raises
 abbrev pub is_foreign : ErrorKind → Bool
 is_foreign kinds.SyntaxError = true

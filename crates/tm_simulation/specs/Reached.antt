@@ -18,7 +18,7 @@ RunsTo p k heard captures told w end =
 abbrev pub Renders : Program → World → Final → Type 0
 Renders p w end = RunsTo p (whole w.stream) true [] [] w end
 
--- ---------------------------------------------------------------- where a run writes
+-- ---------------------------------------------------------------- the output of a run
 -- The text so far in the output of a run: that of the innermost capture, or else the writer's.
 abbrev pub text_in : List Capture → List ℕ → List ℕ
 text_in [] told = told
@@ -34,7 +34,7 @@ abbrev pub told_with : List Capture → List ℕ → List ℕ → List ℕ
 told_with [] told text = text
 told_with (k ∷ ks) told text = told
 
--- ---------------------------------------------------------------- what is meant
+-- ---------------------------------------------------------------- the end of a meaning
 -- failed with the chain of a fault; or finished, with the values and captures that are left
 abbrev pub end_by : Ending → List Capture → World → End
 end_by (fault chain) captures w = Failed chain w

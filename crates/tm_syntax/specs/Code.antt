@@ -297,7 +297,7 @@ passing_code end before given named =
     passing end before given named (arguments_code given) (keywords_code end 0 named)
     (λ by_name. lists_code before given (together end named) by_name)
 
--- ---------------------------------------------------------------- calls that end so
+-- ---------------------------------------------------------------- calls with a given end
 -- a call of the value on top, with the end as its only argument
 abbrev pub called_alone : RowEnd → Fragment
 called_alone end = end.code 0 ⨾ straight (i.CallObject (Some (end.maps 0 + 1)) ∷ [])
@@ -359,7 +359,7 @@ abbrev pub use_code : CaptureUse → Fragment
 use_code uses.Emit = straight (i.Emit ∷ [])
 use_code (uses.Assign t) = target_code t
 
--- ---------------------------------------------------------------- templates that run here
+-- ---------------------------------------------------------------- includes and imports
 -- runs a template in a new scope
 abbrev pub included_code : Expr → Fragment
 included_code e = straight (i.PushWith ∷ []) ⨾ expr_code e ⨾ straight (i.IncludeModule ∷ [])

@@ -14,7 +14,7 @@ use Rattle.tm_syntax.specs.declared.tree.Stmt.{more_of-Stmt as statement, Held-S
 use Rattle.tm_syntax.specs.declared.tree.Stmt.{Some' as otherwise}
 use Rattle.tm_syntax.specs.Blocks.{Body, body_of, StreamTree, statements, expression}
 
--- ---------------------------------------------------------------- of trees
+-- ---------------------------------------------------------------- trees
 abbrev pub passes : Option Expr → ℕ
 passes None = 0
 passes (Some c) = 1
@@ -117,7 +117,7 @@ abbrev mutual
   macros_else at no_else = []
   macros_else at (otherwise _ body) = macros_in at body
 
--- ---------------------------------------------------------------- of streams
+-- ---------------------------------------------------------------- streams
 -- the loops of a stream's statements, in the order of their numbers; an expression has none
 abbrev pub stream_loops : StreamTree → List FoundLoop
 stream_loops (statements body) = loops_in first_numbers body.row
@@ -127,7 +127,7 @@ abbrev pub stream_macros : StreamTree → List FoundMacro
 stream_macros (statements body) = macros_in first_numbers body.row
 stream_macros (expression e) = []
 
--- ---------------------------------------------------------------- of code
+-- ---------------------------------------------------------------- code
 -- the loop that an instruction begins
 abbrev pub begins : Instruction → Option LoopFlags
 begins (i.PushLoop flags) = Some flags

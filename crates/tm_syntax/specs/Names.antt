@@ -37,7 +37,7 @@ use Rattle.tm_syntax.specs.declared.tree.Stmt.TheBlock.{hidden-the_row-Stmt-0 as
 use Rattle.tm_syntax.specs.declared.tree.Tree.{Tree}
 use Rattle.tm_syntax.specs.declared.tree.Tree.TheVariants as trees
 
--- ---------------------------------------------------------------- what a walk knows
+-- ---------------------------------------------------------------- the state of a walk
 -- the names that are assigned in a scope
 abbrev pub Scope : Type 0
 Scope = Named (Unit {0})
@@ -202,7 +202,7 @@ abbrev pub walk_filters : Bool → List Step → Walk → Walk
 walk_filters nested [] k = k
 walk_filters nested (f ∷ more) k = walk_filters nested more (walk_step nested f k)
 
--- ---------------------------------------------------------------- names that are assigned
+-- ---------------------------------------------------------------- assigned names
 abbrev mutual
   pub walk_target : Bool → AssignmentTarget → Walk → Walk
   walk_target nested (To x) k = assign x k
