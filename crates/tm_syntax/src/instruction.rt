@@ -180,7 +180,7 @@ pub enum Instruction {
     BeginCapture(CaptureMode),
     /// Ends the innermost capture, and pushes its text, or undefined if the capture discards it.
     EndCapture,
-    /// Pops a value, and sets the escape that it names.
+    /// Pops a value, and sets the escape that it selects.
     PushAutoEscape,
     /// Restores the escape from before the last `PushAutoEscape`.
     PopAutoEscape,
