@@ -290,7 +290,7 @@ escaped_by_child of_parent of_child =
     record (among (template_under of_parent (codes "p") (two emits_tag (block_none a)) ∷ [])
     (two (extends (codes "p")) (block_one a emits_tag))) { escape = of_child }
 
--- ---------------------------------------------------------------- blocks that a state is asked to render
+-- ---------------------------------------------------------------- blocks rendered by a state
 -- {% if false %}{% block b %}{% for x in [1] %}{{ y.z }}{% endfor %}{% endblock %}{% endif %}ok
 abbrev pub fault_in_hidden : Page
 fault_in_hidden =
