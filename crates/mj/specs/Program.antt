@@ -1,4 +1,4 @@
--- What the program gives to a template, what its render means, and how the program ends.
+-- The context of a template, the meaning of a render, and how the program ends.
 use Rattle.std.specs.Prelude.{◌≡◌, ◌⊎◌, ℕ, List, [], ◌∷◌, ◌++◌, map as each, min, Option, None, Some, Bool, true, false, string_bytes}
 use Rattle.std.specs.Borrow.{Bor}
 use Rattle.std.specs.List.{Any}
@@ -32,11 +32,13 @@ use Rattle.mj_json.specs.Json.{members_read}
 abbrev pub pair_of : Text × Text → Val × Val
 pair_of t = (text t.0 false, text t.1 false)
 
--- the context of these members of a JSON object and these names and texts over them: of a name the last one counts
+-- the context: the members of a JSON object, and then these names and texts; of equal names, the
+-- last one counts
 abbrev pub context_of : List (Val × Val) → List (Text × Text) → Val
 context_of members ts = map (pairs_of (put_all (members ++ each pair_of ts)))
 
--- what a render is made of: what the words ask for, the members of the JSON object, and the files in their order with their sources
+-- the input of a render: the parsed command line, the members of the JSON object, and the files
+-- with their sources, in order
 pub record Input : Type 0 where
   pub asked : ArgumentsValue
   pub members : List (Val × Val)
@@ -45,37 +47,37 @@ pub record Input : Type 0 where
 abbrev pub input_of : Arguments → List (Val × Val) → List (Text × Text) → Input
 input_of arguments members sources = record { asked = asked_of arguments; members = members; sources = sources }
 
--- a file with its source as plain data
+-- a file and its source as plain data
 abbrev pub named : Bor Text × String Global → Text × Text
 named p = (p.0.now, string_bytes p.1)
 
--- how deep scopes may lie, where the words say so
+-- the recursion limit of the command line, if it is set
 abbrev pub limit_of : Option ℕ → ℕ
 limit_of None = greatest_limit
 limit_of (Some n) = min n greatest_limit
 
--- what a program states of objects: the functions of the language, and escapes by name
+-- what the program states about objects: the built-in functions, and escapes by name
 abbrev pub own_objects : StatedObjects
 own_objects = language_alone escape_by_name
 
--- The sources, compiled with this syntax and the escapes of their names, and put at their names one after the other, make of the first
--- templates the second.
+-- Compiling the sources, with this syntax and the escapes of their names, and adding them in order
+-- turns the first templates into the second.
 abbrev pub AreAdded : Syntax → (Text → AutoEscape) → List (Text × Text) → Named Compiled → Named Compiled → Type 0
 AreAdded syntax escapes [] before after = before ≡ after
 AreAdded syntax escapes (s ∷ more) before after = (t : Compiled) × IsTemplate syntax (escapes s.0) s.0 s.1 t
     × AreAdded syntax escapes more (put s.0 t before) after
 
--- A source spells no tree.
+-- A source isn't a valid template.
 abbrev pub SpellNone : Syntax → List (Text × Text) → Type 0
 SpellNone syntax sources = Any (λ (s : Text × Text). SpellsNone syntax s.1) sources
 
--- A file is the first of these.
+-- The file is the first of these.
 abbrev pub BeginWith : Text → List (Text × Text) → Type 0
 BeginWith file [] = ⊥
 BeginWith file (s ∷ more) = s.0 ≡ file
 
--- a template at the name of the first file, in a new environment with these templates, which has the functions of the language, with the
--- fuel and the limit of the words
+-- a template with the name of the first file, in a new environment with these templates, the
+-- built-in functions, and the fuel and the limit of the command line
 abbrev pub template_in : ArgumentsValue → Named Compiled → Compiled → TemplateValue StatedObjects
 template_in a templates t = record {
   environment = record (expected_environment own_objects)
@@ -84,28 +86,29 @@ template_in a templates t = record {
   template = t;
 }
 
--- what a render of it means, as the first state: over the context, with the fuel of the words
+-- the meaning of its render in the first state: over the context, with the fuel of the command line
 abbrev pub meaning_of : Input → Named Compiled → Compiled → Outcome
 meaning_of input templates t = meaning (λ stated. stated) (template_in input.asked templates t) 0
     (context_of input.members input.asked.texts)
 
--- The input means this: all its sources are templates under the names of their files, which say how each is escaped, and the one that is at
--- the name of the first file is rendered.
+-- The input means this outcome: all sources are templates under the names of their files, which
+-- select their escapes, and the one with the name of the first file is rendered.
 abbrev pub Means : Input → Outcome → Type 0
 Means input outcome = (templates : Named Compiled) × (t : Compiled)
     × AreAdded default_syntax escape_by_name input.sources [] templates
     × (find input.asked.file templates ≡ Some t)
     × (outcome ≡ meaning_of input templates t)
 
--- A template, which is of trees, over a context means, as the first state, what the input means.
+-- A template made from trees, rendered over a context in the first state, means what the input
+-- means.
 abbrev pub IsMeant : {P : Type 0} → (P → StatedObjects) → TemplateValue P → Val → Input → Type 0
 IsMeant stated t context input = IsOfTrees t × Means input (meaning stated t 0 context)
 
--- What may be read of a file later may be read of it before.
+-- What can be read from a file later can be read from it before.
 abbrev pub FilesStay : {T : Type 0} → (T → Text → Option Text → Type 0) → T → T → Type 0
 FilesStay of_file old new = (file : Text) → (read : Option Text) → of_file new file read → of_file old file read
 
--- The same of standard input.
+-- The same for standard input.
 abbrev pub InputStays : {T : Type 0} → (T → Option Text → Type 0) → T → T → Type 0
 InputStays of_input old new = (read : Option Text) → of_input new read → of_input old read
 
@@ -113,62 +116,64 @@ abbrev pub either : Bool → Type 0 → Type 0 → Type 0
 either true A B = A
 either false A B = B
 
--- what is read of a file, or of standard input, which is `-`: bytes, or none
+-- the result of reading a file, or standard input if it is `-`: bytes, or None
 abbrev pub IsRead : {T : Type 0} → (T → Text → Option Text → Type 0) → (T → Option Text → Type 0) → T → Text → Option Text → Type 0
 IsRead of_file of_input texts file read = either (is_input file) (of_input texts read) (of_file texts file read)
 
--- The sources are what is read of the files.
+-- The sources are the contents of the files.
 abbrev pub AreRead : {T : Type 0} → (T → Text → Option Text → Type 0) → (T → Option Text → Type 0) → T → List Text → List (Text × Text) → Type 0
 AreRead of_file of_input texts [] sources = sources ≡ []
 AreRead of_file of_input texts (file ∷ files) [] = ⊥
 AreRead of_file of_input texts (file ∷ files) (s ∷ more) =
     (s.0 ≡ file) × IsRead of_file of_input texts file (Some s.1) × AreRead of_file of_input texts files more
 
--- The members are those of the object that the JSON file holds; without a JSON file there are none.
+-- The members are those of the object in the JSON file; without a JSON file there are none.
 abbrev pub IsMembers : {T : Type 0} → (T → Text → Option Text → Type 0) → T → Option Text → List (Val × Val) → Type 0
 IsMembers of_file texts None members = members ≡ []
 IsMembers of_file texts (Some file) members = (bytes : Text) × of_file texts file (Some bytes) × IsUtf8 bytes
     × (members_read bytes ≡ Some members)
 
--- the files of the words in their order
+-- the files of the command line, in order
 abbrev pub files_asked : ArgumentsValue → List Text
 files_asked a = a.file ∷ a.others
 
--- The words ask for this, the sources are what is read of their files, and the members are those of their JSON file.
+-- The command line is parsed to this, the sources are the contents of its files, and the members
+-- are those of its JSON file.
 abbrev pub IsInput : {T : Type 0} → (T → Text → Option Text → Type 0) → (T → Option Text → Type 0) → T → List Text → Input → Type 0
 IsInput of_file of_input texts words input =
     (asked [] None None None words ≡ Some input.asked)
     × AreRead of_file of_input texts (files_asked input.asked) input.sources
     × IsMembers of_file texts input.asked.json input.members
 
--- Nothing is read of the file, or no text.
+-- The file can't be read, or isn't a text.
 abbrev pub IsUnread : {T : Type 0} → (T → Text → Option Text → Type 0) → (T → Option Text → Type 0) → T → Text → Type 0
 IsUnread {T = T} of_file of_input texts file =
     IsRead of_file of_input texts file None ⊎ ((bytes : Text) × IsRead of_file of_input texts file (Some bytes) × (IsUtf8 bytes → ⊥))
 
--- There is such a file among these.
+-- One of these files is such a file.
 abbrev pub HaveUnread : {T : Type 0} → (T → Text → Option Text → Type 0) → (T → Option Text → Type 0) → T → List Text → Type 0
 HaveUnread of_file of_input texts files = Any (IsUnread of_file of_input texts) files
 
--- Nothing is read of the JSON file, or no object without floats.
+-- The JSON file can't be read, or isn't an object without floats.
 abbrev pub IsNoObject : {T : Type 0} → (T → Text → Option Text → Type 0) → T → Option Text → Type 0
 IsNoObject of_file texts None = ⊥
 IsNoObject of_file texts (Some file) = of_file texts file None ⊎ ((bytes : Text) × of_file texts file (Some bytes)
     × (IsUtf8 bytes → members_read bytes ≡ None))
 
--- The files of the words don't serve: a template's gives no text, or each gives one and the JSON file gives no object.
+-- The files can't be used: a template's file isn't a text; or all are texts, and the JSON file
+-- isn't an object.
 abbrev pub IsUseless : {T : Type 0} → (T → Text → Option Text → Type 0) → (T → Option Text → Type 0) → T → ArgumentsValue → Type 0
 IsUseless of_file of_input texts a =
     HaveUnread of_file of_input texts (files_asked a)
     ⊎ ((sources : List (Text × Text)) × AreRead of_file of_input texts (files_asked a) sources × IsNoObject of_file texts a.json)
 
--- The words ask for nothing, or for files that don't serve.
+-- The command line is invalid, or its files can't be used.
 abbrev pub IsWrongUse : {T : Type 0} → (T → Text → Option Text → Type 0) → (T → Option Text → Type 0) → T → List Text → Type 0
 IsWrongUse of_file of_input texts words =
     (asked [] None None None words ≡ None) ⊎ ((a : ArgumentsValue) × (asked [] None None None words ≡ Some a)
     × IsUseless of_file of_input texts a)
 
--- The input means a render that is done, and the writer got its text without a fault.
+-- The input means a render without a fault, and the writer got its text without a failure.
 abbrev pub IsRendered : {W : Type 0} → (W → Option Text) → Input → Tally W → Tally W → Type 0
 IsRendered contents input old new =
     (outcome : Outcome) × Means input outcome × (chain_of outcome ≡ [])
@@ -178,10 +183,10 @@ IsRendered contents input old new =
 abbrev pub IsBegun : Input → Option Text → Option Text → Type 0
 IsBegun input old new = (outcome : Outcome) × Means input outcome × AppendsBeginning old new outcome.text
 
--- A render ends with this error, and the writer holds what that error leaves. Its count of failures rose where a write failed, and only
--- there.
+-- A render ends with this error, and the writer has what that error leaves. Its count of failures
+-- rose only if a write failed.
 pub data IsFault {W : Type 0} (contents : W → Option Text) (input : Input) (chain : List ErrorKind) (old new : Tally W) : Type 0 where
-  -- out of memory: nothing was written, or a beginning of the text
+  -- memory ran out: nothing was written, or a beginning of the text
   no_memory : is_want_of_memory chain ≡ true → new.failures ≡ old.failures →
       Keeps (contents old.writer) (contents new.writer) ⊎ IsBegun input (contents old.writer) (contents new.writer) →
       IsFault contents input chain old new
@@ -191,10 +196,10 @@ pub data IsFault {W : Type 0} (contents : W → Option Text) (input : Input) (ch
       IsFault contents input chain old new
   -- the flush failed, after the whole text
   flush_failed : chain ≡ WriteFailure ∷ [] → IsRendered contents input old new → IsFault contents input chain old new
-  -- a source spells no tree
+  -- a source isn't a valid template
   no_tree : chain ≡ SyntaxError ∷ [] → new.failures ≡ old.failures → Keeps (contents old.writer) (contents new.writer) →
       SpellNone default_syntax input.sources →
       IsFault contents input chain old new
-  -- the fault is the one that was meant, after all text that was heard before it
+  -- the fault is that of the meaning, after all text that was heard before it
   meant : (outcome : Outcome) → Means input outcome → chain_of outcome ≡ chain → new.failures ≡ old.failures →
       Appends (contents old.writer) (contents new.writer) outcome.text → IsFault contents input chain old new

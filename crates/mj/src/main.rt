@@ -1,4 +1,4 @@
-//! The command line of template machine: a file is rendered to standard output.
+//! The command line program: renders a file to standard output.
 #![tactic(auto)]
 
 mod program;
@@ -13,7 +13,7 @@ use std::process::ExitCode;
 use std::{env, fs};
 use template_machine::Counted;
 
-/// The files of the system, and its standard input.
+/// The files of the system, and standard input.
 #[derive(Drop)]
 struct Files<'a> {
     rt: &'a HostRuntime,
@@ -35,7 +35,7 @@ fn main(rt: HostRuntime) -> ExitCode {
     ExitCode::from(status(&rt))
 }
 
-/// Gathers the words and the streams, and runs the program over them.
+/// Collects the arguments and the standard streams, and runs the program.
 fn status(rt: &HostRuntime) -> u8 {
     let alloc = rt.alloc();
     let mut err = Counted::new(rt.stderr());
@@ -43,7 +43,7 @@ fn status(rt: &HostRuntime) -> u8 {
         Ok(words) => words,
         Err(error) => return tell_refusal(&mut err, Refusal::of_read(&error)),
     };
-    // Each piece of a render would else be a call of the system.
+    // Without a buffer, each piece of a render would be a system call.
     let mut out = match BufWriter::new(alloc, rt.stdout()) {
         Ok(out) => Counted::new(out),
         Err(error) => return tell_refusal(&mut err, Refusal::of_read(&error)),
@@ -51,7 +51,7 @@ fn status(rt: &HostRuntime) -> u8 {
     run(alloc, &words, &mut Files { rt }, &mut out, &mut err)
 }
 
-/// The words after the program's name.
+/// The arguments after the program's name.
 fn words(rt: &HostRuntime) -> io::Result<Vec<String>> {
     let mut words = env::args(rt)?;
     words.next();

@@ -1,4 +1,4 @@
-//! The program over words, files and streams that it is given.
+//! The program, run with the given arguments, files and streams.
 ghost use Rattle.std.specs.Prelude.{◌≡◌, ◌≢◌, ◌≤◌, ◌⊎◌, List, [], ◌∷◌, ⊤, true, false, Option, None, Some, map, option_map, string_bytes};
 ghost use Rattle.std.specs.Prelude.{MatchResult};
 ghost use Rattle.tm_values.specs.declared.error.ErrorKind.{ErrorKind as Kind};
@@ -15,18 +15,18 @@ use std::alloc::Global;
 use std::io::{self, Write};
 use template_machine::{Counted, Value};
 
-/// The status of a run without a fault.
+/// The exit status of success.
 const SUCCESS: u8 = 0;
 
-/// Where templates and JSON are read from.
+/// The source of templates and JSON.
 pub trait Texts {
-    // What may be read of a path: bytes, or none. The default says nothing.
+    // The possible results of reading a path: bytes, or None. The default says nothing.
     ghost of_file: { Self → Text → Option Text → Type 0 } = { λ _ _ _. ⊤ };
 
-    // The same of standard input.
+    // The same for standard input.
     ghost of_input: { Self → Option Text → Type 0 } = { λ _ _. ⊤ };
 
-    /// The bytes of a file. What may be read of standard input is left.
+    /// The bytes of a file. Doesn't read standard input.
     fn file(&mut self, path: &str) -> io::Result<Vec<u8>>
         ensures read { MatchResult result (λ bytes. of_file self.old path.now (Some bytes.items))
             (λ _. of_file self.old path.now None) }
@@ -40,9 +40,9 @@ pub trait Texts {
         ensures stay { FilesStay of_file self.old self.new };
 }
 
-/// Renders the first file of the words to `out` as it goes, with all of them as templates, tells
-/// faults to `err`, and gives the exit status: 0 where all was written, 1 after a fault, 2 where
-/// the words or the files do not serve.
+/// Renders the first file to `out` piece by piece, with all files as templates. Reports errors to
+/// `err`. Returns the exit status: 0 if everything was written, 1 after a fault, 2 if the arguments
+/// or the files can't be used.
 pub fn run<T: Texts, O: Write + Drop, E: Write + Drop>(
     alloc: Global,
     words: &[String],
@@ -84,8 +84,8 @@ pub fn run<T: Texts, O: Write + Drop, E: Write + Drop>(
     }
 }
 
-/// The members of the object in the JSON file, or none without a file. OutOfMemory where no memory
-/// is found, and else Usage where nothing is read, or no object without floats.
+/// The members of the object in the JSON file; empty without a file. OutOfMemory if memory runs
+/// out. Usage if the file can't be read, or isn't an object without floats.
 fn read_members<T: Texts>(
     alloc: Global,
     texts: &mut T,
@@ -104,8 +104,8 @@ fn read_members<T: Texts>(
     }
 }
 
-/// The files of the words with their sources. OutOfMemory where no memory is found, and else Usage
-/// where nothing is read of a file, or no UTF-8.
+/// The files and their sources. OutOfMemory if memory runs out. Usage if a file can't be read, or
+/// isn't UTF-8.
 fn read_sources<'a, T: Texts>(
     alloc: Global,
     texts: &mut T,
@@ -128,8 +128,8 @@ fn read_sources<'a, T: Texts>(
     Ok(sources)
 }
 
-/// The source of a template. OutOfMemory where a read finds no memory, and else Usage where nothing
-/// is read, or no UTF-8.
+/// The source of a template. OutOfMemory if memory runs out. Usage if the file can't be read, or
+/// isn't UTF-8.
 fn read_source<T: Texts>(texts: &mut T, file: &str) -> Result<String, Refusal>
     ensures read { MatchResult result
         (λ source. IsRead T.of_file T.of_input texts.old file.now (Some (string_bytes source)))
@@ -146,7 +146,7 @@ fn read_source<T: Texts>(texts: &mut T, file: &str) -> Result<String, Refusal>
     }
 }
 
-/// The bytes of a file; `-` is standard input.
+/// The bytes of a file; `-` means standard input.
 fn read_bytes<T: Texts>(texts: &mut T, file: &str) -> io::Result<Vec<u8>>
     ensures read { MatchResult result
         (λ bytes. IsRead T.of_file T.of_input texts.old file.now (Some bytes.items))

@@ -1,4 +1,4 @@
-//! The render that the words ask for.
+//! The render of a command line.
 ghost use Rattle.std.specs.Prelude.{◌≡◌, List, [], ◌∷◌, map, min, MatchResult, OnOk, IfErr};
 ghost use Rattle.tm_values.specs.Val.{Val};
 ghost use Rattle.mj_words.specs.CommandLine.{plain};
@@ -18,10 +18,10 @@ use template_machine::{
     ValueMap,
 };
 
-/// Renders the first of the sources, with all of them as templates, and flushes, also after a render
-/// that failed, whose error is the one that counts. SyntaxError where a source spells no template,
-/// WriteFailure where a write or the flush fails, OutOfMemory where there is no memory; else the
-/// fault that was meant.
+/// Renders the first source, with all sources as templates, and flushes the output, even if the
+/// render fails; then the error of the render is returned. SyntaxError if a source isn't a valid
+/// template. WriteFailure if a write or the flush fails. OutOfMemory if memory runs out. Otherwise,
+/// the fault that the render means.
 pub fn render<O: Write + Drop>(
     alloc: Global,
     arguments: &Arguments<'_>,
@@ -44,7 +44,7 @@ pub fn render<O: Write + Drop>(
     }
 }
 
-/// Renders the first of the sources, whose end may still be in a buffer of the writer.
+/// Renders the first source. The end of its text may still be in the writer's buffer.
 fn render_unflushed<O: Write + Drop>(
     alloc: Global,
     arguments: &Arguments<'_>,
@@ -67,7 +67,7 @@ fn render_unflushed<O: Write + Drop>(
     rendered
 }
 
-/// Renders the first of the sources in a new environment, over the context of the words and any
+/// Renders the first source in a new environment, over the context of the command line and the
 /// members.
 fn render_in<O: Write + Drop>(
     environment: &mut Environment<'_>,
@@ -92,8 +92,7 @@ fn render_in<O: Write + Drop>(
     render_template(&template, context, out)
 }
 
-/// Makes each source the template of its file's name, one after the other, in place of an earlier
-/// one.
+/// Adds each source as the template of its file's name, in order, replacing an earlier one.
 fn add_templates<P: Parties>(
     environment: &mut EnvironmentOf<'_, P>,
     sources: Vec<(&str, String)>,
@@ -111,7 +110,8 @@ fn add_templates<P: Parties>(
     Ok(())
 }
 
-/// Renders the template as the first state: as any input that it means.
+/// Renders the template in the first state. The result is the meaning of any input that means this
+/// template.
 fn render_template<P: Parties, O: Write + Drop>(
     template: &TemplateOf<'_, '_, P>,
     context: Value,
@@ -125,7 +125,7 @@ fn render_template<P: Parties, O: Write + Drop>(
     Ok(())
 }
 
-/// How deep scopes may lie, where the words say so.
+/// The recursion limit of the command line, if it is set.
 fn limit(given: Option<u64>) -> usize
     ensures { min result greatest_limit ≡ limit_of given }
 {
@@ -135,7 +135,7 @@ fn limit(given: Option<u64>) -> usize
     }
 }
 
-/// The map of the members, with the names and their texts over them. Fails by OutOfMemory alone.
+/// The map of the members, with the texts of the command line added. OutOfMemory is the only error.
 fn context(
     alloc: Global,
     mut members: Vec<(Value, Value)>,

@@ -1,5 +1,5 @@
-//! Rows of the command, run over files and streams in memory. `examples/command` reads the same
-//! constants, and runs the program itself over files of the system.
+//! Worked examples of the command, run with files and streams in memory. `examples/command` reads
+//! the same constants, and runs the program itself on real files.
 
 use crate::program::{Texts, run};
 use std::alloc::{AllocError, Global};
@@ -8,14 +8,14 @@ use std::test::Fail;
 use std::{mem, str};
 use template_machine::Counted;
 
-/// The line of wrong use.
+/// The usage line.
 const USAGE: &str = r#"usage: mj [-D name=text].. [--json FILE] [--fuel N] [--limit N] FILE.."#;
 
-/// What standard input holds.
+/// The content of standard input.
 const INPUT: &str = r#"Hello {{ name }}!"#;
 
-/// The files: a name on a line, and from the next line on what it holds. Beside them `bytes.bin` is
-/// no UTF-8, and `vast.txt` takes more than all memory.
+/// The files: a name on a line, and its content on the next lines. In addition, `bytes.bin` isn't
+/// UTF-8, and `vast.txt` is larger than memory.
 const FILES: &str = r#"What files hold.
 - hello.txt
 Hello {{ name }}!
@@ -80,8 +80,8 @@ Hi {{ who }}!
   ]
 }"#;
 
-/// Each row: the exit status and the words, with a blank between them; what is written; and what is
-/// reported: the usage line, an error of a kind, or nothing.
+/// The rows: the exit status and the arguments, separated by spaces; the output; and the message:
+/// the usage line, an error of a kind, or nothing.
 const ROWS: &str = r#"Words with what comes of them.
 - 0 -D name=World - => Hello World! => -
 - 0 -D name=World hello.txt => Hello World! => -
@@ -176,13 +176,13 @@ const ROWS: &str = r#"Words with what comes of them.
 - 1 vast.txt =>  => OutOfMemory
 - 1 --json vast.txt main.txt =>  => OutOfMemory"#;
 
-/// Rows whose output goes to a device that is full.
+/// Rows whose output goes to a full device.
 const FULL: &str = r#"Words with what comes of them where nothing can be written.
 - 1 -Dname=World hello.txt =>  => WriteFailure
 - 1 --fuel 0 - =>  => OutOfFuel
 - 2 -x =>  => usage"#;
 
-/// What a file of this name holds.
+/// The content of the file with this name.
 fn text_of(name: &str) -> Option<&'static str> {
     for row in FILES.split("\n- ") {
         match row.split_once('\n') {
@@ -193,7 +193,7 @@ fn text_of(name: &str) -> Option<&'static str> {
     None
 }
 
-/// The files, and a standard input that is read once.
+/// The files, and a standard input that can be read once.
 #[derive(Drop)]
 struct Folder {
     alloc: Global,
@@ -218,7 +218,7 @@ impl Texts for Folder {
     }
 }
 
-/// A writer that keeps what it takes, or takes nothing where it is full.
+/// A writer that keeps its text, or accepts no bytes if it is full.
 #[derive(Drop)]
 struct Paper {
     bytes: Vec<u8>,
@@ -233,7 +233,7 @@ impl Paper {
         }
     }
 
-    /// Its text; none where it holds no UTF-8.
+    /// Its text, if it is UTF-8.
     fn text(&self) -> Option<&str> {
         str::from_utf8(self.bytes.as_slice()).ok()
     }
@@ -253,7 +253,7 @@ impl Write for Paper {
     }
 }
 
-/// What a run comes to: its exit status, and what it wrote and reported.
+/// The result of a run: its exit status, its output and its message.
 #[derive(Drop)]
 struct Ended {
     status: u8,
@@ -261,7 +261,7 @@ struct Ended {
     err: Paper,
 }
 
-/// The words, with a blank between them; none where the text is empty.
+/// The arguments, separated by spaces; none if the text is empty.
 fn words_of(alloc: Global, text: &str) -> Result<Vec<String>, AllocError> {
     let mut words = Vec::new(alloc);
     if !text.is_empty() {
@@ -272,7 +272,7 @@ fn words_of(alloc: Global, text: &str) -> Result<Vec<String>, AllocError> {
     Ok(words)
 }
 
-/// What these words come to, over a full device or not.
+/// The result for these arguments, with a full device or not.
 fn run_words(alloc: Global, words: &str, is_full: bool) -> Result<Ended, AllocError> {
     let words = words_of(alloc, words)?;
     let mut folder = Folder {
@@ -289,7 +289,7 @@ fn run_words(alloc: Global, words: &str, is_full: bool) -> Result<Ended, AllocEr
     })
 }
 
-/// Whether a row's last field says what was reported.
+/// Whether the last field of a row describes the message.
 fn is_told(told: &str, wanted: &str) -> bool {
     match told.strip_suffix('\n') {
         Some(line) if line == USAGE => wanted == "usage",
@@ -298,7 +298,7 @@ fn is_told(told: &str, wanted: &str) -> bool {
     }
 }
 
-/// Whether a run is what a row says: the status, what is written, and what is reported.
+/// Whether a run matches a row: the status, the output and the message.
 fn is_as_said(end: &Ended, status: &str, rest: &str) -> bool {
     let (written, told) = rest.split_once(" => ").unwrap_or((rest, ""));
     status.parse::<u8>().ok() == Some(end.status)
@@ -316,7 +316,7 @@ fn holds(alloc: Global, row: &str, is_full: bool) -> Result<bool, AllocError> {
     Ok(is_as_said(&run_words(alloc, words, is_full)?, status, rest))
 }
 
-/// Each row under a heading holds.
+/// Checks each row under a heading.
 fn expect_rows(alloc: Global, table: &str, is_full: bool) -> Result<(), Fail> {
     let mut rows = table.split("\n- ");
     rows.next();

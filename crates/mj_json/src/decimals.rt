@@ -1,4 +1,4 @@
-//! Numbers with a fraction or an exponent in a text of JSON.
+//! Numbers with a fraction or an exponent in JSON text.
 ghost use Rattle.std.specs.Prelude.{◌&&◌, ◌+◌, ◌≡◌, ◌≤◌, drop, false, length, true};
 ghost use Rattle.std.specs.Bool.{OnFalse};
 ghost use Rattle.std.specs.Char.{is_ascii_digit};
@@ -7,8 +7,8 @@ ghost use Rattle.mj_json.specs.Json as spec;
 
 use std::simd::prelude::*;
 
-/// Whether a number with a fraction or an exponent stands in the text, also where its key comes
-/// again.
+/// Whether the text contains a number with a fraction or an exponent, even under a key that is
+/// repeated later.
 pub(crate) fn has_decimal(bytes: &[u8]) -> bool
     ensures { result ≡ spec.has_decimal bytes.now }
 {
@@ -31,9 +31,9 @@ pub(crate) fn has_decimal(bytes: &[u8]) -> bool
     false
 }
 
-/// Whether such a number may stand in the text: none does where no digit comes right before a `.`,
-/// an `e` or an `E`. A text of less than 33 bytes is not looked at. The last block ends with the
-/// text, and so may overlap the one before it.
+/// Whether the text may contain such a number. It doesn't if no digit is directly before a `.`, an
+/// `e` or an `E`. Texts of less than 33 bytes aren't examined. The last block ends with the text,
+/// so it may overlap the one before it.
 fn may_have_decimal(bytes: &[u8]) -> bool
     ensures { OnFalse result (spec.has_decimal bytes.now ≡ false) }
 {
@@ -51,8 +51,8 @@ fn may_have_decimal(bytes: &[u8]) -> bool
     decimal_lanes(bytes, last) != 0
 }
 
-/// A bit for each of the 32 bytes from `at` on: whether it is a digit, and the byte after it begins
-/// a fraction or an exponent.
+/// A bit for each of the 32 bytes from `at` on: whether it is a digit and the next byte begins a
+/// fraction or an exponent.
 #[inline(always)]
 fn decimal_lanes(bytes: &[u8], at: usize) -> u64
     requires { at + 33 ≤ length bytes.now }
@@ -67,7 +67,7 @@ fn decimal_lanes(bytes: &[u8], at: usize) -> u64
     (digit & (point | exponent)).to_bitmask()
 }
 
-/// Whether the byte begins a fraction or an exponent where it comes after a digit.
+/// Whether the byte, after a digit, begins a fraction or an exponent.
 #[inline(always)]
 fn begins_decimal(byte: u8) -> bool
     ensures { result ≡ spec.begins_decimal byte }
@@ -75,7 +75,7 @@ fn begins_decimal(byte: u8) -> bool
     byte == b'.' || byte == b'e' || byte == b'E'
 }
 
-/// The place after the digits that stand from `start` on.
+/// The place after the digits from `start` on.
 #[inline(always)]
 fn after_digits(bytes: &[u8], start: usize) -> usize
     ensures value { spec.decimal_outside true (drop result bytes.now)
@@ -89,7 +89,7 @@ fn after_digits(bytes: &[u8], start: usize) -> usize
     place
 }
 
-/// The place after a string whose contents begin at `start`.
+/// The place after a string whose content begins at `start`.
 #[inline(always)]
 fn after_string(bytes: &[u8], start: usize) -> usize
     ensures value { spec.decimal_outside false (drop result bytes.now)

@@ -1,21 +1,21 @@
-//! The keys of objects, each made once.
+//! The keys of objects. A repeated key shares its text.
 ghost use Rattle.std.specs.Prelude.{◌≡◌, false, IfOk};
 ghost use Rattle.tm_values.specs.Val.{text};
 
 use std::alloc::{AllocError, Global};
 use tm_values::{SharedText, Value};
 
-/// How many keys are kept.
+/// The number of keys that are kept.
 const PLACES: usize = 64;
 
-/// The keys that were made last, each at the place that its hash gives.
+/// The most recent keys, each at the place of its hash.
 #[derive(Drop)]
 pub(crate) struct Keys {
     kept: Vec<SharedText>,
 }
 
 impl Keys {
-    /// The empty key at each place. Fails where there is no memory.
+    /// The empty key at each place. AllocError if memory runs out.
     pub(crate) fn new(alloc: Global) -> Result<Keys, AllocError> {
         let empty = SharedText::from_str(alloc, "")?;
         let mut kept = Vec::with_capacity(alloc, PLACES)?;
@@ -25,8 +25,8 @@ impl Keys {
         Ok(Keys { kept })
     }
 
-    /// The text as a value, which shares the contents of the key at its place where that is the same
-    /// text, and else takes its place. Fails where there is no memory.
+    /// The text as a value. It shares the kept key at its place if that is the same text, and
+    /// otherwise replaces it. AllocError if memory runs out.
     pub(crate) fn key(&mut self, alloc: Global, content: &str) -> Result<Value, AllocError>
         ensures { IfOk result (λ key. key ≡ text content.now false) }
     {
@@ -44,7 +44,7 @@ impl Keys {
     }
 }
 
-// The place of a key, by all its bytes.
+// The place of a key: a hash of all its bytes.
 fn place_of(content: &str) -> usize {
     let mut hash: usize = 0;
     for byte in content.as_bytes() {

@@ -1,4 +1,4 @@
-//! The values that JSON gives to a template.
+//! Converting JSON to template values.
 #![tactic(auto)]
 
 mod decimals;

@@ -1,4 +1,4 @@
-//! A JSON object that gives a template its names.
+//! A JSON object as the context of a template.
 ghost use Rattle.std.specs.Prelude.{◌≡◌, ◌⊎◌, None, Some, MatchResult};
 ghost use Rattle.std.specs.Str.{IsUtf8};
 ghost use Rattle.mj_json.specs.Json.{members_read};
@@ -12,16 +12,16 @@ use std::alloc::Global;
 use std::mem;
 use tm_values::Value;
 
-/// The members of the JSON object that the bytes spell, each a key and a value. OutOfMemory where
-/// no memory was found, Usage where the bytes are no UTF-8, no JSON, no object or hold a float,
-/// also one whose key comes again. The tree that they are read into is not freed.
+/// The members of the JSON object in the bytes, as keys and values. Usage if the bytes aren't
+/// UTF-8, JSON or an object, or if they contain a float, even under a key that is repeated later.
+/// OutOfMemory if memory runs out. The parsed tree isn't freed.
 pub fn members(alloc: Global, bytes: &[u8]) -> Result<Vec<(Value, Value)>, Refusal>
     ensures { MatchResult result
         (λ members. IsUtf8 bytes.now × (members_read bytes.now ≡ Some members.items))
         (λ e. (e ≡ Refusal.OutOfMemory)
         ⊎ ((e ≡ Refusal.Usage) × (IsUtf8 bytes.now → members_read bytes.now ≡ None))) }
 {
-    // The tree keeps of a key that comes again only the last member.
+    // Of members with the same key, the tree keeps only the last one.
     if has_decimal(bytes) {
         return Err(Refusal::Usage);
     }

@@ -1,8 +1,8 @@
-//! Rows of the definitions: which texts of JSON have a number with a fraction or an exponent.
+//! Worked examples: JSON texts with and without a number that has a fraction or an exponent.
 ghost use Rattle.std.specs.Prelude.{◌≡◌, None, codes, false, true};
 ghost use Rattle.mj_json.specs.Json.{has_decimal, members_read};
 
-/// Such a number counts also where its key comes again; what stands in a text counts not.
+/// Such a number counts even if its key is repeated. The contents of strings don't count.
 pub fn decimal_rows()
     ensures twice { has_decimal (codes "{\"x\":1.5,\"x\":2}") ≡ true }
     ensures whole { has_decimal (codes "{\"x\":2}") ≡ false }

@@ -1,4 +1,4 @@
-//! JSON as values.
+//! Converting JSON to values.
 ghost use Rattle.std.specs.Prelude.{◌≡◌, false, Some, Ok, IfOk, MatchResult, string_bytes};
 ghost use Rattle.serde_json.specs.View.{view, items_view, members_view};
 ghost use Rattle.tm_values.specs.Map.{put_all, IsMap};
@@ -12,8 +12,8 @@ use std::alloc::Global;
 use std::mem;
 use tm_values::{Error, SharedText, Value, ValueMap};
 
-/// The value that JSON gives, whose texts are moved out of it. OutOfMemory where no memory was
-/// found, Usage where a float is in it.
+/// The value of a JSON value, whose texts are moved out. Usage if it contains a float. OutOfMemory
+/// if memory runs out.
 #[cycle(values)]
 fn value_of(alloc: Global, keys: &mut Keys, json: &mut Json) -> Result<Value, Refusal>
     ensures { spec.IsConverted result (spec.value_of (view json.old)) }
@@ -31,7 +31,7 @@ fn value_of(alloc: Global, keys: &mut Keys, json: &mut Json) -> Result<Value, Re
     }
 }
 
-/// The values of the items of an array, with the same refusals.
+/// The values of the items of an array. The errors are the same.
 #[cycle(values)]
 fn values_of(alloc: Global, keys: &mut Keys, items: &mut [Json]) -> Result<Vec<Value>, Refusal>
     ensures { MatchResult result
@@ -45,8 +45,7 @@ fn values_of(alloc: Global, keys: &mut Keys, items: &mut [Json]) -> Result<Vec<V
     Ok(values)
 }
 
-/// The keys and values of the members of an object, in the order of the keys, with the same
-/// refusals.
+/// The keys and values of an object's members, in the order of the keys. The errors are the same.
 #[cycle(values)]
 pub(crate) fn members_of(
     alloc: Global,
@@ -66,7 +65,7 @@ pub(crate) fn members_of(
     Ok(pairs)
 }
 
-/// The text as a value; an empty text is left in its place. OutOfMemory where no memory was found.
+/// The text as a value; an empty text is left in its place. OutOfMemory if memory runs out.
 fn text_of(alloc: Global, content: &mut String) -> Result<Value, Refusal>
     ensures { MatchResult result (λ value. value ≡ text (string_bytes content.old) false)
         (λ e. e ≡ Refusal.OutOfMemory) }
@@ -75,7 +74,7 @@ fn text_of(alloc: Global, content: &mut String) -> Result<Value, Refusal>
     Ok(Value::shared_text(SharedText::from_string(content)?, false))
 }
 
-/// The map of the pairs, whose keys ascend. OutOfMemory where no memory was found.
+/// The map of the pairs, whose keys must be ascending. OutOfMemory if memory runs out.
 fn map_of(alloc: Global, pairs: Vec<(Value, Value)>) -> Result<Value, Refusal>
     requires { IsMap pairs.items }
     ensures { MatchResult result (λ value. value ≡ map (pairs_of (put_all pairs.items)))
@@ -84,7 +83,7 @@ fn map_of(alloc: Global, pairs: Vec<(Value, Value)>) -> Result<Value, Refusal>
     made(Value::from_map(alloc, ValueMap::from_ascending(pairs)))
 }
 
-/// What was made of values, whose making fails only when out of memory.
+/// Converts the error, which is always OutOfMemory.
 fn made<T: Drop>(answer: Result<T, Error>) -> Result<T, Refusal>
     ensures { MatchResult result (λ value. answer ≡ Ok value) (λ e. e ≡ Refusal.OutOfMemory) }
 {

@@ -1,4 +1,4 @@
--- What the words of a command line ask for.
+-- The meaning of the command line.
 use Rattle.std.specs.Prelude.{ℕ, ◌^◌, List, codes, [], ◌∷◌, ◌++◌, length, map, drop, slice_index, Option, None, Some, option_map, Bool, true, false}
 use Rattle.std.specs.Prelude.{◌&&◌, ◌==◌, nat_lt, if◌then◌else◌, string_bytes}
 use Rattle.std.specs.Borrow.{Bor}
@@ -10,8 +10,8 @@ use Rattle.mj_words.specs.declared.arguments.Arguments.{Arguments}
 abbrev pub Text : Type 0
 Text = List ℕ
 
--- the texts by name in their order, the JSON file of the context, the fuel, how deep scopes may lie, the file of the template that is
--- rendered, and those of the others in their order
+-- the texts by name, in order; the JSON file of the context; the fuel; the recursion limit; the
+-- file of the rendered template; and the other files, in order
 pub record ArgumentsValue : Type 0 where
   pub texts : List (Text × Text)
   pub json : Option Text
@@ -20,7 +20,7 @@ pub record ArgumentsValue : Type 0 where
   pub file : Text
   pub others : List Text
 
--- before the first file, a word that begins with `-` and is not `-` alone
+-- before the first file: a word that begins with `-`, but isn't `-`
 abbrev pub is_option : Text → Bool
 is_option word = nat_lt 1 (length word) && (slice_index word 0 == 45)
 
@@ -28,7 +28,7 @@ is_option word = nat_lt 1 (length word) && (slice_index word 0 == 45)
 abbrev pub is_input : Text → Bool
 is_input word = bytes_eq word (codes "-")
 
--- standard input is named once at most among files, counting whether it was named before them
+-- the files name standard input at most once; `named` says whether it was named before them
 abbrev pub are_files : Bool → List Text → Bool
 are_files named [] = true
 are_files named (word ∷ words) =
@@ -39,13 +39,13 @@ are_files named (word ∷ words) =
 abbrev pub begins_definition : Text → Bool
 begins_definition word = nat_lt 1 (length word) && ((slice_index word 0 == 45) && (slice_index word 1 == 68))
 
--- the number that a word of decimal digits alone writes, where 64 bits hold it
+-- the number, if the word consists of decimal digits and the number fits 64 bits
 abbrev pub number : Text → Option ℕ
 number word =
     if nat_lt 0 (length word) && (all_ascii_digits word && nat_lt (digits_value 10 word) (2 ^ 64))
     then Some (digits_value 10 word) else None
 
--- what stands before and after the first `=` of a word
+-- the parts before and after the first `=` of a word
 abbrev pub definition : Text → Option (Text × Text)
 definition word =
     if nat_lt (position_or_len (λ b. b == 61) word) (length word)
@@ -59,8 +59,8 @@ abbrev pub with_text : Option (Text × Text) → (Text × Text → Option Argume
 with_text None go_on = None
 with_text (Some p) go_on = go_on p
 
--- what words ask for, after others that gave these texts, this JSON file, this fuel and this limit: options, and then files, as which each
--- word counts from the first on that is no option
+-- the parsed words, after others with these texts, this JSON file, this fuel and this limit:
+-- options, and then files; each word from the first non-option on is a file
 abbrev mutual
   pub asked : List (Text × Text) → Option Text → Option ℕ → Option ℕ → List Text → Option ArgumentsValue
   asked texts json fuel limit [] = None
@@ -76,12 +76,12 @@ abbrev mutual
       then Some (record { texts = texts; json = json; fuel = fuel; limit = limit; file = word; others = words })
       else None
 
-  -- the same after `--json`, whose file stands in place of an earlier one, whatever its name is
+  -- the same after `--json`; the file replaces an earlier one, whatever its name
   pub asked_json : List (Text × Text) → Option ℕ → Option ℕ → List Text → Option ArgumentsValue
   asked_json texts fuel limit [] = None
   asked_json texts fuel limit (word ∷ words) = asked texts (Some word) fuel limit words
 
-  -- the same after `--fuel`, whose number stands in place of an earlier one
+  -- the same after `--fuel`; the number replaces an earlier one
   pub asked_fuel : List (Text × Text) → Option Text → Option ℕ → List Text → Option ArgumentsValue
   asked_fuel texts json limit [] = None
   asked_fuel texts json limit (word ∷ words) = with_number (number word) (λ n. asked texts json (Some n) limit words)
@@ -100,7 +100,7 @@ abbrev mutual
 abbrev pub plain : Bor Text × Bor Text → Text × Text
 plain p = (p.0.now, p.1.now)
 
--- what arguments ask for
+-- the parsed arguments as plain data
 abbrev pub asked_of : Arguments → ArgumentsValue
 asked_of a = record {
   texts = map plain a.texts.items;
@@ -111,10 +111,10 @@ asked_of a = record {
   others = map string_bytes a.others.now;
 }
 
--- the files of the words in their order
+-- the files, in order
 abbrev pub files_of : Arguments → List Text
 files_of a = a.file.now ∷ map string_bytes a.others.now
 
--- what the words after these arguments ask for
+-- the parsed words after these arguments
 abbrev pub asked_after : Arguments → List Text → Option ArgumentsValue
 asked_after a words = asked (map plain a.texts.items) (option_map (λ p. p.now) a.json) a.fuel a.limit words

@@ -1,4 +1,4 @@
--- What the program tells on standard error, and its exit status there.
+-- The messages on standard error, and the exit status.
 use Rattle.std.specs.Prelude.{◌≡◌, ℕ, ◌<◌, ◌-◌, ◌^◌, List, [], ◌∷◌, ◌++◌, codes, Option, Result, MatchResult}
 use Rattle.std.specs.Io.KnownBytes.{Appends}
 use Rattle.tm_values.specs.Name.{kind_name}
@@ -17,11 +17,11 @@ abbrev pub causes : List ErrorKind → Text
 causes [] = []
 causes (kind ∷ kinds) = line (codes "cause: ") kind ++ causes kinds
 
--- an error of this kind and these causes: a line of each
+-- an error of this kind with these causes, one per line
 abbrev pub message : ErrorKind → List ErrorKind → Text
 message kind kinds = line (codes "error: ") kind ++ causes kinds
 
--- how the program is called
+-- the usage line
 abbrev pub usage : Text
 usage = codes "usage: mj [-D name=text].. [--json FILE] [--fuel N] [--limit N] FILE..\n"
 
@@ -29,20 +29,20 @@ abbrev pub refusal_message : Refusal → Text
 refusal_message Usage = usage
 refusal_message OutOfMemory = message kind.OutOfMemory []
 
--- the exit status where there is nothing to run
+-- the exit status if nothing can be run
 abbrev pub refusal_status : Refusal → ℕ
 refusal_status Usage = 2
 refusal_status OutOfMemory = 1
 
--- The writer got the text; or it failed, and got a beginning of it.
+-- The writer got the text; or it failed, and got a beginning of the text.
 abbrev pub IsWritten : {W E : Type 0} → (W → Option Text) → Result (Unit {0}) E → Tally W → Tally W → Text → Type 0
 IsWritten contents result old new text =
     MatchResult result
     (λ _. Appends (contents old.writer) (contents new.writer) text × (new.failures ≡ old.failures))
     (λ _. AppendsBeginning (contents old.writer) (contents new.writer) text × (new.failures ≡ saturating_increment old.failures))
 
--- The writer got a beginning of the text, and all of it where its count of failures didn't rise; a count that stands at its greatest value
--- tells nothing.
+-- The writer got a beginning of the text, and all of it if its count of failures didn't rise. A
+-- count at the largest value says nothing.
 abbrev pub IsTold : {W : Type 0} → (W → Option Text) → Tally W → Tally W → Text → Type 0
 IsTold contents old new text =
     AppendsBeginning (contents old.writer) (contents new.writer) text

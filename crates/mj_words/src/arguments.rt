@@ -1,4 +1,4 @@
-//! The words of a command line.
+//! Parsing the arguments of the command line.
 ghost use Rattle.std.specs.Prelude.{◌≡◌, ◌<◌, ◌≤◌, ◌⊎◌, ◌↔◌, [], ◌∷◌, None, Some, false, true, drop, length, map, string_bytes};
 ghost use Rattle.std.specs.Prelude.{IfOk, MatchOption, MatchResult};
 ghost use Rattle.std.specs.IoError.{error_kind};
@@ -7,34 +7,35 @@ ghost use Rattle.mj_words.specs.CommandLine as spec;
 use std::alloc::{AllocError, AllocFailed, Global};
 use std::io::{self, ErrorKind};
 
-/// What a command line asks for.
+/// The parsed command line.
 #[derive(Drop)]
 pub struct Arguments<'a> {
-    /// The names of the context and their texts, of which the last of a name counts.
+    /// The names in the context and their texts; of equal names, the last one counts.
     pub texts: Vec<(&'a str, &'a str)>,
-    /// The JSON file whose object the context begins with, where one is named; always a path.
+    /// The path of the JSON file whose object the context begins with, if one is given. It is
+    /// always a path, even if it is `-`.
     pub json: Option<&'a str>,
-    /// The fuel of the render, where it is limited.
+    /// The fuel of the render, if it is limited.
     pub fuel: Option<u64>,
-    /// How deep scopes may lie, where that is said.
+    /// The recursion limit, if it is set.
     pub limit: Option<u64>,
-    /// The file of the template that is rendered; `-` is standard input.
+    /// The file of the template that is rendered; `-` means standard input.
     pub file: &'a str,
-    /// The files of other templates, whatever their names begin with.
+    /// The files of the other templates, even if their names begin with `-`.
     pub others: &'a [String],
 }
 
-/// Why there is nothing to run.
+/// The reason why nothing can be run.
 #[derive(Clone, Copy, Debug, PartialEq, Eq)]
 pub enum Refusal {
-    /// The words or the file do not serve.
+    /// The arguments or a file can't be used.
     Usage,
-    /// No memory was found.
+    /// Memory ran out.
     OutOfMemory,
 }
 
 impl Refusal {
-    /// Why a read that failed gives nothing to run. Running out of memory says nothing of what was read.
+    /// The refusal for a failed read. Running out of memory says nothing about what was read.
     pub fn of_read(error: &io::Error) -> Refusal
         ensures { (result ≡ Refusal.OutOfMemory)
             ↔ (error_kind error.now ≡ ErrorKind.OutOfMemory) }
@@ -69,10 +70,9 @@ impl<T: Drop> From<AllocFailed<T>> for Refusal {
     }
 }
 
-/// Reads the words after the program's name: options, and then files. From the first file on each
-/// word is one, also where it begins with `-`. Usage where an option is unknown or lacks its word,
-/// where no file follows, and where standard input is named twice; OutOfMemory where no memory is
-/// found.
+/// Parses the words after the program's name: options, and then files. From the first file on, each
+/// word is a file, even if it begins with `-`. Usage if an option is unknown or lacks its argument,
+/// if there is no file, or if standard input is named twice. OutOfMemory if memory runs out.
 pub fn parse(alloc: Global, words: &[String]) -> Result<Arguments<'_>, Refusal>
     ensures asked { let asked = spec.asked [] None None None (map string_bytes words.now) in
         MatchResult result
@@ -103,9 +103,8 @@ pub fn parse(alloc: Global, words: &[String]) -> Result<Arguments<'_>, Refusal>
     Err(Refusal::Usage)
 }
 
-/// Takes an option, with its word where it has one, into the arguments; gives the words after it.
-/// Usage where the option is unknown or its word is none for it, OutOfMemory where no memory is
-/// found.
+/// Parses an option and its argument, if it has one, and returns the words after it. Usage if the
+/// option is unknown or its argument is invalid. OutOfMemory if memory runs out.
 fn take_option<'a>(
     arguments: &mut Arguments<'a>,
     option: &'a str,
@@ -154,7 +153,7 @@ fn first(words: &[String]) -> Option<(&str, &[String])>
     }
 }
 
-/// Whether standard input is named once at most among files.
+/// Whether the files name standard input at most once.
 fn are_files(words: &[String]) -> bool
     ensures { result ≡ spec.are_files false (map string_bytes words.now) }
 {
@@ -170,7 +169,7 @@ fn are_files(words: &[String]) -> bool
     true
 }
 
-/// Whether a word before the first file is an option: it begins with `-`, and is not `-` alone.
+/// Whether a word before the first file is an option: it begins with `-`, but isn't `-`.
 fn is_option(word: &str) -> bool
     ensures { result ≡ spec.is_option word.now }
 {
@@ -185,7 +184,7 @@ fn definition(word: &str) -> Option<(&str, &str)>
     word.split_once('=')
 }
 
-/// What follows `-D` in a word.
+/// The rest of a word after `-D`.
 fn joined(word: &str) -> Option<&str>
     ensures { MatchOption result (spec.begins_definition word.now ≡ false)
         (λ t. (spec.begins_definition word.now ≡ true) × (t.now ≡ drop 2 word.now)) }
@@ -198,11 +197,11 @@ fn joined(word: &str) -> Option<&str>
     }
 }
 
-/// The number that a word of decimal digits alone writes, where 64 bits hold it.
+/// The number, if the word consists of decimal digits and the number fits 64 bits.
 fn number(word: &str) -> Option<u64>
     ensures { result ≡ spec.number word.now }
 {
-    // The library's own reading takes a plus in front.
+    // `parse` would accept a leading plus.
     if word.starts_with('+') {
         return None;
     }

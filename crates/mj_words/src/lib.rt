@@ -1,4 +1,4 @@
-//! The words of the program: what a command line asks for, and what is written to standard error.
+//! The command line of the program, and its messages on standard error.
 #![tactic(auto)]
 
 mod arguments;

@@ -1,4 +1,4 @@
-//! What the program tells on standard error.
+//! The messages on standard error.
 ghost use Rattle.std.specs.Prelude.{◌≡◌, List, ◌∷◌};
 ghost use Rattle.tm_values.specs.declared.error.ErrorKind.{ErrorKind as Kind};
 ghost use Rattle.mj_words.specs.Told.{IsTold, IsWritten, line, message, refusal_message, refusal_status};
@@ -8,17 +8,17 @@ use std::io::{self, Write};
 use tm_parts::{Counted, write_text};
 use tm_values::{Error, ErrorKind};
 
-/// The line that tells how the program is called.
+/// The usage line.
 const USAGE: &str = "usage: mj [-D name=text].. [--json FILE] [--fuel N] [--limit N] FILE..\n";
 
-/// The status of a fault in a template, a render or the writing of it.
+/// The exit status of a fault in a template, in a render or in writing the output.
 const FAULT: u8 = 1;
 
-/// The status of wrong arguments and of a file that gives no text.
+/// The exit status of wrong arguments, and of a file that can't be used.
 const WRONG_USE: u8 = 2;
 
-/// Tells why there is nothing to run, and gives the exit status. A fault of standard error can be
-/// written nowhere.
+/// Writes the message for a refusal, and returns the exit status. A failure of standard error can't
+/// be reported.
 pub fn tell_refusal<E: Write + Drop>(err: &mut Counted<E>, refusal: Refusal) -> u8
     ensures status { result ≡ refusal_status refusal }
     ensures told { IsTold E.contents err.old err.new (refusal_message refusal) }
@@ -32,8 +32,8 @@ pub fn tell_refusal<E: Write + Drop>(err: &mut Counted<E>, refusal: Refusal) -> 
     }
 }
 
-/// Tells an error and its causes, a line each, and gives the exit status. A fault of standard error
-/// can be written nowhere.
+/// Writes an error and its causes, one per line, and returns the exit status. A failure of standard
+/// error can't be reported.
 pub fn tell_error<E: Write + Drop>(err: &mut Counted<E>, error: &Error) -> u8
     ensures status { result ≡ 1 }
     ensures told { (kind : Kind) × (kinds : List Kind) × (error.now ≡ kind ∷ kinds)
@@ -43,7 +43,7 @@ pub fn tell_error<E: Write + Drop>(err: &mut Counted<E>, error: &Error) -> u8
     FAULT
 }
 
-/// Writes an error and its causes, a line each; the writer's error.
+/// Writes an error and its causes, one per line; or returns the writer's error.
 fn write_error<E: Write + Drop>(err: &mut Counted<E>, error: &Error) -> io::Result<()>
     ensures { (kind : Kind) × (kinds : List Kind) × (error.now ≡ kind ∷ kinds)
         × IsWritten E.contents result err.old err.new (message kind kinds) }
@@ -57,7 +57,7 @@ fn write_error<E: Write + Drop>(err: &mut Counted<E>, error: &Error) -> io::Resu
     Ok(())
 }
 
-/// Writes a word and a kind as a line; the writer's error.
+/// Writes a word and a kind as a line; or returns the writer's error.
 fn write_line<E: Write + Drop>(err: &mut Counted<E>, word: &str, kind: ErrorKind) -> io::Result<()>
     ensures { IsWritten E.contents result err.old err.new (line word.now kind) }
 {

@@ -1,4 +1,5 @@
--- Shapes that fit the code of a tree, where each instruction stands as the code's structure tells.
+-- Shapes that fit the code of a tree, with each instruction's surroundings as the structure of the
+-- code says.
 use Rattle.std.specs.Prelude.{◌≡◌, ℕ, List, ◌∷◌, length, Option, Some, None, slice_get, true}
 use Rattle.tm_trees.specs.Instructions.{Instruction}
 use Rattle.tm_syntax.specs.Blocks.{StreamTree, statements, expression}
@@ -13,12 +14,13 @@ use Rattle.tm_shapes.specs.Search.{Has}
 use Rattle.tm_shapes.specs.Accepts.{Readings, all_seeds, ask_all, ends_with, left_by, no_shapes}
 use Rattle.tm_accepted.specs.Sites.{Piece, row_start, pieces, site_by}
 
--- what the code of a tree is for
+-- the form of a tree's code
 abbrev pub form_of : StreamTree → Form
 form_of (statements body) = forms.Template
 form_of (expression x) = forms.Expression
 
--- Shapes meet the rules, each 0 read so, and each instruction being of what the fragment tells; and a value goes by a row into a group alone.
+-- The shapes meet the rules, with each 0 read in the given way, and each instruction in the piece
+-- that the fragment says. A value goes into a group only by a row.
 pub record Laid (read : Readings) (form : Form) (c : Fragment) (code : List Instruction) (shapes : Shapes) : Type 0 where
   pub long : length shapes ≡ length (no_shapes code)
   pub starts : (k : ℕ) (e : ℕ × Shape) → slice_get (all_seeds code) k ≡ Some e → shape_at shapes e.0 ≡ Some e.1

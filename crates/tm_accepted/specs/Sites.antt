@@ -1,4 +1,4 @@
--- Where instructions stand in the code of a tree, as far as a flow asks.
+-- The surroundings of instructions in the code of a tree, as far as a flow depends on them.
 use Rattle.std.specs.Prelude.{ℕ, pos, List, [], ◌∷◌, ◌++◌, Option, Bool, true, false}
 use Rattle.tm_values.specs.Val.{number}
 use Rattle.tm_trees.specs.Instructions.{Instruction}
@@ -7,8 +7,8 @@ use Rattle.tm_syntax.specs.Fragments.{Fragment, straight, ◌⨾◌, jump_out, b
 use Rattle.tm_shapes.specs.declared.kind.Reading.{Reading}
 use Rattle.tm_shapes.specs.Flows.{Site}
 
--- What an instruction is of: of nothing in particular; of the three that build a macro the first or the second; of the three that put a value
--- into a group the first or the second.
+-- The piece of code that an instruction belongs to: nothing in particular; the first or second of
+-- the three that build a macro; or the first or second of the three that add a value to a group.
 pub data Piece : Type 0 where
   ordinary : Piece
   closure_of_macro : Piece
@@ -16,18 +16,18 @@ pub data Piece : Type 0 where
   row_start : Piece
   one_of_row : Piece
 
--- of instructions in a row
+-- the pieces of straight instructions
 abbrev pub pieces_of : List Instruction → List Piece
 pieces_of [] = []
 pieces_of (i.Swap ∷ i.LoadConst v ∷ i.Add ∷ is) = row_start ∷ one_of_row ∷ ordinary ∷ pieces_of is
 pieces_of (x ∷ is) = ordinary ∷ pieces_of is
 
--- of the instructions that build a macro
+-- the pieces of the instructions that build a macro
 abbrev pub building_pieces : List (List ℕ) → List Piece
 building_pieces [] = closure_of_macro ∷ names_of_macro ∷ ordinary ∷ []
 building_pieces (x ∷ xs) = ordinary ∷ building_pieces xs
 
--- of code, one for each instruction
+-- the pieces of code, one for each instruction
 abbrev pub pieces : Fragment → List Piece
 pieces (straight is) = pieces_of is
 pieces (c ⨾ d) = pieces c ++ pieces d
@@ -39,7 +39,7 @@ pieces break_loop = ordinary ∷ []
 pieces next_round = ordinary ∷ []
 pieces (declares m c) = ordinary ∷ (pieces c ++ ordinary ∷ building_pieces m.free)
 
--- what stands after it, as far as a flow asks
+-- what follows it, as far as a flow depends on it
 abbrev pub rest_of : Piece → List Instruction
 rest_of closure_of_macro = i.LoadConst (number (pos 0)) ∷ i.BuildMacro [] 0 false ∷ []
 rest_of names_of_macro = i.BuildMacro [] 0 false ∷ []

@@ -1,5 +1,5 @@
-//! Proofs: which streams are accepted. A search finds shapes where there are any, and the code of every tree is accepted. The functions here
-//! are laws: they run nothing.
+//! Proofs about which streams are accepted: the search finds shapes if there are any, and the code
+//! of every tree is accepted. The functions here are laws: they run nothing.
 #![tactic(auto)]
 
 ghost use Rattle.std.specs.Prelude.{◌≡◌, ◌⊎◌, ℕ, List, [], ◌∷◌, Some, is_some, length, slice_get, true};
@@ -21,9 +21,9 @@ ghost use Rattle.tm_syntax.specs.Fragments.{assembled};
 ghost use Rattle.tm_trees.specs.Instructions.{Instruction};
 ghost use Rattle.tm_trees.specs.Instructions.instructions.{Swap};
 
-/// The code of every tree has shapes, where each `LoadConst 0` is read as a value or as a group, and as
-/// a group only where no operand lies below it; and a value goes by `Swap`, `LoadConst 1` and `Add` into
-/// a group alone.
+/// The code of every tree has shapes in which each `LoadConst 0` is read as a value or as a group,
+/// and as a group only if no operand is below it. A value goes into a group only by `Swap`,
+/// `LoadConst 1` and `Add`.
 pub fn the_code_of_trees_has_shapes()
     ensures { (tree : StreamTree) → let code = assembled (fragment_of tree) in
         (read : Readings) × (shapes : Shapes)
@@ -33,12 +33,13 @@ pub fn the_code_of_trees_has_shapes()
         × Laid read (form_of tree) (fragment_of tree) code shapes }
 {}
 
-/// What is tested at every instruction, reached or not, holds of the code of trees.
+/// The checks of every instruction, reached or not, accept the code of trees.
 pub fn the_code_of_trees_is_placed()
     ensures { (tree : StreamTree) → is_placed (numbered (assembled (fragment_of tree))) ≡ true }
 {}
 
-/// Where an instruction stands in the code of a tree is, as far as a flow asks, what it is of.
+/// In the code of a tree, the surroundings of an instruction, as far as a flow depends on them,
+/// follow from the piece of code that it belongs to.
 pub fn the_code_of_trees_has_sites()
     ensures { (tree : StreamTree) (a : Asked) (n : ℕ) (x : Instruction) (p : Piece) (s : Shape) →
         let code = numbered (assembled (fragment_of tree)) in
@@ -47,8 +48,8 @@ pub fn the_code_of_trees_has_sites()
         flow_of (site_of a code n) x s ≡ flow_of (site_by p (a.read n) a.returned n) x s }
 {}
 
-/// Code with its cache numbers leads where it led before, and has as many places and the same
-/// entries of macros.
+/// Adding cache numbers to code changes neither where it leads, nor its length, nor the entries of
+/// its macros.
 pub fn numbers_change_no_flow()
     ensures flows { (code : List Instruction) (n : ℕ) (x y : Instruction) (at : Site) (s : Shape) →
         slice_get code n ≡ Some x → slice_get (numbered code) n ≡ Some y →
@@ -57,8 +58,8 @@ pub fn numbers_change_no_flow()
     ensures seeds { (code : List Instruction) → entry_seeds (numbered code) ≡ entry_seeds code }
 {}
 
-/// A stream that is accepted has shapes; and one is accepted whose parts stand together, and where shapes
-/// meet the rules with each `LoadConst 0` taken as a value.
+/// An accepted stream has shapes. A stream is accepted if it passes the checks of every instruction
+/// and there are shapes that meet the rules with each `LoadConst 0` read as a value.
 pub fn a_stream_is_accepted_where_shapes_fit()
     ensures shaped { (form : Form) (code : List Instruction) → accepts form code ≡ true →
         (shapes : Shapes) × IsShaped code shapes }
@@ -66,9 +67,10 @@ pub fn a_stream_is_accepted_where_shapes_fit()
         MeetsRules all_values form code → accepts form code ≡ true }
 {}
 
-/// Where shapes fit a stream with each 0 read as a value or as a group, shapes are found that fit it with each 0 read as it is
-/// taken: if those that are groups are loaded over no operand of their part, and where a value is added to a group, by `Swap`,
-/// `LoadConst 1` and `Add` in a row, what is below isn't a value.
+/// If shapes fit a stream with each 0 read as a value or as a group, the search finds shapes with
+/// each 0 read as it is taken, under two conditions. A 0 read as a group is loaded with no operand
+/// of its part below it. And if `Swap`, `LoadConst 1` and `Add` in a row add a value to the operand
+/// below it, that operand isn't a value.
 pub fn what_takes_a_group_is_found()
     ensures { (code : List Instruction) (read : Readings) (form : Form) (shapes : Shapes) →
         ((n : ℕ) → (read n ≡ readings.Value) ⊎ (read n ≡ readings.Group)) →

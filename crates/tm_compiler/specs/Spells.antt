@@ -1,4 +1,4 @@
--- Which source spells which tree.
+-- The tree of a source.
 use Rattle.std.specs.Prelude.{ℕ, List}
 use Rattle.tm_syntax.specs.declared.token.Token.{Token}
 use Rattle.tm_trees.specs.Trees.{Tree}
@@ -6,7 +6,7 @@ use Rattle.tm_delimiters.specs.Syntax.{Syntax}
 use Rattle.tm_scanner.specs.Spells.{SpellsParts, SpellsTokens}
 use Rattle.tm_parser.specs.Template.{SpellsExpression, SpellsTemplate}
 
--- The source is these tokens, by the delimiters, and they are the tree.
+-- With these delimiters, the source has these tokens, and they have this tree.
 pub record Spells (syntax : Syntax) (source : List ℕ) (tree : Tree) : Type 0 where
   pub tokens : List Token
   pub scanned : SpellsTokens syntax source tokens
@@ -15,7 +15,7 @@ pub record Spells (syntax : Syntax) (source : List ℕ) (tree : Tree) : Type 0 w
 abbrev pub SpellsNone : Syntax → List ℕ → Type 0
 SpellsNone syntax source = (tree : Tree) → Spells syntax source tree → ⊥
 
--- The source is these tokens, without delimiters, and they are the tree of one expression.
+-- Without delimiters, the source has these tokens, and they have this tree of one expression.
 pub record SpellsExpr (source : List ℕ) (tree : Tree) : Type 0 where
   pub tokens : List Token
   pub scanned : SpellsParts source tokens

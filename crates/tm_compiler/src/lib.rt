@@ -1,4 +1,4 @@
-//! From a source to its tree, and from a tree to its streams.
+//! Compiling a source to its tree, and a tree to its streams.
 #![tactic(auto)]
 
 mod source;

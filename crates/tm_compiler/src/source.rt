@@ -1,4 +1,4 @@
-//! A source as a tree.
+//! Parsing a source into a tree.
 ghost use Rattle.std.specs.Prelude.{◌≡◌, ℕ, List, IfOk, IfErr};
 ghost use Rattle.std.specs.Rc.{rc_str_bytes};
 ghost use Rattle.tm_compiler.specs.Spells.{Spells, SpellsExpr, SpellsNoExpr, SpellsNone};
@@ -13,8 +13,8 @@ use tm_scanner::{SyntaxConfig, scan, scan_expr};
 use tm_syntax::Tree;
 use tm_values::Error;
 
-/// The tree of the template that a source spells; its raw texts share the source. SyntaxError where it
-/// spells none; OutOfMemory when out of memory.
+/// Parses a template. The raw texts of its tree share the source. SyntaxError if the source isn't a
+/// valid template. OutOfMemory if memory runs out.
 pub fn parse(alloc: Global, source: &RcStr, syntax: &SyntaxConfig) -> Result<Tree, Error>
     ensures found { IfOk result (Spells syntax.now (rc_str_bytes source.now)) }
     ensures refused { IfErr result
@@ -24,8 +24,8 @@ pub fn parse(alloc: Global, source: &RcStr, syntax: &SyntaxConfig) -> Result<Tre
     parse_tokens(alloc, &tokens)
 }
 
-/// The tree of the expression that a source spells, without delimiters. SyntaxError where it spells none;
-/// OutOfMemory when out of memory.
+/// Parses an expression, without delimiters. SyntaxError if the source isn't a valid expression.
+/// OutOfMemory if memory runs out.
 pub fn parse_expr(alloc: Global, source: &str) -> Result<Tree, Error>
     ensures found { IfOk result (SpellsExpr source.now) }
     ensures refused { IfErr result (λ e. Refused e (SpellsNoExpr source.now)) }
@@ -34,7 +34,7 @@ pub fn parse_expr(alloc: Global, source: &str) -> Result<Tree, Error>
     parse_expr_tokens(alloc, &tokens)
 }
 
-/// A source spells at most one template's tree.
+/// A source has at most one tree as a template.
 pub fn one_tree()
     ensures { (syntax : Syntax) (source : List ℕ) (a b : Meant) →
         Spells syntax source a → Spells syntax source b → a ≡ b }
@@ -42,7 +42,7 @@ pub fn one_tree()
     tm_parser::one_tree();
 }
 
-/// A source spells at most one expression's tree.
+/// A source has at most one tree as an expression.
 pub fn one_expr()
     ensures { (source : List ℕ) (a b : Meant) →
         SpellsExpr source a → SpellsExpr source b → a ≡ b }

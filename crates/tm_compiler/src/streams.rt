@@ -11,16 +11,16 @@ use tm_shapes::{BlockCode, Verified};
 use tm_syntax::{NameMap, Tree};
 use tm_values::Error;
 
-/// The streams of a template, or of an expression.
+/// The streams of a template or an expression.
 #[derive(Drop)]
 pub struct Streams {
-    /// What a render runs, or what the expression is evaluated by.
+    /// The code that a render runs, or that evaluates the expression.
     pub root: Verified,
-    /// What its blocks run, by name; an expression has none.
+    /// The code of its blocks, by name; an expression has none.
     pub blocks: NameMap<BlockCode>,
 }
 
-/// The streams of a tree, which share its texts and literals; OutOfMemory.
+/// The streams of a tree. They share its texts and literals. OutOfMemory if memory runs out.
 pub fn generate(alloc: Global, tree: &Tree) -> Result<Streams, Error>
     ensures root { IfOk result (λ s. s.root ≡ code_of (stream_of tree.now)) }
     ensures blocks { IfOk result

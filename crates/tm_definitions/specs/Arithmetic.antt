@@ -1,10 +1,11 @@
--- Arithmetic: of whole numbers, truth values among them; `+` also joins two texts or two lists.
+-- Arithmetic on whole numbers, including truth values; `+` also concatenates two texts or two
+-- lists.
 use Rattle.std.specs.Prelude.{ℕ, ℤ, false, List, ◌++◌, Option, None, Some, Ok}
 use Rattle.tm_primitives.specs.Whole.{sum_of, difference_of, product_of, quotient_of, remainder_of, power_of, negation_of}
 use Rattle.tm_values.specs.Answer.{Answer, invalid}
 use Rattle.tm_values.specs.Val.{Val, number, text, list, list_of, vals_of, text_in, list_in, whole_in}
 
--- a number, where there is one
+-- a number, if there is one
 abbrev pub number_answer : Option ℤ → Answer Val
 number_answer None = invalid
 number_answer (Some z) = Ok (number z)
@@ -18,11 +19,11 @@ abbrev pub applied : (ℤ → ℤ → Option ℤ) → Option (ℤ × ℤ) → An
 applied f None = invalid
 applied f (Some p) = number_answer (f p.0 p.1)
 
--- the result for two numbers; other values have none
+-- the result for two numbers; InvalidOperation for other values
 abbrev pub by_wholes : (ℤ → ℤ → Option ℤ) → Val → Val → Answer Val
 by_wholes f l r = applied f (both (whole_in l) (whole_in r))
 
--- the two texts one after another, not safe
+-- two texts concatenated, not marked safe
 abbrev pub text_added : List ℕ → Option (List ℕ) → Answer Val
 text_added s None = invalid
 text_added s (Some t) = Ok (text (s ++ t) false)
@@ -42,7 +43,7 @@ subtracted = by_wholes difference_of
 abbrev pub multiplied : Val → Val → Answer Val
 multiplied = by_wholes product_of
 
--- the quotient and the remainder of Euclid: the remainder is never negative
+-- Euclidean quotient and remainder: the remainder is never negative
 abbrev pub floor_divided : Val → Val → Answer Val
 floor_divided = by_wholes quotient_of
 

@@ -12,7 +12,7 @@ use Rattle.tm_values.specs.Val.{Val}
 use Rattle.tm_values.specs.declared.undefined.UndefinedBehavior.{UndefinedBehavior}
 use Rattle.tm_values.specs.declared.undefined.UndefinedUse.TheVariants as use_of
 
--- whether values that stand to one another so compare so
+-- whether the comparison holds for two values in this order
 abbrev pub is_met : ComparisonOperator → Ordering → Bool
 is_met Equal o = is_eq o
 is_met NotEqual o = not (is_eq o)
@@ -21,13 +21,13 @@ is_met LessOrEqual o = not (is_gt o)
 is_met Greater o = is_gt o
 is_met GreaterOrEqual o = not (is_lt o)
 
--- whether the values compare so: `==` and `!=` go by equality, the others by the order
+-- whether the comparison holds: `==` and `!=` use equality, the others the order
 abbrev pub holds_of : ComparisonOperator → Val → Val → Bool
 holds_of Equal l r = same_value l r
 holds_of NotEqual l r = not (same_value l r)
 holds_of c l r = is_met c (val_cmp l r)
 
--- both sides are asked for being undefined, the left one first
+-- undefined operands are checked first, the left one before the right
 abbrev pub compared : ComparisonOperator → UndefinedBehavior → Val → Val → Answer Bool
 compared c b l r =
     unless (refusal_of b use_of.Comparison l)

@@ -1,4 +1,4 @@
--- `~`: the two printed texts, one after the other.
+-- `~`: the concatenation of two printed texts.
 use Rattle.std.specs.Prelude.{ℕ, false, List, ◌++◌, Ok, Err}
 use Rattle.tm_values.specs.Defined.{refusal_of, unless}
 use Rattle.tm_definitions.specs.Printed.{printed}
@@ -9,12 +9,12 @@ use Rattle.tm_values.specs.Val.{Val, text}
 use Rattle.tm_values.specs.declared.undefined.UndefinedBehavior.{UndefinedBehavior}
 use Rattle.tm_values.specs.declared.undefined.UndefinedUse.TheVariants as use_of
 
--- an answer after a verdict
+-- an answer, unless the verdict is an error
 abbrev pub where_fine : {A : Type 0} → Verdict → Answer A → Answer A
 where_fine (Ok u) answer = answer
 where_fine (Err chain) answer = Err chain
 
--- the joined text isn't safe
+-- the result isn't marked safe
 abbrev pub joined : RecordData → Val → Val → Answer Val
 joined r left right =
     where_fine (print_verdict r left)

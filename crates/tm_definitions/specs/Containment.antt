@@ -1,4 +1,4 @@
--- What `in` finds.
+-- The operator `in`.
 use Rattle.std.specs.Prelude.{ℕ, Bool, true, false, eqb, ◌||◌, ◌&&◌, List, [], ◌∷◌, Option, None, Some, Ok, is_some}
 use Rattle.std.specs.List.{list_any}
 use Rattle.tm_values.specs.Defined.{refusal_of, unless}
@@ -16,7 +16,7 @@ begins [] s = true
 begins (x ∷ n) [] = false
 begins (x ∷ n) (y ∷ s) = eqb x y && begins n s
 
--- whether the part stands anywhere in the bytes
+-- whether the part occurs anywhere in the bytes
 abbrev pub has_part : List ℕ → List ℕ → Bool
 has_part n [] = begins n []
 has_part n (y ∷ s) = begins n (y ∷ s) || has_part n s
@@ -32,7 +32,8 @@ abbrev pub namespace_contains : Option (List (Val × Val)) → Val → Answer Bo
 namespace_contains None k = invalid
 namespace_contains (Some ps) k = Ok (has_key k ps)
 
--- a part of a text, what an item of a list is equal to, or a key of a map, keyword map, module or namespace
+-- a part of a text, an item equal to the value in a list, or a key of a map, keyword map, module or
+-- namespace
 abbrev pub found_in : RecordData → Val → Val → Answer Bool
 found_in r (undefined silent) v = Ok false
 found_in r (text s safe) v = text_contains s (text_in v)
@@ -43,7 +44,7 @@ found_in r (exports ps s) v = Ok (has_key v (entries_of ps))
 found_in r (namespace state i) v = namespace_contains (namespace_at r state i) v
 found_in r _ v = invalid
 
--- the right side is asked for being undefined first, then the left one
+-- undefined operands are checked first, the right one before the left
 abbrev pub contained : UndefinedBehavior → RecordData → Val → Val → Answer Bool
 contained b r container v =
     unless (refusal_of b use_of.Containment container)

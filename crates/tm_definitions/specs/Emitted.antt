@@ -1,4 +1,4 @@
--- What an emitted value is written as, under an escape.
+-- The text that is written for an emitted value, under an escape.
 use Rattle.std.specs.Prelude.{ℕ, true, false, List, [], flat_map}
 use Rattle.std.specs.Result.{result_map_both}
 use Rattle.tm_values.specs.Answer.{Answer, invalid}
@@ -17,7 +17,7 @@ escaped_verdict escape.Html r v = print_verdict r v
 escaped_verdict escape.Json r v = json_verdict r v
 escaped_verdict (escape.Custom name) r v = invalid
 
--- a safe text can always be emitted, as it is
+-- a safe text can always be emitted, unchanged
 abbrev pub emission_verdict : AutoEscape → RecordData → Val → Verdict
 emission_verdict e r (text s true) = fine
 emission_verdict e r v = escaped_verdict e r v
@@ -35,10 +35,10 @@ abbrev pub emitted_text : AutoEscape → RecordData → Val → List ℕ
 emitted_text e r (text s true) = s
 emitted_text e r v = escaped_text e r v
 
--- an answer with its value seen another way
+-- applies a function to the value of an answer
 abbrev pub map_ok : {A B : Type 0} → (A → B) → Answer A → Answer B
 map_ok f answer = result_map_both f (λ e. e) answer
 
--- the text that a value is printed as, or what refuses to be printed
+-- the printed text of a value, or the error
 abbrev pub text_answer : RecordData → Val → Answer (List ℕ)
 text_answer r v = map_ok (λ _. printed r v) (print_verdict r v)

@@ -1,4 +1,4 @@
--- What `for` goes over, and what unpacks into several targets.
+-- Iterating over values, and unpacking them into several targets.
 use Rattle.std.specs.Prelude.{◌≡◌, ℕ, ◌==◌, false, cond, List, [], length, map as each, Option, None, Some, Ok, Err}
 use Rattle.std.specs.Char.{encode_utf8}
 use Rattle.std.specs.Str.{chars}
@@ -13,7 +13,7 @@ use Rattle.tm_values.specs.declared.error.ErrorKind.TheVariants as kind_of
 use Rattle.tm_values.specs.declared.undefined.UndefinedBehavior.{UndefinedBehavior}
 use Rattle.tm_values.specs.declared.undefined.UndefinedUse.TheVariants as use_of
 
--- The answer, read so, is what was stated, unless it is OutOfMemory.
+-- The answer, seen through `read`, is the stated one, unless it is OutOfMemory.
 abbrev pub IsAnswerRead : {A B : Type 0} → Answer A → (A → B) → Answer B → Type 0
 IsAnswerRead (Ok x) read stated = stated ≡ Ok (read x)
 IsAnswerRead (Err chain) read stated = is_memory_alone chain ≡ false → stated ≡ Err chain
@@ -21,7 +21,7 @@ IsAnswerRead (Err chain) read stated = is_memory_alone chain ≡ false → state
 abbrev pub keys_of : List (Val × Val) → List Val
 keys_of ps = each (λ p. p.0) ps
 
--- a text of each character, which isn't safe
+-- a text for each character, not marked safe
 abbrev pub character_texts : List ℕ → List Val
 character_texts cs = each (λ c. text (encode_utf8 c) false) cs
 
@@ -29,8 +29,8 @@ abbrev pub namespace_keys : Option (List (Val × Val)) → Answer (List Val)
 namespace_keys None = invalid
 namespace_keys (Some ps) = Ok (keys_of ps)
 
--- the items of a list, the keys of maps, keyword maps, modules and namespaces, the names of loops
--- and macros; other values are refused by this kind
+-- the items of a list, the keys of maps, keyword maps, modules and namespaces, or the attribute
+-- names of loops and macros; other values are refused with `kind`
 abbrev pub items_or : ErrorKind → RecordData → Val → Answer (List Val)
 items_or kind r (list vs) = Ok (list_of vs)
 items_or kind r (map ps) = Ok (keys_of (entries_of ps))
@@ -41,26 +41,26 @@ items_or kind r (loop state i) = Ok (text_values loop_names)
 items_or kind r (namespace state i) = namespace_keys (namespace_at r state i)
 items_or kind r _ = refused kind
 
--- a text's characters too, and nothing of undefined
+-- also the characters of a text; undefined has no items
 abbrev pub items_of : RecordData → Val → Answer (List Val)
 items_of r (text s safe) = Ok (character_texts (chars s))
 items_of r (undefined silent) = Ok []
 items_of r v = items_or kind_of.InvalidOperation r v
 
--- what `for` goes over
+-- the items that `for` iterates over
 abbrev pub iterated : UndefinedBehavior → RecordData → Val → Answer (List Val)
 iterated b r v = unless (refusal_of b use_of.Iteration v) (items_of r v)
 
--- exactly so many
+-- exactly n items
 abbrev pub exactly : ℕ → Answer (List Val) → Answer (List Val)
 exactly n (Ok vs) = cond (length vs == n) (Ok vs) (refused kind_of.CannotUnpack)
 exactly n (Err chain) = Err chain
 
--- what unpacks into so many targets
+-- the items unpacked into n targets
 abbrev pub unpacked : RecordData → ℕ → Val → Answer (List Val)
 unpacked r n v = exactly n (items_or kind_of.CannotUnpack r v)
 
--- what unpacks is what `for` goes over
+-- unpacking yields the items that `for` iterates over
 abbrev pub UnpacksAsIterated : Type 0
 UnpacksAsIterated =
     (b : UndefinedBehavior) (r : RecordData) (n : ℕ) (v : Val) (vs ws : List Val)

@@ -1,4 +1,4 @@
--- What a value is as JSON: `serde_json`'s data, whose compact text is written.
+-- Values as JSON: `serde_json`'s data, whose compact text is written.
 use Rattle.std.specs.Prelude.{ℕ, zero, suc, ℤ, pos, negsuc, Bool, List, [], ◌∷◌, ◌++◌, length, unwrap_or}
 use Rattle.serde_json.specs.Data as json
 use Rattle.serde_json.specs.Written.{compact_text, comma_if}
@@ -12,16 +12,16 @@ abbrev pub number_data : ℤ → json.Num
 number_data (pos n) = json.unsigned n
 number_data (negsuc n) = json.negative (negsuc n)
 
--- a key that is no text is refused, and stands without bytes
+-- a key that isn't a text is refused; here it has no bytes
 abbrev pub key_bytes : Val → List ℕ
 key_bytes k = unwrap_or (text_in k) []
 
--- what namespaces are, by state and number
+-- the data of namespaces, by state and number
 abbrev pub NamespaceData : Type 0
 NamespaceData = ℕ → ℕ → json.Data
 
 abbrev mutual
-  -- macros, functions and loops are refused, and stand as null
+  -- macros, functions and loops are refused; here they are null
   pub data_of : NamespaceData → Val → json.Data
   data_of inside (undefined silent) = json.null
   data_of inside none = json.null
@@ -49,7 +49,7 @@ abbrev mutual
 abbrev pub object_data : NamespaceData → Pairs → json.Data
 object_data inside ps = json.object (members_of inside ps)
 
--- a namespace is the object of what it holds
+-- a namespace is the object of its content
 abbrev pub namespace_data : RecordData → ℕ → NamespaceData
 namespace_data r zero s n = json.null
 namespace_data r (suc levels) s n =

@@ -1,4 +1,4 @@
--- Values whose namespaces are maps of what they hold, at any depth outside keys.
+-- Values with their namespaces replaced by maps, at any depth outside of keys.
 use Rattle.std.specs.Prelude.{ℕ, zero, suc, length, Ok, Err}
 use Rattle.tm_values.specs.Answer.{Answer, invalid}
 use Rattle.tm_values.specs.Records.{RecordData, namespace_at}
@@ -7,11 +7,11 @@ use Rattle.tm_values.specs.Val.{Vals, no_vals, val, Pairs, no_pairs, pair}
 use Rattle.tm_definitions.specs.Emitted.{map_ok}
 use Rattle.tm_definitions.specs.Printed.{entered}
 
--- what namespaces are, by state and number
+-- the maps of namespaces, by state and number
 abbrev pub NamespaceValues : Type 0
 NamespaceValues = ℕ → ℕ → Answer Val
 
--- what follows from a value that is there
+-- continues with a value that is Ok
 abbrev pub with_ok : {A B : Type 0} → Answer A → (A → Answer B) → Answer B
 with_ok (Ok x) f = f x
 with_ok (Err chain) f = Err chain
@@ -36,13 +36,13 @@ abbrev mutual
   mapped_items inside no_vals = Ok no_vals
   mapped_items inside (val v vs) = with_ok (mapped inside v) (λ x. map_ok (val x) (mapped_items inside vs))
 
-  -- keys stay as they are
+  -- keys stay unchanged
   pub mapped_pairs : NamespaceValues → Pairs → Answer Pairs
   mapped_pairs inside no_pairs = Ok no_pairs
   mapped_pairs inside (pair k v ps) = with_ok (mapped inside v) (λ x. map_ok (pair k x) (mapped_pairs inside ps))
 
--- Namespaces lie within one another at most as many levels deep as this. One that isn't there, or lies deeper, is refused: with as many
--- levels as there are namespaces the latter holds itself.
+-- `levels` limits the nesting of namespaces. A namespace that has no record, or is deeper, is
+-- refused. If `levels` is the number of namespaces, a deeper one contains itself.
 abbrev pub namespace_mapped : RecordData → ℕ → NamespaceValues
 namespace_mapped r zero s n = invalid
 namespace_mapped r (suc levels) s n =
@@ -51,6 +51,6 @@ namespace_mapped r (suc levels) s n =
 abbrev pub mapped_within : RecordData → ℕ → Val → Answer Val
 mapped_within r levels v = mapped (namespace_mapped r levels) v
 
--- a value with its namespaces as maps
+-- a value with its namespaces replaced by maps
 abbrev pub with_maps : RecordData → Val → Answer Val
 with_maps r v = mapped_within r (length r.namespaces) v

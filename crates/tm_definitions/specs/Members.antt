@@ -16,7 +16,7 @@ use Rattle.tm_values.specs.Val.{namespace, vals_of, list_of, entries_of, text_in
 use Rattle.tm_values.specs.declared.undefined.UndefinedBehavior.{UndefinedBehavior}
 use Rattle.tm_values.specs.declared.undefined.UndefinedUse.TheVariants as use_of
 
--- what is missing is undefined
+-- the value, or undefined if there is none
 abbrev pub or_undefined : Option Val → Val
 or_undefined None = undefined false
 or_undefined (Some v) = v
@@ -40,7 +40,7 @@ loop_attribute_named n =
     (cond (same_text n (codes "previtem")) (Some of_loop.PrevItem)
     (cond (same_text n (codes "nextitem")) (Some of_loop.NextItem) None))))))))))
 
--- at the item i of the loop, counted from 0; after the last item i is their number
+-- at the item with index i; after the last item, i is their number
 abbrev pub at_item : LoopData → ℕ → LoopAttribute → Val
 at_item l i of_loop.Index0 = number (pos i)
 at_item l i of_loop.Index = number (pos (i + 1))
@@ -54,7 +54,7 @@ at_item l i of_loop.Depth0 = number (pos l.depth)
 at_item l i of_loop.PrevItem = or_undefined l.previous
 at_item l i of_loop.NextItem = or_undefined l.following
 
--- before the first item all are undefined
+-- before the first item, all attributes are undefined
 abbrev pub loop_attribute_at : LoopData → Option ℕ → LoopAttribute → Val
 loop_attribute_at l None a = undefined false
 loop_attribute_at l (Some i) a = at_item l i a
@@ -63,7 +63,7 @@ abbrev pub named_attribute : LoopData → Option LoopAttribute → Val
 named_attribute l None = undefined false
 named_attribute l (Some a) = loop_attribute_at l l.place a
 
--- an attribute of a loop whose record is there
+-- an attribute of a loop that has a record
 abbrev pub loop_member : Option LoopData → List ℕ → Answer Val
 loop_member None n = invalid
 loop_member (Some l) n = Ok (named_attribute l (loop_attribute_named n))
@@ -86,7 +86,7 @@ abbrev pub namespace_member : Option (List (Val × Val)) → Val → Answer Val
 namespace_member None k = invalid
 namespace_member (Some ps) k = Ok (or_undefined (find k ps))
 
--- an attribute or an item of a value that is undefined
+-- an attribute or an item of an undefined value
 abbrev pub member_of_undefined : UndefinedBehavior → Val → Answer Val
 member_of_undefined b v = unless (refusal_of b use_of.Member v) (Ok (undefined false))
 
@@ -115,7 +115,7 @@ abbrev pub character_at : List ℕ → Option ℕ → Val
 character_at cs None = undefined false
 character_at cs (Some p) = text (encode_utf8 (slice_index_or cs p 0)) false
 
--- a character isn't safe, also of a safe text
+-- a character isn't marked safe, even if the text is
 abbrev pub text_item : List ℕ → Val → Val
 text_item s (number z) = character_at (chars s) (place_of (length (chars s)) z)
 text_item s _ = undefined false
@@ -129,7 +129,7 @@ loop_item None n = invalid
 loop_item (Some l) None = Ok (undefined false)
 loop_item (Some l) (Some n) = loop_member (Some l) n
 
--- the item of a value at a key: by key, or by a whole number that counts from either end
+-- the item at a key: of a map by key, of a list or a text by index from either end
 abbrev pub item_of : UndefinedBehavior → RecordData → Val → Val → Answer Val
 item_of b r (undefined silent) k = member_of_undefined b (undefined silent)
 item_of b r (text s safe) k = Ok (text_item s k)
@@ -142,7 +142,7 @@ item_of b r (loop state i) k = loop_item (loop_at r state i) (text_in k)
 item_of b r (namespace state i) k = namespace_member (namespace_at r state i) k
 item_of b r _ k = Ok (undefined false)
 
--- the namespace whose attributes may be set: of this state alone
+-- the namespace whose attributes may be set; it must belong to this state
 abbrev pub settable_number : ℕ → Option (List (Val × Val)) → Answer ℕ
 settable_number i None = invalid
 settable_number i (Some ps) = Ok i
@@ -151,7 +151,7 @@ abbrev pub settable : RecordData → Val → Answer ℕ
 settable r (namespace state i) = settable_number i (namespace_at r state i)
 settable r _ = invalid
 
--- which kinds can be called
+-- the kinds that can be called
 abbrev pub is_callable : Val → Bool
 is_callable (function n) = true
 is_callable (macro m) = true

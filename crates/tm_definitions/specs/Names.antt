@@ -1,4 +1,4 @@
--- The names that loops and macros have for what they tell of themselves.
+-- The names of the attributes of loops and macros.
 use Rattle.std.specs.Prelude.{ℕ, List, [], ◌∷◌, codes}
 
 abbrev pub loop_names : List (List ℕ)

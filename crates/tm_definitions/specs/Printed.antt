@@ -1,4 +1,4 @@
--- What a value is printed as.
+-- The printed text of a value.
 use Rattle.std.specs.Prelude.{ℕ, zero, suc, Bool, true, false, List, [], ◌∷◌, ◌++◌, Option, None, Some, codes, length, unwrap_or}
 use Rattle.std.specs.Fmt.{signed_decimal}
 use Rattle.tm_values.specs.Records.{RecordData, namespace_at}
@@ -14,17 +14,17 @@ truth_text true = codes "true"
 abbrev pub macro_text : MacroData → List ℕ
 macro_text m = codes "<macro " ++ (m.name ++ codes ">")
 
--- a comma and a blank after an earlier item or pair
+-- a comma and a space after an earlier item or pair
 abbrev pub comma_after : Bool → List ℕ
 comma_after false = []
 comma_after true = codes ", "
 
--- what namespaces are printed as, by state and number
+-- the printed texts of namespaces, by state and number
 abbrev pub NamespaceTexts : Type 0
 NamespaceTexts = ℕ → ℕ → List ℕ
 
 abbrev mutual
-  -- within a list or a map
+  -- the text of a value inside a list or a map
   pub inner : RecordData → NamespaceTexts → Val → List ℕ
   inner r inside (undefined silent) = codes "undefined"
   inner r inside none = codes "none"
@@ -40,7 +40,7 @@ abbrev mutual
   inner r inside (loop s n) = loop_text r s n
   inner r inside (namespace s n) = inside s n
 
-  -- the items and the closing bracket; a comma stands before each but the first of a list
+  -- the items and the closing bracket, with a comma between items
   pub inner_items : RecordData → NamespaceTexts → Bool → Vals → List ℕ
   inner_items r inside later no_vals = codes "]"
   inner_items r inside later (val v vs) =
@@ -56,25 +56,24 @@ abbrev mutual
 abbrev pub map_text : RecordData → NamespaceTexts → Pairs → List ℕ
 map_text r inside ps = codes "{" ++ inner_pairs r inside false ps
 
--- a namespace that is there, by what is in it
+-- continues with the content of a namespace, if it has a record
 abbrev pub entered : {A : Type 0} → Option (List (Val × Val)) → A → (Pairs → A) → A
 entered None missing there = missing
 entered (Some ps) missing there = there (pairs_of ps)
 
--- A namespace is printed as the map of what it holds. Namespaces lie within one another at most as
--- many levels deep as this; what lies deeper, or isn't there, is refused, and prints nothing.
+-- A namespace is printed as the map of its content. `levels` limits the nesting of namespaces. What
+-- is deeper, or has no record, is refused, and its text is empty.
 abbrev pub namespace_text : RecordData → ℕ → NamespaceTexts
 namespace_text r zero s n = []
 namespace_text r (suc levels) s n =
     entered (namespace_at r s n) [] (map_text r (namespace_text r levels))
 
--- what stands for itself where it isn't within a list or a map: undefined prints nothing, and a
--- text has no quotes
+-- the text of a value on its own: undefined prints nothing, and a text has no quotes
 abbrev pub bare_text : Val → Option (List ℕ)
 bare_text (undefined silent) = Some []
 bare_text (text s safe) = Some s
 bare_text v = None
 
--- There are as many levels as there are namespaces.
+-- The number of levels is that of the namespaces.
 abbrev pub printed : RecordData → Val → List ℕ
 printed r v = unwrap_or (bare_text v) (inner r (namespace_text r (length r.namespaces)) v)

@@ -1,4 +1,4 @@
--- What `*` and `**` give to a call.
+-- The arguments that `*` and `**` add to a call.
 use Rattle.std.specs.Prelude.{List, [], ◌∷◌, ◌++◌, Ok}
 use Rattle.tm_definitions.specs.Iteration.{items_of}
 use Rattle.tm_definitions.specs.Maps.{namespace_pairs}
@@ -11,12 +11,12 @@ use Rattle.tm_values.specs.Val.{Val, map, keywords, exports, namespace, entries_
 use Rattle.tm_values.specs.declared.undefined.UndefinedBehavior.{UndefinedBehavior}
 use Rattle.tm_values.specs.declared.undefined.UndefinedUse.TheVariants.{ItemSpread, KeywordSpread}
 
--- what each value gives, one after the other; the first refusal is that of all
+-- the results for each value, concatenated; the first error is the result
 abbrev pub joined : {A : Type 0} → (Val → Answer (List A)) → List Val → Answer (List A)
 joined f [] = Ok []
 joined f (v ∷ vs) = given (f v) (λ xs. given (joined f vs) (λ ys. Ok (xs ++ ys)))
 
--- the items of a value that stands after `*`
+-- the items of a value after `*`
 abbrev pub spread_items : UndefinedBehavior → RecordData → Val → Answer (List Val)
 spread_items b r v = unless (refusal_of b ItemSpread v) (items_of r v)
 
@@ -31,10 +31,10 @@ pairs_in r (exports ps s) = Ok (entries_of ps)
 pairs_in r (namespace state i) = namespace_pairs (namespace_at r state i)
 pairs_in r _ = invalid
 
--- the pairs of a value that stands after `**`
+-- the pairs of a value after `**`
 abbrev pub spread_pairs : UndefinedBehavior → RecordData → Val → Answer (List (Val × Val))
 spread_pairs b r v = unless (refusal_of b KeywordSpread v) (pairs_in r v)
 
--- the map of the pairs of all: of equal keys the first spelling and the last value
+-- the map of all pairs: of equal keys, the first spelling and the last value
 abbrev pub merged : UndefinedBehavior → RecordData → List Val → Answer (List (Val × Val))
 merged b r vs = given (joined (spread_pairs b r) vs) (λ ps. Ok (put_all ps))

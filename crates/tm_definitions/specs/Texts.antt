@@ -1,9 +1,9 @@
--- What stands for the bytes of a text, on its own, between quotes, and escaped.
+-- How the bytes of a text are spelled, in quotes and in HTML.
 use Rattle.std.specs.Prelude.{◌≡◌, ℕ, List, [], ◌∷◌, ◌++◌, cond, ◌==◌, flat_map, codes}
 use Rattle.std.proofs.Common.{refl, ap}
 
--- between quotes: a backslash before the quote and the backslash, and names for the ends of lines
--- and the tab
+-- in quotes: a backslash before the quote and the backslash, and escapes for newline, carriage
+-- return and tab
 abbrev pub within_quotes : ℕ → List ℕ
 within_quotes b =
     cond (b == 34) (codes "\\\"")
@@ -16,7 +16,7 @@ within_quotes b =
 abbrev pub quoted : List ℕ → List ℕ
 quoted s = 34 ∷ (flat_map within_quotes s ++ 34 ∷ [])
 
--- in HTML: the six bytes that mean something there have names
+-- in HTML: entities for the six special bytes
 abbrev pub in_html : ℕ → List ℕ
 in_html b =
     cond (b == 60) (codes "&lt;")
@@ -26,7 +26,7 @@ in_html b =
     (cond (b == 39) (codes "&#x27;")
     (cond (b == 47) (codes "&#x2f;") (b ∷ []))))))
 
--- as it is
+-- unchanged
 abbrev pub as_is : ℕ → List ℕ
 as_is b = b ∷ []
 

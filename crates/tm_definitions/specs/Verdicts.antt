@@ -1,5 +1,4 @@
--- Whether a value can be printed or written as JSON, or the error of the first bad part from the
--- left.
+-- Whether a value can be printed or written as JSON, or the error of the leftmost bad part.
 use Rattle.std.specs.Prelude.{ℕ, zero, suc, Bool, true, false, cond, ◌==◌, length, Ok, Err, is_some}
 use Rattle.tm_values.specs.Answer.{Answer, refused, invalid}
 use Rattle.tm_values.specs.Writable.{fits_json}
@@ -17,7 +16,7 @@ Verdict = Answer (Unit {0})
 abbrev pub fine : Verdict
 fine = Ok tt
 
--- what refuses first
+-- the first verdict that is an error
 abbrev pub and_then : Verdict → Verdict → Verdict
 and_then (Ok u) later = later
 and_then (Err chain) later = Err chain
@@ -26,7 +25,7 @@ abbrev pub if_holds : Bool → Verdict → Verdict
 if_holds true otherwise = fine
 if_holds false otherwise = otherwise
 
--- what JSON alone asks
+-- a condition for JSON only
 abbrev pub in_json : OutputFormat → Verdict → Verdict
 in_json Printed verdict = fine
 in_json Json verdict = verdict
@@ -34,21 +33,21 @@ in_json Json verdict = verdict
 abbrev pub no_json : Verdict
 no_json = refused BadSerialization
 
--- a loop is printed where its record is there, and has no JSON
+-- a loop can be printed if it has a record, and has no JSON
 abbrev pub loop_verdict : OutputFormat → RecordData → ℕ → ℕ → Verdict
 loop_verdict Printed r s n = if_holds (is_some (loop_at r s n)) invalid
 loop_verdict Json r s n = no_json
 
--- in JSON a key is a text
+-- a key in JSON must be a text
 abbrev pub key_verdict : Val → Verdict
 key_verdict (text s safe) = fine
 key_verdict k = no_json
 
--- of a pair: as a key, and then what its key and its value say
+-- for a pair: its key as a key, and then the key and the value
 abbrev pub member_verdict : OutputFormat → Val → Verdict → Verdict → Verdict
 member_verdict form k key value = and_then (in_json form (key_verdict k)) (and_then key value)
 
--- of namespaces, by state and number
+-- for namespaces, by state and number
 abbrev pub NamespaceVerdicts : Type 0
 NamespaceVerdicts = ℕ → ℕ → Verdict
 
@@ -74,7 +73,7 @@ abbrev mutual
   items_verdict form r inside (val v vs) =
       and_then (verdict form r inside v) (items_verdict form r inside vs)
 
-  -- of each pair the key comes first
+  -- in each pair the key comes first
   pub pairs_verdict : OutputFormat → RecordData → NamespaceVerdicts → Pairs → Verdict
   pairs_verdict form r inside no_pairs = fine
   pairs_verdict form r inside (pair k v ps) =
@@ -82,7 +81,7 @@ abbrev mutual
       (member_verdict form k (verdict form r inside k) (verdict form r inside v))
       (pairs_verdict form r inside ps)
 
--- the namespaces that are being gone through
+-- the namespaces that are being checked
 abbrev pub Way : Type 0
 Way = ℕ → Bool
 
@@ -92,8 +91,8 @@ nowhere n = false
 abbrev pub through : ℕ → Way → Way
 through n way k = cond (n == k) true (way k)
 
--- A namespace that isn't there is refused, and so is one on the way: it holds itself. As many
--- levels are enough as there are namespaces that aren't on the way.
+-- A namespace that has no record is refused. So is one that is being checked already: it contains
+-- itself. As many levels suffice as there are namespaces that aren't being checked.
 abbrev pub namespace_verdict : OutputFormat → RecordData → ℕ → Way → NamespaceVerdicts
 namespace_verdict form r zero way s n = invalid
 namespace_verdict form r (suc levels) way s n =

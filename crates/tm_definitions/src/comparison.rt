@@ -22,7 +22,7 @@ pub enum ComparisonOperator {
 }
 
 impl ComparisonOperator {
-    /// Whether values that stand to one another so compare so.
+    /// Whether the comparison holds for two values in this order.
     pub fn is_met(self, order: Ordering) -> bool
         ensures { result ≡ is_met self order }
     {

@@ -1,4 +1,5 @@
-//! What the operations of the language give, and how values are written: definitions, and the enums that they speak of.
+//! Definitions of the language's operations and of how values are written, and the enums that they
+//! use.
 #![tactic(auto)]
 
 mod comparison;

@@ -1,27 +1,27 @@
-//! What a loop tells of itself.
-/// What a loop tells of itself.
+//! The attributes of a loop.
+/// An attribute of a loop.
 #[derive(Clone, Copy, PartialEq, Eq, Debug)]
 pub enum LoopAttribute {
-    /// The place of the item, counted from 0.
+    /// The index of the item, from 0.
     Index0,
-    /// The place of the item, counted from 1.
+    /// The index of the item, from 1.
     Index,
-    /// How many items there are.
+    /// The number of items.
     Length,
-    /// How many items are left, this one among them.
+    /// The number of items left, including this one.
     RevIndex,
-    /// How many items are left after this one.
+    /// The number of items left after this one.
     RevIndex0,
     /// Whether this is the first item.
     First,
     /// Whether this is the last item.
     Last,
-    /// How many recursive loops there are, this one among them.
+    /// The number of recursive loops around this one, plus 1.
     Depth,
-    /// How many recursive loops lie around this one.
+    /// The number of recursive loops around this one.
     Depth0,
-    /// The item before.
+    /// The item before this one.
     PrevItem,
-    /// The item after.
+    /// The item after this one.
     NextItem,
 }

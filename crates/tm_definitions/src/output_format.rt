@@ -1,10 +1,10 @@
-//! What a value is tested for.
+//! The output format that a value is checked for.
 
-/// What a value is tested for.
+/// The output format that a value is checked for.
 #[derive(Clone, Copy, PartialEq, Eq, Debug)]
 pub enum OutputFormat {
-    /// That it can be printed.
+    /// Printed text.
     Printed,
-    /// That it can be written as JSON.
+    /// JSON.
     Json,
 }

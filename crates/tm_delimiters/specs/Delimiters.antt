@@ -1,4 +1,4 @@
--- What a delimiter is kept as.
+-- The bytes of a delimiter.
 use Rattle.std.specs.Prelude.{ℕ, List, string_bytes}
 use Rattle.tm_delimiters.specs.declared.delimiter.Text.{Text}
 use Rattle.tm_delimiters.specs.declared.delimiter.Text.TheVariants as text

@@ -1,4 +1,4 @@
--- Delimiters, as bytes, and how newlines and indents beside them are treated.
+-- Delimiters, as bytes, and how newlines and indents next to them are treated.
 use Rattle.std.specs.Prelude.{◌≢◌, ℕ, List, [], Bool, false, codes}
 
 pub record Syntax : Type 0 where

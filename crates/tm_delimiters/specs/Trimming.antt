@@ -1,4 +1,4 @@
--- What the tags beside a raw text take of it.
+-- How the tags next to a raw text trim it.
 use Rattle.std.specs.Prelude.{ℕ, List, [], ◌∷◌, Bool, true, false, not, Option, Some, None, is_some, if◌then◌else◌, ◌==◌, ◌||◌, ◌&&◌}
 use Rattle.std.specs.Option.{option_or, unwrap_or}
 use Rattle.std.specs.Str.{trim_start, trim_end}
@@ -10,13 +10,13 @@ use Rattle.tm_delimiters.specs.declared.trimming.Side.{Side}
 use Rattle.tm_delimiters.specs.Front.{after}
 use Rattle.tm_delimiters.specs.Syntax.{Syntax}
 
--- whether the flags concern tags of a kind
+-- whether the flags apply to tags of this kind
 abbrev pub is_block : Kind → Bool
 is_block kind.Block = true
 is_block kind.Variable = false
 is_block kind.Comment = true
 
--- without one newline, `\n` or `\r\n`, at the front
+-- without one newline, `\n` or `\r\n`, at the start
 abbrev pub past_newline : List ℕ → List ℕ
 past_newline cs = unwrap_or (option_or (after (10 ∷ []) cs) (after (13 ∷ 10 ∷ []) cs)) cs
 
@@ -24,24 +24,24 @@ past_newline cs = unwrap_or (option_or (after (10 ∷ []) cs) (after (13 ∷ 10 
 abbrev pub is_space : ℕ → Bool
 is_space c = (c == 32) || (c == 9)
 
--- whether all is spaces and tabs
+-- whether all bytes are spaces and tabs
 abbrev pub is_indent : List ℕ → Bool
 is_indent [] = true
 is_indent (c ∷ cs) = is_space c && is_indent cs
 
--- Without the spaces and tabs that are all that stands after the last line's start. `starts_line` says whether the
--- bytes begin at a line's start.
+-- Without the spaces and tabs at the end, if they are the whole last line. `starts_line` says
+-- whether the bytes start a line.
 abbrev pub without_indent : Bool → List ℕ → List ℕ
 without_indent starts_line [] = []
 without_indent starts_line (c ∷ cs) = if starts_line && is_indent (c ∷ cs) then [] else c ∷ without_indent (c == 10) cs
 
--- what the tag before a text leaves of it
+-- the text, trimmed by the tag before it
 abbrev pub left_after : Syntax → Kind → Whitespace → List ℕ → List ℕ
 left_after s k whitespace.Remove text = trim_start text
 left_after s k whitespace.Preserve text = text
 left_after s k whitespace.Default text = if s.trim_blocks && is_block k then past_newline text else text
 
--- what the tag after a text leaves of it
+-- the text, trimmed by the tag after it
 abbrev pub left_before : Syntax → Bool → Kind → Whitespace → List ℕ → List ℕ
 left_before s starts_line k whitespace.Remove text = trim_end text
 left_before s starts_line k whitespace.Preserve text = text
@@ -56,7 +56,7 @@ abbrev pub by_after : Syntax → Bool → Option Side → List ℕ → List ℕ
 by_after s starts_line None text = text
 by_after s starts_line (Some side) text = left_before s starts_line side.kind side.whitespace text
 
--- What is left of a raw text between two tags; none stands before it at the source's start, and none after it at
--- the end.
+-- A raw text, trimmed by the tags next to it. There is no tag before it at the start of the source,
+-- and none after it at the end.
 abbrev pub trimmed : Syntax → Option Side → Option Side → List ℕ → List ℕ
 trimmed s before after text = by_before s before (by_after s (not (is_some before)) after text)

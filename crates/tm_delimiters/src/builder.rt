@@ -1,4 +1,4 @@
-//! How a caller sets delimiters and flags.
+//! A builder for delimiters and flags.
 ghost use Rattle.std.specs.Prelude.{◌≡◌, [], ◌∷◌, IfOk, IfErr, string_bytes};
 ghost use Rattle.tm_delimiters.specs.Syntax.{IsUsable, default_syntax};
 ghost use Rattle.tm_values.specs.declared.error.ErrorKind.TheVariants.{InvalidDelimiter};
@@ -23,7 +23,7 @@ impl Model for SyntaxConfigBuilder {
 }
 
 impl SyntaxConfigBuilder {
-    /// The delimiters that are usual, no flag set.
+    /// The usual delimiters, with no flag set.
     pub(crate) fn new() -> SyntaxConfigBuilder
         ensures { result ≡ default_syntax }
     {
@@ -32,7 +32,7 @@ impl SyntaxConfigBuilder {
         }
     }
 
-    /// What begins and ends a block tag.
+    /// Sets the start and the end of block tags.
     pub fn block_delimiters(self, start: String, end: String) -> SyntaxConfigBuilder
         ensures { result
             ≡ record self { block_start = string_bytes start; block_end = string_bytes end } }
@@ -43,7 +43,7 @@ impl SyntaxConfigBuilder {
         SyntaxConfigBuilder { parts }
     }
 
-    /// What begins and ends an emission.
+    /// Sets the start and the end of emissions.
     pub fn variable_delimiters(self, start: String, end: String) -> SyntaxConfigBuilder
         ensures { result
             ≡ record self { variable_start = string_bytes start; variable_end = string_bytes end } }
@@ -54,7 +54,7 @@ impl SyntaxConfigBuilder {
         SyntaxConfigBuilder { parts }
     }
 
-    /// What begins and ends a comment.
+    /// Sets the start and the end of comments.
     pub fn comment_delimiters(self, start: String, end: String) -> SyntaxConfigBuilder
         ensures { result
             ≡ record self { comment_start = string_bytes start; comment_end = string_bytes end } }
@@ -65,7 +65,7 @@ impl SyntaxConfigBuilder {
         SyntaxConfigBuilder { parts }
     }
 
-    /// Whether one newline after a block tag or a comment is removed.
+    /// Sets whether one newline after a block tag or a comment is removed.
     pub fn trim_blocks(mut self, yes: bool) -> SyntaxConfigBuilder
         ensures { result ≡ record self { trim_blocks = yes } }
     {
@@ -73,7 +73,8 @@ impl SyntaxConfigBuilder {
         self
     }
 
-    /// Whether the spaces and tabs from a line's start to a block tag or a comment are removed.
+    /// Sets whether the spaces and tabs from the start of a line to a block tag or a comment are
+    /// removed.
     pub fn lstrip_blocks(mut self, yes: bool) -> SyntaxConfigBuilder
         ensures { result ≡ record self { lstrip_blocks = yes } }
     {
@@ -81,7 +82,7 @@ impl SyntaxConfigBuilder {
         self
     }
 
-    /// Whether a source's final newline stays.
+    /// Sets whether the final newline of a source is kept.
     pub fn keep_trailing_newline(mut self, yes: bool) -> SyntaxConfigBuilder
         ensures { result ≡ record self { keep_trailing_newline = yes } }
     {
@@ -89,7 +90,8 @@ impl SyntaxConfigBuilder {
         self
     }
 
-    /// What was set; InvalidDelimiter where a delimiter is empty or two of the starts are equal.
+    /// The finished configuration. InvalidDelimiter if a delimiter is empty or two start delimiters
+    /// are equal.
     pub fn build(self) -> Result<SyntaxConfig, Error>
         ensures built { IfOk result (λ config. (config ≡ self) × IsUsable self) }
         ensures refused { IfErr result (λ e. (e ≡ InvalidDelimiter ∷ []) × (IsUsable self → ⊥)) }

@@ -3,7 +3,7 @@ ghost use Rattle.std.specs.Prelude.{◌≡◌, string_bytes};
 
 use std::marker::Model;
 
-/// What a delimiter is kept as.
+/// The representation of a delimiter.
 #[derive(Drop)]
 enum Text {
     Literal(&'static str),
@@ -15,7 +15,7 @@ pub(crate) struct Delimiter {
     text: Text,
 }
 
-// By hand: one call for each owner, in place of a drop of each part.
+// By hand: one call for each owner, instead of a drop of each part.
 impl Drop for Delimiter {
     fn drop(self) {
         let Delimiter { text: _text } = self;
@@ -33,7 +33,7 @@ impl Model for Delimiter {
 }
 
 impl Delimiter {
-    /// A delimiter of this program's text.
+    /// A delimiter that is a literal of this program.
     pub(crate) fn literal(text: &'static str) -> Delimiter
         ensures { result ≡ text.now }
     {
@@ -42,7 +42,7 @@ impl Delimiter {
         }
     }
 
-    /// A delimiter of the caller's.
+    /// A delimiter that the caller set.
     pub(crate) fn owned(text: String) -> Delimiter
         ensures { result ≡ string_bytes text }
     {

@@ -1,10 +1,10 @@
-//! Bytes at the front of a text.
+//! Looking at the start of a text.
 ghost use Rattle.std.specs.Prelude.{◌≡◌, ◌+◌, ◌<◌, ◌≤◌, length, IfSome, is_some};
 ghost use Rattle.tm_delimiters.specs.Front as spec;
 ghost use Rattle.tm_delimiters.specs.Views.{IsFirst, Shortens, cut_of, place_of, step_of};
 
-/// Whether the bytes begin with a word. The word's last byte is compared first: by it delimiters
-/// differ from one another.
+/// Whether the bytes begin with a word. The last byte of the word is compared first, since that is
+/// where delimiters differ.
 #[inline(always)]
 fn is_front(bytes: &[u8], word: &[u8]) -> bool
     ensures { result ≡ is_some (spec.after word.now bytes.now) }
@@ -22,7 +22,7 @@ fn is_front(bytes: &[u8], word: &[u8]) -> bool
     true
 }
 
-/// What is left after the word, where the text begins with it.
+/// The rest after the word, if the text begins with it.
 #[inline(always)]
 pub fn strip<'t>(text: &'t str, word: &str) -> Option<&'t str>
     ensures value { place_of result ≡ spec.after word.now text.now }
@@ -35,7 +35,7 @@ pub fn strip<'t>(text: &'t str, word: &str) -> Option<&'t str>
     }
 }
 
-/// What stands before the first place of the word, and what is left after it.
+/// The text before the first occurrence of the word, and the rest after it.
 pub(crate) fn cut<'t>(text: &'t str, word: &str) -> Option<(&'t str, &'t str)>
     ensures value { cut_of result ≡ spec.first_of (spec.after word.now) text.now }
     ensures no_longer { IfSome result (λ x. length x.1.now ≤ length text.now) }
@@ -43,7 +43,7 @@ pub(crate) fn cut<'t>(text: &'t str, word: &str) -> Option<(&'t str, &'t str)>
     text.split_once(word)
 }
 
-/// The first byte, where it is ASCII, and what is left after it.
+/// The first byte, if it is ASCII, and the rest after it.
 #[inline(always)]
 pub fn ascii(text: &str) -> Option<(u8, &str)>
     ensures value { step_of result ≡ spec.ascii text.now }
@@ -61,7 +61,7 @@ pub fn ascii(text: &str) -> Option<(u8, &str)>
     }
 }
 
-/// The first character, and what is left after it.
+/// The first character, and the rest after it.
 #[inline(always)]
 pub fn first(text: &str) -> Option<(char, &str)>
     ensures value { IsFirst result text.now }
@@ -73,7 +73,7 @@ pub fn first(text: &str) -> Option<(char, &str)>
     decoded(text)
 }
 
-/// The first character, decoded, and what is left after it.
+/// The first character, decoded, and the rest after it.
 fn decoded(text: &str) -> Option<(char, &str)>
     ensures value { IsFirst result text.now }
     ensures shorter { Shortens result text.now }
@@ -92,7 +92,7 @@ pub(crate) fn is_blank(byte: u8) -> bool
     matches!(byte, b' ' | b'\t' | b'\n' | b'\r' | b'\x0c')
 }
 
-/// What is left after the blanks at the front.
+/// The rest after the blanks at the start.
 pub fn past_blanks(text: &str) -> &str
     ensures value { result.now ≡ spec.past_blanks text.now }
     ensures no_longer { length result.now ≤ length text.now }

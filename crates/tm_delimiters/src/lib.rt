@@ -1,4 +1,4 @@
-//! Delimiters: where the tags of a source start, and what they leave of the text beside them.
+//! Delimiters: where the tags of a source start, and how they trim the text next to them.
 #![tactic(auto)]
 
 mod builder;

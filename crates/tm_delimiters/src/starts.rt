@@ -13,7 +13,7 @@ use crate::trimming::Side;
 use crate::whitespace::whitespace_at;
 use memchr::memchr3;
 
-/// The start delimiter of a kind, where the text begins with it, and what is left after it.
+/// The start delimiter of a kind, if the text begins with it, and the rest after it.
 #[inline(always)]
 fn opens<'s>(syntax: &SyntaxConfig, kind: Kind, text: &'s str) -> Option<(Kind, &'s str)>
     requires { HasAll syntax.now }
@@ -24,7 +24,7 @@ fn opens<'s>(syntax: &SyntaxConfig, kind: Kind, text: &'s str) -> Option<(Kind, 
     Some((kind, rest))
 }
 
-/// Of two start delimiters at one place the longer one.
+/// The longer of two start delimiters at the same place.
 #[inline(always)]
 fn longer<'s>(
     syntax: &SyntaxConfig,
@@ -62,7 +62,7 @@ fn opening<'s>(syntax: &SyntaxConfig, text: &'s str) -> Option<(Kind, &'s str)>
     longer(syntax, longer(syntax, block, variable), comment)
 }
 
-/// Whether a start delimiter stands first.
+/// Whether the bytes begin with a start delimiter.
 fn begins(syntax: &SyntaxConfig, bytes: &[u8]) -> bool
     ensures { result ≡ spec.begins syntax.now bytes.now }
 {
@@ -71,7 +71,7 @@ fn begins(syntax: &SyntaxConfig, bytes: &[u8]) -> bool
         || bytes.starts_with(syntax.start(Kind::Comment).as_bytes())
 }
 
-/// The first place at which a start delimiter stands.
+/// The first place of a start delimiter.
 pub fn next_start(syntax: &SyntaxConfig, bytes: &[u8]) -> Option<usize>
     requires usable { HasAll syntax.now }
     ensures first { IsFirst (spec.BeginsAt syntax.now bytes.now) 0 (length bytes.now) result }
@@ -91,7 +91,7 @@ pub fn next_start(syntax: &SyntaxConfig, bytes: &[u8]) -> Option<usize>
     None
 }
 
-/// The start of a tag at the front, and what is left after it.
+/// The start of a tag, if the text begins with one, and the rest after it.
 #[inline(always)]
 fn tag_start<'s>(syntax: &SyntaxConfig, text: &'s str) -> Option<(Side, &'s str)>
     requires usable { HasAll syntax.now }
@@ -103,7 +103,7 @@ fn tag_start<'s>(syntax: &SyntaxConfig, text: &'s str) -> Option<(Side, &'s str)
     Some((Side { kind, whitespace }, rest))
 }
 
-/// The text before the next tag, the start of that tag, and what is left after it.
+/// The text before the next tag, the start of that tag, and the rest after it.
 #[inline(always)]
 pub fn next_tag<'s>(syntax: &SyntaxConfig, text: &'s str) -> Option<(&'s str, Side, &'s str)>
     requires usable { HasAll syntax.now }

@@ -7,7 +7,7 @@ use crate::builder::SyntaxConfigBuilder;
 use crate::delimiter::Delimiter;
 use std::marker::Model;
 
-/// What a tag is, by its delimiters.
+/// The kind of a tag, by its delimiters.
 #[derive(Clone, Copy)]
 pub enum Kind {
     Block,
@@ -28,7 +28,7 @@ pub(crate) struct UncheckedSyntax {
     pub(crate) keep_trailing_newline: bool,
 }
 
-// By hand: one call for each owner, in place of a drop of each part.
+// By hand: one call for each owner, instead of a drop of each part.
 impl Drop for UncheckedSyntax {
     fn drop(self) {
         let UncheckedSyntax {
@@ -64,7 +64,7 @@ impl Model for UncheckedSyntax {
 }
 
 impl UncheckedSyntax {
-    /// `{% %}`, `{{ }}` and `{# #}`, no flag set.
+    /// `{% %}`, `{{ }}` and `{# #}`, with no flag set.
     pub(crate) fn usual() -> UncheckedSyntax
         ensures { result ≡ default_syntax }
     {
@@ -93,7 +93,7 @@ impl UncheckedSyntax {
             && !self.comment_end.as_str().is_empty()
     }
 
-    /// Whether no two starts are equal.
+    /// Whether no two start delimiters are equal.
     fn starts_differ(&self) -> bool
         ensures { Decides result (StartsDiffer self.now) }
     {
@@ -103,7 +103,7 @@ impl UncheckedSyntax {
         block != variable && block != comment && variable != comment
     }
 
-    /// Whether tags can be told from one another.
+    /// Whether tags can be told apart.
     pub(crate) fn is_usable(&self) -> bool
         ensures { Decides result (IsUsable self.now) }
     {
@@ -111,7 +111,7 @@ impl UncheckedSyntax {
     }
 }
 
-/// The delimiters of templates, and how newlines and indents beside them are treated. A contract
+/// The delimiters of templates, and how newlines and indents next to them are treated. A contract
 /// sees each delimiter as its bytes.
 #[derive(Drop)]
 pub struct SyntaxConfig {
@@ -129,7 +129,7 @@ impl Model for SyntaxConfig {
 }
 
 impl Default for SyntaxConfig {
-    /// `{% %}`, `{{ }}` and `{# #}`, no flag set.
+    /// `{% %}`, `{{ }}` and `{# #}`, with no flag set.
     fn default() -> SyntaxConfig
         ensures { result ≡ default_syntax }
     {
@@ -140,21 +140,21 @@ impl Default for SyntaxConfig {
 }
 
 impl SyntaxConfig {
-    /// A builder, which begins with the delimiters that are usual.
+    /// A builder that starts with the usual delimiters.
     pub fn builder() -> SyntaxConfigBuilder
         ensures { result ≡ default_syntax }
     {
         SyntaxConfigBuilder::new()
     }
 
-    /// Tells a proof that no delimiter is empty; when it runs it does nothing.
+    /// Tells a proof that no delimiter is empty. This call does nothing.
     pub fn note_usable(&self)
         ensures { HasAll self.now }
     {
         let _ = &self.parts;
     }
 
-    /// The delimiter that begins a tag of the kind.
+    /// The start delimiter of a kind of tag.
     #[inline(always)]
     pub fn start(&self, kind: Kind) -> &str
         ensures { result.now ≡ starts.start_delimiter self.now kind }
@@ -166,7 +166,7 @@ impl SyntaxConfig {
         }
     }
 
-    /// The delimiter that ends a tag of the kind.
+    /// The end delimiter of a kind of tag.
     pub fn end(&self, kind: Kind) -> &str
         ensures { result.now ≡ starts.end_delimiter self.now kind }
     {
@@ -191,7 +191,7 @@ impl SyntaxConfig {
         self.parts.lstrip_blocks
     }
 
-    /// Whether a source's final newline stays.
+    /// Whether the final newline of a source is kept.
     pub fn keeps_newline(&self) -> bool
         ensures { result ≡ self.now.keep_trailing_newline }
     {

@@ -1,4 +1,4 @@
-//! What the tags beside a raw text take of it.
+//! How the tags next to a raw text trim it.
 ghost use Rattle.std.specs.Prelude.{◌≡◌, ◌≤◌, ◌<◌, ◌-◌, true, false, length, drop, slice_index};
 ghost use Rattle.tm_delimiters.specs.Trimming as spec;
 
@@ -13,16 +13,16 @@ pub struct Side {
     pub whitespace: Whitespace,
 }
 
-/// A part of a source: where it begins there, and its text.
+/// A part of a source: its start, and its text.
 #[derive(Clone, Copy)]
 pub struct Part<'s> {
-    /// Its place in the source, in bytes.
+    /// Its start in the source, in bytes.
     pub start: usize,
-    /// What stands there.
+    /// Its text.
     pub text: &'s str,
 }
 
-/// Whether the flags concern tags of a kind.
+/// Whether the flags apply to tags of this kind.
 fn is_block(kind: Kind) -> bool
     ensures { result ≡ spec.is_block kind }
 {
@@ -32,7 +32,7 @@ fn is_block(kind: Kind) -> bool
     }
 }
 
-/// The text without one newline at the front.
+/// The text without one newline at its start.
 fn past_newline(text: &str) -> &str
     ensures { result.now ≡ spec.past_newline text.now }
 {
@@ -42,7 +42,7 @@ fn past_newline(text: &str) -> &str
     strip(text, "\r\n").unwrap_or(text)
 }
 
-/// Where the spaces and tabs at the end begin.
+/// The start of the spaces and tabs at the end.
 fn indent_start(bytes: &[u8]) -> usize
     ensures fits { result ≤ length bytes.now }
     ensures indent { spec.is_indent (drop result bytes.now) ≡ true }
@@ -58,7 +58,8 @@ fn indent_start(bytes: &[u8]) -> usize
     0
 }
 
-/// The text without the spaces and tabs that are all that stands after its last line's start.
+/// The text without the spaces and tabs at its end, if they are the whole last line. `starts_line`
+/// says whether the text starts a line.
 fn without_indent(starts_line: bool, text: &str) -> &str
     ensures { result.now ≡ spec.without_indent starts_line text.now }
 {
@@ -74,7 +75,7 @@ fn without_indent(starts_line: bool, text: &str) -> &str
     }
 }
 
-/// What the tag before a text leaves of it.
+/// The text, trimmed by the tag before it.
 #[inline(always)]
 fn by_before<'t>(syntax: &SyntaxConfig, before: Option<Side>, text: &'t str) -> &'t str
     ensures { result.now ≡ spec.by_before syntax.now before text.now }

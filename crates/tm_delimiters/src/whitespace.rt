@@ -1,11 +1,11 @@
-//! The marks `-` and `+` beside delimiters.
+//! The marks `-` and `+` next to delimiters.
 ghost use Rattle.std.specs.Prelude.{◌≡◌, ◌≤◌, ◌<◌, length, IfSome, None};
 ghost use Rattle.tm_delimiters.specs.Views.{IsBeforeMark, IsKnown, step_of};
 ghost use Rattle.tm_delimiters.specs.Whitespace as spec;
 
 use crate::front::{ascii, cut, is_blank, strip};
 
-/// What the mark beside a delimiter, or none there, means for the raw text on that side.
+/// How the mark next to a delimiter, if any, trims the raw text on that side.
 #[derive(Clone, Copy)]
 pub enum Whitespace {
     /// No mark: the flags decide.
@@ -16,7 +16,7 @@ pub enum Whitespace {
     Preserve,
 }
 
-/// The mark at the front, and what is left after it.
+/// The mark at the start, and the rest after it.
 pub fn whitespace_at(text: &str) -> (Whitespace, &str)
     ensures value { (result.0, result.1.now) ≡ spec.whitespace_at text.now }
     ensures no_longer { length result.1.now ≤ length text.now }
@@ -28,7 +28,7 @@ pub fn whitespace_at(text: &str) -> (Whitespace, &str)
     }
 }
 
-/// The end delimiter at the front with a mark before it or none, and what is left after it.
+/// The end delimiter at the start, with an optional mark before it, and the rest after it.
 #[inline(always)]
 pub fn ending<'t>(end: &str, text: &'t str) -> Option<(Whitespace, &'t str)>
     ensures value { step_of result ≡ spec.ending end.now text.now }
@@ -57,8 +57,8 @@ fn before_mark(text: &str) -> &str
     }
 }
 
-/// What stands before the first place of an end delimiter, with a mark before it or none, and what
-/// is left there.
+/// The text before the first end delimiter, with an optional mark before that, and the rest from
+/// there on.
 pub fn to_end<'t>(end: &str, text: &'t str) -> (&'t str, &'t str)
     ensures { (result.0.now, result.1.now) ≡ spec.to_end end.now text.now }
 {
@@ -68,8 +68,8 @@ pub fn to_end<'t>(end: &str, text: &'t str) -> (&'t str, &'t str)
     }
 }
 
-/// The same, where `known` may be what is left at that place, from a search that began before the
-/// text: a source is searched once, however many tokens it has.
+/// The same. `known` is the rest from that place on, if an earlier search found it, so a source is
+/// searched only once, however many tokens it has.
 pub fn next_end<'t>(end: &str, text: &'t str, known: &str) -> (&'t str, &'t str)
     requires { IsKnown end.now text.now known.now }
     ensures { (result.0.now, result.1.now) ≡ spec.to_end end.now text.now }
@@ -80,7 +80,7 @@ pub fn next_end<'t>(end: &str, text: &'t str, known: &str) -> (&'t str, &'t str)
     text.split_at(text.len() - known.len())
 }
 
-/// What is left after the blanks before an end delimiter.
+/// The rest after the blanks before an end delimiter.
 pub fn past_blanks_to<'t>(end: &str, text: &'t str) -> &'t str
     ensures value { result.now ≡ spec.past_blanks_to end.now text.now }
     ensures no_longer { length result.now ≤ length text.now }
@@ -98,7 +98,7 @@ pub fn past_blanks_to<'t>(end: &str, text: &'t str) -> &'t str
     rest
 }
 
-/// The mark that the text ends in.
+/// The mark at the end of the text.
 fn last_whitespace(text: &str) -> Whitespace
     ensures { result ≡ spec.last_whitespace text.now }
 {
@@ -112,7 +112,7 @@ fn last_whitespace(text: &str) -> Whitespace
     }
 }
 
-/// The mark before the first place of a comment's end delimiter, and what is left after that.
+/// The mark before the first end delimiter of a comment, and the rest after that delimiter.
 pub fn comment_end<'t>(end: &str, text: &'t str) -> Option<(Whitespace, &'t str)>
     ensures value { step_of result ≡ spec.comment_end end.now text.now }
     ensures no_longer { IfSome result (λ x. length x.1.now ≤ length text.now) }

@@ -26,9 +26,9 @@ use Rattle.tm_expressions.specs.Tokens.{a_target_link, postfix_level, or_level}
 abbrev pub Rule : Type 0 → Type 1
 Rule A = rules.Rule Token A
 
--- What may stand inside one more bracket or after one more prefix.
+-- What is allowed one bracket or one prefix deeper.
 pub record Inside : Type 1 where
-  -- no token; refused where no nesting is left
+  -- takes no token; refused if no nesting level is left
   pub room : Rule (Unit {0})
   pub expr : Rule Expr
   -- an operand of a level
@@ -36,14 +36,15 @@ pub record Inside : Type 1 where
   pub filter : Rule Step
   pub target : Rule AssignmentTarget
 
--- a comma with another item after it, in a list that ends with this sign
+-- a comma, unless the end of the list follows
 abbrev pub comma : Sign → Look Token (Unit {0})
 comma close = not_before (is sign.Comma) (is close)
 
 unfoldable pub more_items : {A : Type 0} → Sign → Rule A → List A → Rule (List A)
 more_items close item xs = many_from (comma close) (λ _. item) xs
 
--- After these items more, with commas between them and after the last one a comma or none, up to the sign.
+-- After these items: the other items, separated by commas, with an optional comma at the end, up to
+-- the closing sign.
 unfoldable pub items : {A : Type 0} → Sign → Rule A → List A → Rule (List A)
 items close item xs = branch (first (is close)) (λ _. pure xs) (do
   ys ← one_more item xs
@@ -52,20 +53,20 @@ items close item xs = branch (first (is close)) (λ _. pure xs) (do
   end ← token (is close)
   pure zs)
 
--- a name with `=` after it
+-- a name followed by `=`
 abbrev pub keyword_start : Look Token (List ℕ)
 keyword_start = followed (first a_name) (first (is sign.Assign))
 
 abbrev pub passed : List Argument → List Keyword → Passed
 passed xs ks = record { by_place = xs; by_name = ks }
 
--- an argument by its name, after its `=`
+-- a keyword argument after its `=`
 unfoldable pub keyword : Inside → Passed → List ℕ → Rule Passed
 keyword i given name = do
   x ← i.expr
   pure (passed given.by_place (given.by_name ++ keywords.Named name x ∷ []))
 
--- a map of arguments by their names, after its `**`
+-- a map of keyword arguments after its `**`
 unfoldable pub spread_map : Inside → Passed → Rule Passed
 spread_map i given = do
   x ← i.expr
@@ -75,13 +76,13 @@ abbrev pub are_none : {A : Type 0} → List A → Bool
 are_none [] = true
 are_none (x ∷ xs) = false
 
--- an argument by its place, which stands after none by its name
+-- a positional argument; no keyword argument may precede it
 unfoldable pub argument : Inside → Passed → Rule Passed
 argument i given = provided (are_none given.by_name) (do
   x ← i.expr
   pure (passed (given.by_place ++ arguments.Plain x ∷ []) given.by_name))
 
--- a list of such arguments, after its `*`
+-- a list of positional arguments after its `*`; no keyword argument may precede it
 unfoldable pub spread_list : Inside → Passed → Rule Passed
 spread_list i given = provided (are_none given.by_name) (do
   x ← i.expr
@@ -98,7 +99,8 @@ one_passed i given =
 unfoldable pub more_passed : Inside → Passed → Rule Passed
 more_passed i given = grow (comma sign.CloseRound) (λ _ xs. one_passed i xs) given
 
--- the arguments of a call, with commas between them and after the last one a comma or none, and their end
+-- the arguments of a call, separated by commas, with an optional comma at the end, and the closing
+-- bracket
 unfoldable pub all_passed : Inside → Rule Passed
 all_passed i = branch (first (is sign.CloseRound)) (λ _. pure (passed [] [])) (do
   one ← one_passed i (passed [] [])
@@ -107,23 +109,23 @@ all_passed i = branch (first (is sign.CloseRound)) (λ _. pure (passed [] [])) (
   end ← token (is sign.CloseRound)
   pure given)
 
--- the same inside one bracket more
+-- the same one nesting level deeper
 unfoldable pub in_brackets : Inside → Rule Passed
 in_brackets i = do
   room ← i.room
   all_passed i
 
--- the call of a name, after its opening bracket
+-- the call of a name after its opening bracket
 unfoldable pub called : Inside → List ℕ → Rule Expr
 called i name = do
   given ← in_brackets i
   pure (exprs.Call name given.by_place given.by_name)
 
--- the call of a name after a dot, with nothing in its brackets
+-- a dot and a call of a name without arguments
 abbrev pub bare_call : Look Token (List ℕ)
 bare_call = before (first (is sign.Dot)) (followed (first a_name) (before (first (is sign.OpenRound)) (first (is sign.CloseRound))))
 
--- the name `self`, or the block that is called after it
+-- the name `self`, or a call of a block of `self`
 unfoldable pub of_self : Inside → List ℕ → Rule Expr
 of_self i name = branch bare_call
     (λ block. do
@@ -131,7 +133,7 @@ of_self i name = branch bare_call
       pure (exprs.SelfBlock block))
     (pure (exprs.Var name))
 
--- a name, the call of one, or that of a block of `self`
+-- a name, a call of it, or a call of a block of `self`
 unfoldable pub named : Inside → List ℕ → Rule Expr
 named i name = branch (first (is sign.OpenRound)) (λ _. called i name)
     (either (pointwise nat_eq name (codes "self")) (of_self i name) (pure (exprs.Var name)))
@@ -143,7 +145,7 @@ tuple i x = do
   xs ← items sign.CloseRound i.expr (x ∷ [])
   pure (exprs.Tuple xs)
 
--- a name in brackets is called as one without them
+-- a name in brackets can be called like one without
 abbrev pub closed : Inside → Expr → Rule Expr
 closed i (Var name) = named i name
 closed i x = pure x
@@ -184,7 +186,7 @@ primary i =
     branch (first (is sign.OpenCurly)) (λ _. map_literal i)
     nothing))))
 
--- an attribute, or the call of a method
+-- an attribute or a method call
 unfoldable pub named_step : Inside → Rule Step
 named_step i = do
   name ← token a_name
@@ -194,7 +196,7 @@ named_step i = do
         pure (steps.Apply applications.Method name given.by_place given.by_name))
       (pure (steps.Attribute name))
 
--- what stands for a part that is missing
+-- the expression for a missing part
 abbrev pub missing : Expr
 missing = exprs.Const value.none
 
@@ -202,7 +204,7 @@ missing = exprs.Const value.none
 unfoldable pub part : Inside → Rule Expr
 part i = ahead ends_part (pure missing) i.expr
 
--- the part after the second colon of a slice, which may have one colon alone
+-- the part after the second colon of a slice, if there is one
 unfoldable pub last_part : Inside → Rule Expr
 last_part i = branch (first (is sign.Colon)) (λ _. part i) (pure missing)
 
@@ -224,7 +226,7 @@ subscript i = do
       end ← token (is sign.CloseSquare)
       pure (steps.Item x)))
 
--- a name, after the names before it and a dot
+-- a name after a dot, appended to the names before it
 unfoldable pub one_part : List ℕ → Rule (List ℕ)
 one_part before = do
   name ← token a_name
@@ -233,37 +235,37 @@ one_part before = do
 unfoldable pub more_parts : List ℕ → Rule (List ℕ)
 more_parts before = grow (first (is sign.Dot)) (λ _ name. one_part name) before
 
--- names with dots between them, as one
+-- names separated by dots, as one name
 unfoldable pub dotted : Rule (List ℕ)
 dotted = do
   name ← token a_name
   more_parts name
 
--- the arguments in brackets, if they stand there
+-- the arguments in brackets, if there are any
 unfoldable pub given : Inside → Rule Passed
 given i = branch (first (is sign.OpenRound)) (λ _. in_brackets i) (pure (passed [] []))
 
--- the call of a value, after its opening bracket
+-- the call of a value after its opening bracket
 unfoldable pub call_step : Inside → Rule Step
 call_step i = do
   xs ← in_brackets i
   pure (steps.Call xs.by_place xs.by_name)
 
--- a filter, and its arguments after the value
+-- a filter and its arguments
 unfoldable pub filter_step : Inside → Rule Step
 filter_step i = do
   name ← dotted
   xs ← given i
   pure (steps.Apply applications.Filter name xs.by_place xs.by_name)
 
--- the name of a test: a reserved word, or names with dots between them
+-- the name of a test: a reserved word, or names separated by dots
 unfoldable pub test_name : Rule (List ℕ)
 test_name = branch (first a_test_word) pure dotted
 
 unfoldable pub passed_to_test : Inside → Rule Passed
 passed_to_test i = branch (first bare) (λ x. pure (passed (arguments.Plain x ∷ []) [])) (given i)
 
--- a test, and its arguments after the value
+-- a test and its arguments
 unfoldable pub tested : Inside → Application → Rule Step
 tested i k = do
   name ← test_name
@@ -283,16 +285,16 @@ another_comparison right op = do
   y ← right
   pure (record { operator = op; right = y })
 
--- what stands after a link of comparisons in a row, where no other link may stand
+-- what follows the link of a chained comparison; no other link is allowed there
 abbrev pub after_comparison : Rule Expr → Link → Rule Comparison
 after_comparison right (links.Comparison op) = another_comparison right op
 after_comparison right _ = nothing
 
--- as many comparisons in a row as there are
+-- as many chained comparisons as there are
 abbrev pub comparisons_from : Rule Expr → ℕ → List Comparison → Rule (List Comparison)
 comparisons_from right level xs = many_from (link level) (after_comparison right) xs
 
--- a comparison, and those in a row after it
+-- a comparison and the chained ones after it
 abbrev pub compared : BinaryOperator → Expr → List Comparison → Step
 compared op y [] = steps.Binary op y
 compared op y (c ∷ cs) = steps.Compare op y (c ∷ cs)
@@ -313,7 +315,7 @@ disjunction right = do
   y ← right
   pure (steps.Or y)
 
--- what stands after a link
+-- what follows a link
 abbrev pub step : Inside → Rule Expr → ℕ → Link → Rule Step
 step i right level links.Member = named_step i
 step i right level links.Item = subscript i
@@ -341,7 +343,7 @@ with_steps i right level = do
   xs ← steps_from i right level []
   pure (chained x xs)
 
--- an operand of a level: after a prefix of that level another one, else what binds tighter
+-- an operand of a level: a prefix of that level and another operand, or else what binds tighter
 unfoldable pub operand : Inside → ℕ → Rule Expr
 operand i zero = primary i
 operand i (suc level) = branch (prefix (suc level))
@@ -353,18 +355,18 @@ operand i (suc level) = branch (prefix (suc level))
 unfoldable pub expr_at : Inside → ℕ → Rule Expr
 expr_at i level = with_steps i (operand i level) level
 
--- a value or a condition, with all operators
+-- a value or a condition, with all its operators
 abbrev pub whole : Inside → Rule Expr
 whole i = expr_at i or_level
 
--- what stands for an else part that is missing
+-- the expression for a missing else part
 abbrev pub no_else : Expr
 no_else = exprs.Const (value.undefined true)
 
 unfoldable pub else_part : Inside → Rule Expr
 else_part i = branch (first (is sign.Else)) (λ _. i.expr) (pure no_else)
 
--- what stands after `if`
+-- what follows `if`
 unfoldable pub condition : Inside → Rule Condition
 condition i = do
   test ← whole i
@@ -386,12 +388,12 @@ expr i = do
   cs ← conditions_from i []
   pure (conditional x cs)
 
--- all items but the last, and the last
+-- all items except the last one, and the last one
 abbrev pub split_last : {A : Type 0} → A → List A → List A × A
 split_last x [] = ([], x)
 split_last x (y ∷ ys) = (x ∷ (split_last y ys).0, (split_last y ys).1)
 
--- what a value is as a target
+-- a value as a target
 abbrev pub lone_target : Expr → Option AssignmentTarget
 lone_target (Var name) = Some (targets.Name name)
 lone_target _ = None
@@ -401,11 +403,11 @@ abbrev pub attribute_name : Step → Option (List ℕ)
 attribute_name (Attribute name) = Some name
 attribute_name _ = None
 
--- what a value with steps and a last step is as a target
+-- a value with steps and a last step, as a target
 abbrev pub last_target : Expr → List Step → Step → Option AssignmentTarget
 last_target x before last = option_map (λ name. targets.Attribute (chained x before) name) (attribute_name last)
 
--- What a value and its steps are as a target: a name alone is one, and an attribute of what stands before it.
+-- A value and its steps as a target: a name without steps, or an attribute of what precedes it.
 abbrev pub target_of : Expr → List Step → Option AssignmentTarget
 target_of x [] = lone_target x
 target_of x (s ∷ ss) = last_target x (split_last s ss).0 (split_last s ss).1
@@ -426,7 +428,7 @@ member i = do
   ss ← target_steps_from i []
   known (target_of x ss)
 
--- a target with no comma outside brackets
+-- a target without commas outside of brackets
 unfoldable pub single : Inside → Rule AssignmentTarget
 single i = branch (first (is sign.OpenRound))
     (λ _. do
@@ -435,27 +437,27 @@ single i = branch (first (is sign.OpenRound))
       pure x)
     (member i)
 
--- a comma with another target after it
+-- a comma followed by another target
 abbrev pub target_comma : Look Token (Unit {0})
 target_comma = not_before (is sign.Comma) ends_target
 
 unfoldable pub more_targets : Inside → List AssignmentTarget → Rule (List AssignmentTarget)
 more_targets i xs = many_from target_comma (λ _. single i) xs
 
--- several targets after the first one, with a comma after the last one or none
+-- several targets after the first one, with an optional comma at the end
 unfoldable pub several : Inside → AssignmentTarget → Rule AssignmentTarget
 several i x = do
   xs ← more_targets i (x ∷ [])
   comma ← branch (first (is sign.Comma)) pure (pure tt)
   pure (targets.Unpack xs)
 
--- one target, or several between commas
+-- one target, or several separated by commas
 unfoldable pub target : Inside → Rule AssignmentTarget
 target i = do
   x ← single i
   ahead is_comma (several i x) (pure x)
 
--- what may stand inside n nestings more
+-- what is allowed within n more levels of nesting
 unfoldable pub inside : ℕ → Inside
 inside zero = record { room = nothing; expr = nothing; operand = λ level. nothing; filter = nothing; target = nothing }
 inside (suc n) = record {

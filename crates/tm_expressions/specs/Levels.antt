@@ -1,4 +1,4 @@
--- Levels of operators, read in one go.
+-- Levels of operators, parsed in one go.
 use Rattle.std.specs.Prelude.{◌≡◌, ℕ, zero, suc, ◌-◌, ◌<◌, ◌≤◌, List, [], Option, Some, None, nat_le, nat_lt, ◌&&◌, if◌then◌else◌}
 use Rattle.tm_syntax.specs.declared.token.Token.{Token}
 use Rattle.tm_syntax.specs.declared.token.Token.TheVariants as tokens
@@ -13,12 +13,12 @@ abbrev pub up_to : {A : Type 0} → ℕ → Option (ℕ × A) → Option (ℕ ×
 up_to level None = None
 up_to level (Some x) = if nat_lt postfix_level x.0 && nat_le x.0 level then Some x else None
 
--- a sign before an operand of at most a level: that operand's level, and the operator
+-- a prefix whose operand is of at most this level: the level of the operand, and the operator
 abbrev pub prefix_up_to : ℕ → Token → Option (ℕ × UnaryOperator)
 prefix_up_to level (tokens.Sign s) = up_to level (prefix_of s)
 prefix_up_to level _ = None
 
--- what an operand of a level begins with, and the level of which that is an operand
+-- the start of an operand of a level, and the level whose operand it is
 unfoldable pub operand_start : Inside → ℕ → Rule OperandStart
 operand_start i level = branch (first (prefix_up_to level))
     (λ p. do
@@ -28,14 +28,14 @@ operand_start i level = branch (first (prefix_up_to level))
       x ← primary i
       pure (record { value = x; level = postfix_level }))
 
--- an operand of a level, and the steps of as many levels after it, from its own on
+-- an operand, and the steps of n levels after it, from its own level on
 unfoldable pub climbed : Inside → ℕ → ℕ → Expr → Rule Expr
 climbed i zero level x = pure x
 climbed i (suc n) level x = do
   ss ← steps_from i (operand i level) level []
   climbed i n (suc level) (chained x ss)
 
--- an operand of a level, and the steps of all levels before the end after it
+-- an operand, and the steps of all levels after it, from its own on up to `end`
 abbrev pub levels : Inside → ℕ → ℕ → Expr → Rule Expr
 levels i level end x = climbed i (end - level) level x
 
@@ -51,11 +51,11 @@ postfixed i x = do
   ss ← steps_from i (operand i postfix_level) postfix_level []
   pure (chained x ss)
 
--- Nothing goes on with a value here at a level from one on and before another.
+-- Nothing continues a value here at any level from `from` on and before `end`.
 abbrev pub EndsBefore : ℕ → ℕ → List Token → Type 0
 EndsBefore from end ts = (level : ℕ) → from ≤ level → level < end → (link level).sees ts ≡ None
 
--- the first level, from one on and before the end, at which something may go on
+-- the first level, from `from` on and before `end`, at which something may continue a value
 abbrev pub GoesOnAt : Option ℕ → ℕ → ℕ → List Token → Type 0
 GoesOnAt None from end ts = EndsBefore from end ts
 GoesOnAt (Some found) from end ts = from ≤ found × found < end × EndsBefore from found ts

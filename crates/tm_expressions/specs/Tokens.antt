@@ -1,4 +1,4 @@
--- What a token is known as: tables of signs, and looks at one token or two.
+-- Tables of signs, and looks at one or two tokens.
 use Rattle.std.specs.Prelude.{ℕ, List, true, false, Bool, Option, Some, None, option_map, if◌then◌else◌, nat_eq, ◌||◌, codes}
 use Rattle.std.specs.Cmp.Lexicographic.{pointwise}
 use denote.Enum.Bare.{sameb}
@@ -40,7 +40,8 @@ a_constant (tokens.Literal v) = Some v
 a_constant (tokens.Sign s) = constant_of s
 a_constant _ = None
 
--- The levels, from the tightest: what stands after a value, powers, products, `~`, sums, comparisons, `and`, `or`.
+-- The levels, from the tightest: steps after a value, powers, products, `~`, sums, comparisons,
+-- `and`, `or`.
 abbrev pub postfix_level : ℕ
 postfix_level = 0
 
@@ -65,7 +66,7 @@ and_level = 6
 abbrev pub or_level : ℕ
 or_level = 7
 
--- Each sign that goes on with a value: its level, and how.
+-- Each sign that continues a value: its level, and how.
 abbrev pub link_of : Sign → Option (ℕ × Link)
 link_of sign.Dot = Some (postfix_level, links.Member)
 link_of sign.OpenSquare = Some (postfix_level, links.Item)
@@ -91,12 +92,12 @@ link_of sign.And = Some (and_level, links.And)
 link_of sign.Or = Some (or_level, links.Or)
 link_of _ = None
 
--- Each sign that goes on with a value after `not`.
+-- Each sign that continues a value after `not`.
 abbrev pub negated_link_of : Sign → Option (ℕ × Link)
 negated_link_of sign.In = Some (comparison_level, links.Comparison binaries.NotIn)
 negated_link_of _ = None
 
--- Each sign before an operand: the level whose operands it stands before, and the operator.
+-- Each prefix sign: the level of its operand, and the operator.
 abbrev pub prefix_of : Sign → Option (ℕ × UnaryOperator)
 prefix_of sign.Minus = Some (power_level, unaries.Negate)
 prefix_of sign.Not = Some (and_level, unaries.Not)
@@ -106,19 +107,19 @@ abbrev pub at_level : {A : Type 0} → ℕ → Option (ℕ × A) → Option A
 at_level level None = None
 at_level level (Some x) = if nat_eq x.0 level then Some x.1 else None
 
--- a sign that a table has at a level
+-- the entry of a sign in a table, if it is at this level
 abbrev pub sign_at : {A : Type 0} → (Sign → Option (ℕ × A)) → ℕ → Token → Option A
 sign_at table level (tokens.Sign s) = at_level level (table s)
 sign_at table level _ = None
 
--- what goes on with a value at a level: a sign, or `not` and a sign
+-- what continues a value at a level: a sign, or `not` and a sign
 abbrev pub link : ℕ → Look Token Link
 link level = or_else (first (sign_at link_of level)) (before (first (is sign.Not)) (first (sign_at negated_link_of level)))
 
 abbrev pub prefix : ℕ → Look Token UnaryOperator
 prefix level = first (sign_at prefix_of level)
 
--- what stands after a part of a slice
+-- what follows a part of a slice
 abbrev pub ends_part : Token → Bool
 ends_part (tokens.Sign sign.Colon) = true
 ends_part (tokens.Sign sign.CloseSquare) = true
@@ -142,20 +143,20 @@ abbrev pub a_test_word : Token → Option (List ℕ)
 a_test_word (tokens.Sign s) = test_word s
 a_test_word _ = None
 
--- the words that may stand after a value in a tag
+-- the words that may follow a value in a tag
 abbrev pub is_kept : List ℕ → Bool
 is_kept name =
     pointwise nat_eq name (codes "recursive") || pointwise nat_eq name (codes "ignore") || pointwise nat_eq name (codes "as")
     || pointwise nat_eq name (codes "import")
 
--- what a test is passed without brackets: a name that is no such word, or a literal
+-- the argument of a test without brackets: a literal, or a name that isn't such a word
 abbrev pub bare : Token → Option Expr
 bare (tokens.Name name) = if is_kept name then None else Some (exprs.Var name)
 bare (tokens.Literal v) = Some (exprs.Const v)
 bare (tokens.Sign s) = option_map exprs.Const (constant_of s)
 bare _ = None
 
--- Each sign that goes on with a target. A bar ends one: the filters of a set block stand after its target.
+-- Each sign that continues a target. A bar ends a target: the filters of a set block follow it.
 abbrev pub target_link : Sign → Option Link
 target_link sign.Dot = Some links.Member
 target_link sign.OpenSquare = Some links.Item
@@ -167,7 +168,7 @@ abbrev pub a_target_link : Token → Option Link
 a_target_link (tokens.Sign s) = target_link s
 a_target_link _ = None
 
--- what stands after a target
+-- what follows a target
 abbrev pub ends_target : Token → Option (Unit {0})
 ends_target (tokens.Sign sign.Assign) = Some tt
 ends_target (tokens.Sign sign.In) = Some tt

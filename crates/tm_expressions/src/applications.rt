@@ -1,4 +1,4 @@
-//! Calls, filters and tests after a value: their names, and what they are passed.
+//! Calls, filters and tests after a value: their names and arguments.
 ghost use Rattle.std.specs.Prelude.{◌≡◌, ◌++◌, ◌∷◌, [], codes, MatchResult};
 ghost use Rattle.tm_expressions.specs.Parses.{Adds, Parses};
 ghost use Rattle.tm_expressions.specs.Grammar as grammar;
@@ -16,9 +16,10 @@ use tm_items::Items;
 use tm_syntax::{Application, Argument, Name, Sign, Step};
 use tm_values::{Error, SharedText};
 
-// Each method reads one rule, with `depth` nestings to go. SyntaxError where no tokens spell it.
+// Each method parses one rule, with `depth` levels of nesting left. SyntaxError if the tokens don't
+// match the rule.
 impl Cursor<'_> {
-    /// The call of a value after its opening bracket, at the end of other steps.
+    /// The call of a value after its opening bracket, pushed on `steps`.
     #[cycle(expressions)]
     #[tactic(auto, unfolding(crate::specs::Grammar::call_step))]
     #[inline(never)]
@@ -36,8 +37,7 @@ impl Cursor<'_> {
         add_call(given, steps)
     }
 
-    /// Reads a filter and its arguments after the value, and adds the step to others. SyntaxError;
-    /// OutOfMemory.
+    /// Parses a filter and its arguments, and pushes the step on `steps`. SyntaxError; OutOfMemory.
     #[cycle(expressions)]
     #[tactic(auto, unfolding(crate::specs::Grammar::filter_step))]
     #[inline(never)]
@@ -56,7 +56,7 @@ impl Cursor<'_> {
         add_application(Application::Filter, name, given, steps)
     }
 
-    /// A test, or `not` and a test, and its arguments after the value, at the end of other steps.
+    /// A test, or `not` and a test, and its arguments, pushed on `steps`.
     #[cycle(expressions)]
     #[tactic(auto, unfolding(crate::specs::Grammar::test_step))]
     #[inline(always)]
@@ -75,7 +75,7 @@ impl Cursor<'_> {
         self.tested(alloc, depth, Application::Test, steps)
     }
 
-    /// The name of a test, and its arguments after the value, at the end of other steps.
+    /// The name of a test and its arguments, pushed on `steps`.
     #[cycle(expressions)]
     #[tactic(auto, unfolding(crate::specs::Grammar::tested))]
     #[inline(never)]
@@ -95,7 +95,7 @@ impl Cursor<'_> {
         add_application(application, name, given, steps)
     }
 
-    /// What a test is passed: a name or a literal without brackets, or the arguments in brackets.
+    /// The arguments of a test: a name or a literal without brackets, or arguments in brackets.
     #[cycle(expressions)]
     #[tactic(auto, unfolding(crate::specs::Grammar::passed_to_test))]
     #[inline(always)]
@@ -109,7 +109,7 @@ impl Cursor<'_> {
         self.given(alloc, depth, given)
     }
 
-    /// The arguments in brackets, if they stand here.
+    /// The arguments in brackets, if there are any.
     #[cycle(expressions)]
     #[tactic(auto, unfolding(crate::specs::Grammar::given))]
     #[inline(always)]
@@ -123,7 +123,7 @@ impl Cursor<'_> {
         self.in_brackets(alloc, depth, given)
     }
 
-    /// The name of a test: a reserved word, or names with dots between them.
+    /// The name of a test: a reserved word, or names separated by dots.
     #[tactic(auto, unfolding(crate::specs::Grammar::test_name))]
     #[inline(never)]
     fn test_name(&mut self, alloc: Global) -> Result<Name, Error>
@@ -135,7 +135,7 @@ impl Cursor<'_> {
         }
     }
 
-    /// Names with dots between them, as one.
+    /// Names separated by dots, as one name.
     #[tactic(auto, unfolding(crate::specs::Grammar::dotted))]
     #[inline(never)]
     fn dotted(&mut self, alloc: Global) -> Result<Name, Error>
@@ -145,7 +145,7 @@ impl Cursor<'_> {
         self.more_parts(alloc, name)
     }
 
-    /// More names after others, each after a dot.
+    /// The other names, each after a dot.
     #[tactic(auto, using(crate::proofs::Loops::parts))]
     fn more_parts(&mut self, alloc: Global, first: Name) -> Result<Name, Error>
         ensures { Parses result self.new ((more_parts first).reads self.old) }
@@ -157,7 +157,7 @@ impl Cursor<'_> {
         Ok(Name::new(alloc, name.as_str())?)
     }
 
-    /// A name, after the names before it and a dot.
+    /// A name after a dot, appended to the names before it.
     #[tactic(auto, unfolding(crate::specs::Grammar::one_part))]
     fn one_part(&mut self, before: SharedText) -> Result<SharedText, Error>
         ensures { Parses result self.new ((one_part before).reads self.old) }
@@ -167,7 +167,7 @@ impl Cursor<'_> {
     }
 }
 
-/// Two names with a dot between them, the first of which is added to. OutOfMemory when out of memory.
+/// Two names with a dot between them; the first is extended. OutOfMemory if memory runs out.
 fn joined(before: SharedText, name: &Name) -> Result<SharedText, Error>
     ensures { MatchResult result
         (λ whole. whole ≡ before ++ codes "." ++ name.now)
@@ -179,7 +179,7 @@ fn joined(before: SharedText, name: &Name) -> Result<SharedText, Error>
     Ok(whole)
 }
 
-/// Adds the application of a name to what it is passed. OutOfMemory when out of memory.
+/// Pushes the application of a name to its arguments. OutOfMemory if memory runs out.
 #[inline(never)]
 pub fn add_application(
     application: Application,
@@ -196,7 +196,7 @@ pub fn add_application(
     add_one(steps, Step::Apply(application, name, by_place, by_name))
 }
 
-/// Adds the call of a value with what it is passed. OutOfMemory when out of memory.
+/// Pushes the call of a value with its arguments. OutOfMemory if memory runs out.
 #[inline(never)]
 fn add_call(given: Passed, steps: &mut Items<Step>) -> Result<(), Error>
     ensures { MatchResult result

@@ -1,4 +1,4 @@
-//! Tokens one after another.
+//! A cursor over tokens.
 ghost use Rattle.std.specs.Prelude.{◌≡◌, ◌∷◌, [], ◌↔◌, IsTrue, IfSome, MatchResult, None, is_some, nat_lt};
 ghost use Rattle.tm_expressions.specs.Parses.{Parses, TakesFirst, TakesSign};
 ghost use Rattle.tm_expressions.specs.Constants.{TakesConstant};
@@ -22,7 +22,7 @@ use tm_items::Boxed;
 use tm_syntax::{Expr, Name, Sign, Token, UnaryOperator};
 use tm_values::{Error, ErrorKind, Value};
 
-/// The tokens that are left. A contract sees them as a list.
+/// The tokens that are left. A contract sees a list.
 #[derive(Drop)]
 pub struct Cursor<'t> {
     rest: &'t [Token],
@@ -41,23 +41,23 @@ impl<'t> Model for Cursor<'t> {
     ghost view = { λ a. a.rest.now };
 }
 
-/// The error of tokens that are refused.
+/// The error for tokens that are refused.
 pub fn refusal() -> Error
     ensures { result ≡ ErrorKind.SyntaxError ∷ [] }
 {
     Error::from(ErrorKind::SyntaxError)
 }
 
-/// Whether a name is a word that may stand after a value in a tag.
+/// Whether a name is a word that may follow a value in a tag.
 fn is_kept(name: &Name) -> bool
     ensures { result ≡ is_kept name.now }
 {
     name.is("recursive") || name.is("ignore") || name.is("as") || name.is("import")
 }
 
-// What the methods that take answer: whether what they look for stood first.
+// Each `take` method returns what it took, or whether it took something.
 impl<'t> Cursor<'t> {
-    /// A cursor before the first of `tokens`.
+    /// A cursor at the first of `tokens`.
     pub fn new(tokens: &'t [Token]) -> Cursor<'t>
         ensures { result ≡ tokens.now }
     {
@@ -78,7 +78,7 @@ impl<'t> Cursor<'t> {
         self.rest.is_empty()
     }
 
-    /// Whether a slice goes on or ends here.
+    /// Whether a part of a slice ends here.
     pub(crate) fn ends_part(&self) -> bool
         ensures { result ≡ starts ends_part self.now }
     {
@@ -88,7 +88,7 @@ impl<'t> Cursor<'t> {
         }
     }
 
-    /// Whether a comma stands first.
+    /// Whether the next token is a comma.
     pub fn is_at_comma(&self) -> bool
         ensures { result ≡ starts is_comma self.now }
     {
@@ -98,7 +98,7 @@ impl<'t> Cursor<'t> {
         }
     }
 
-    /// Whether `if` stands here.
+    /// Whether the next token is `if`.
     pub(crate) fn is_at_if(&self) -> bool
         ensures { result ≡ is_some (first_sees (is sign.If) self.now) }
     {
@@ -108,7 +108,7 @@ impl<'t> Cursor<'t> {
         }
     }
 
-    /// Takes `sign` if it stands first, and answers whether it did.
+    /// Takes `sign` if it comes next. Returns whether it did.
     pub fn take(&mut self, sign: Sign) -> bool
         ensures { TakesSign result self.old self.new (first_sees (is sign) self.old) }
     {
@@ -121,8 +121,8 @@ impl<'t> Cursor<'t> {
         }
     }
 
-    /// Takes a comma if it stands first and `close`, the end of the list, doesn't stand after it;
-    /// answers whether it did.
+    /// Takes a comma if it comes next and isn't followed by `close`, the end of the list. Returns
+    /// whether it did.
     pub fn take_comma(&mut self, close: Sign) -> bool
         ensures { TakesSign result self.old self.new ((comma close).sees self.old) }
     {
@@ -138,7 +138,7 @@ impl<'t> Cursor<'t> {
         }
     }
 
-    /// Takes a name, and answers a second owner of it. OutOfMemory where there can be none.
+    /// Takes a name, and returns a second owner of it. OutOfMemory if there can't be one.
     pub(crate) fn take_name(&mut self) -> Result<Option<Name>, Error>
         ensures { MatchResult result
             (λ name. TakesFirst name self.old self.new (first_sees a_name self.old))
@@ -154,8 +154,8 @@ impl<'t> Cursor<'t> {
         }
     }
 
-    /// Takes a name with `=` after it, and answers a second owner of the name. OutOfMemory where
-    /// there can be none.
+    /// Takes a name followed by `=`, and returns a second owner of the name. OutOfMemory if there
+    /// can't be one.
     pub(crate) fn take_keyword(&mut self) -> Result<Option<Name>, Error>
         ensures { MatchResult result
             (λ name. TakesFirst name self.old self.new (keyword_start.sees self.old))
@@ -171,8 +171,8 @@ impl<'t> Cursor<'t> {
         }
     }
 
-    /// Takes the call of a name after a dot, with nothing in its brackets, and answers a second
-    /// owner of the name. OutOfMemory where there can be none.
+    /// Takes a dot and a call of a name without arguments, and returns a second owner of the name.
+    /// OutOfMemory if there can't be one.
     pub(crate) fn take_bare_call(&mut self) -> Result<Option<Name>, Error>
         ensures { MatchResult result
             (λ name. TakesFirst name self.old self.new (bare_call.sees self.old))
@@ -194,8 +194,7 @@ impl<'t> Cursor<'t> {
         }
     }
 
-    /// Takes a literal or a word for a value, as an expression. OutOfMemory where there is no
-    /// memory for that.
+    /// Takes a literal or the word of a value, as an expression. OutOfMemory if memory runs out.
     #[inline(always)]
     pub(crate) fn take_constant(&mut self, alloc: Global) -> Result<Option<Boxed<Expr>>, Error>
         ensures { MatchResult result
@@ -208,7 +207,7 @@ impl<'t> Cursor<'t> {
         }
     }
 
-    /// The same; a call of its own, since most values are names.
+    /// The same, not inlined, since most values are names.
     #[inline(never)]
     fn read_constant(&mut self, alloc: Global) -> Result<Option<Boxed<Expr>>, Error>
         ensures { MatchResult result
@@ -228,8 +227,8 @@ impl<'t> Cursor<'t> {
         Ok(Some(expr))
     }
 
-    /// Takes a reserved word that names a test, and answers it as a name. OutOfMemory where there is
-    /// no memory for that.
+    /// Takes a reserved word that names a test, and returns it as a name. OutOfMemory if memory
+    /// runs out.
     pub(crate) fn take_test_word(&mut self, alloc: Global) -> Result<Option<Name>, Error>
         ensures { MatchResult result
             (λ name. TakesFirst name self.old self.new (first_sees a_test_word self.old))
@@ -246,8 +245,8 @@ impl<'t> Cursor<'t> {
         Ok(Some(name))
     }
 
-    /// Takes what a test may be passed without brackets, as an expression. OutOfMemory where there is
-    /// no memory for that.
+    /// Takes an argument that a test may have without brackets, as an expression. OutOfMemory if
+    /// memory runs out.
     #[inline(never)]
     pub(crate) fn take_bare(&mut self, alloc: Global) -> Result<Option<Boxed<Expr>>, Error>
         ensures { MatchResult result
@@ -273,7 +272,7 @@ impl<'t> Cursor<'t> {
         Ok(Some(expr))
     }
 
-    /// Takes what goes on with a value at this level: a sign, or `not` and one.
+    /// Takes the sign, or `not` and a sign, that continues a value at this level.
     pub(crate) fn take_link(&mut self, level: u8) -> Option<Link>
         ensures first { TakesFirst result self.old self.new ((link level).sees self.old) }
         ensures operator { IfSome result (λ link. is_some (role_of link) ≡ nat_lt 0 level) }
@@ -295,8 +294,7 @@ impl<'t> Cursor<'t> {
         }
     }
 
-    /// The level, from this one on and before the end, at which what stands here goes on with a
-    /// value.
+    /// The first level, from `from` on and before `end`, at which the next tokens continue a value.
     #[inline(always)]
     pub(crate) fn link_level(&self, from: u8, end: u8) -> Option<u8>
         ensures { GoesOnAt result from end self.now }
@@ -313,8 +311,8 @@ impl<'t> Cursor<'t> {
         }
     }
 
-    /// Takes a sign before an operand of at most this level; that operand's level, and the
-    /// operator.
+    /// Takes a prefix whose operand is of at most this level. Returns the level of the operand and
+    /// the operator.
     pub(crate) fn take_prefix(&mut self, level: u8) -> Option<(u8, UnaryOperator)>
         ensures { TakesFirst result self.old self.new
             (first_sees (prefix_up_to level) self.old) }
@@ -331,7 +329,8 @@ impl<'t> Cursor<'t> {
         }
     }
 
-    /// Makes sure that a bracket may open: SyntaxError if `depth`, the nestings to go, is 0.
+    /// Checks that a bracket may open. SyntaxError if `depth`, the number of nesting levels left,
+    /// is 0.
     #[tactic(auto, using(crate::proofs::Nesting::expressions))]
     pub fn room(&self, depth: u8) -> Result<(), Error>
         ensures { Parses result self.now ((inside depth).room.reads self.now) }
@@ -342,7 +341,7 @@ impl<'t> Cursor<'t> {
         Ok(())
     }
 
-    /// Takes `sign`. SyntaxError if it doesn't stand first.
+    /// Takes `sign`. SyntaxError if it doesn't come next.
     pub fn expect(&mut self, sign: Sign) -> Result<(), Error>
         ensures { Parses result self.new ((token (is sign)).reads self.old) }
     {
@@ -353,8 +352,8 @@ impl<'t> Cursor<'t> {
         }
     }
 
-    /// Takes a name, and answers a second owner of it. SyntaxError if no name stands first;
-    /// OutOfMemory if there can be no second owner.
+    /// Takes a name, and returns a second owner of it. SyntaxError if no name comes next.
+    /// OutOfMemory if there can't be a second owner.
     #[inline(never)]
     pub fn expect_name(&mut self) -> Result<Name, Error>
         ensures { Parses result self.new ((token a_name).reads self.old) }

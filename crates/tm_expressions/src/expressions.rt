@@ -1,4 +1,4 @@
-//! Expressions: values with operators, steps and conditions after them.
+//! Expressions: values, and the operators, steps and conditions after them.
 ghost use Rattle.std.specs.Prelude.{◌≡◌, ◌∷◌, [], None, MatchResult};
 ghost use Rattle.tm_expressions.specs.Parses.{Adds, Parses};
 ghost use Rattle.tm_expressions.specs.Grammar as grammar;
@@ -23,20 +23,21 @@ use tm_syntax::{
 };
 use tm_values::{Error, Value};
 
-/// What an operand begins with, before the operators of its levels.
+/// The start of an operand, before the operators of its levels.
 #[derive(Drop)]
 pub struct OperandStart {
     /// The value.
     pub value: Boxed<Expr>,
-    /// The level of which it is an operand.
+    /// The level whose operand it is.
     pub level: u8,
 }
 
-// Each method reads one rule, with `depth` nestings to go. SyntaxError where no tokens spell it.
-// A frame has room for the locals of all that is inlined, so nested expressions take less stack
-// where the rarer methods are not.
+// Each method parses one rule, with `depth` levels of nesting left. SyntaxError if the tokens don't
+// match the rule. A frame has room for the locals of all inlined functions, so the rarer methods
+// aren't inlined: nested expressions need less stack then.
 impl Cursor<'_> {
-    /// Reads an expression inside one nesting more. SyntaxError also if `depth` is 0; OutOfMemory.
+    /// Parses an expression one nesting level deeper. SyntaxError, also if `depth` is 0;
+    /// OutOfMemory.
     #[cycle(expressions)]
     #[tactic(auto, using(crate::proofs::Nesting::expressions))]
     pub fn inner_expr(&mut self, alloc: Global, depth: u8) -> Result<Boxed<Expr>, Error>
@@ -48,7 +49,7 @@ impl Cursor<'_> {
         self.expr(alloc, depth - 1)
     }
 
-    /// An operand of a level inside one nesting more.
+    /// An operand of a level, one nesting level deeper.
     #[cycle(expressions)]
     #[tactic(auto, using(crate::proofs::Nesting::expressions))]
     fn inner_operand(&mut self, alloc: Global, depth: u8, level: u8) -> Result<Boxed<Expr>, Error>
@@ -60,7 +61,7 @@ impl Cursor<'_> {
         self.operand(alloc, depth - 1, level)
     }
 
-    /// Reads an expression: a value, and the conditions after it. SyntaxError; OutOfMemory.
+    /// Parses an expression: a value and the conditions after it. SyntaxError; OutOfMemory.
     #[cycle(expressions)]
     #[tactic(auto, unfolding(crate::specs::Grammar::expr), using(crate::proofs::Levels::no_condition))]
     #[inline(never)]
@@ -74,7 +75,7 @@ impl Cursor<'_> {
         self.conditioned(alloc, depth, value)
     }
 
-    /// A value and the conditions after it.
+    /// The value with the conditions after it.
     #[cycle(expressions)]
     #[inline(never)]
     fn conditioned(
@@ -103,7 +104,7 @@ impl Cursor<'_> {
         Ok(conditions)
     }
 
-    /// A condition and its else part, at the end of others.
+    /// A condition and its else part, pushed on the others.
     #[cycle(expressions)]
     #[tactic(auto, unfolding(crate::specs::Grammar::condition))]
     #[inline(always)]
@@ -121,7 +122,7 @@ impl Cursor<'_> {
         add_one(conditions, Condition { test, otherwise })
     }
 
-    /// What stands after `else`, if it stands there.
+    /// The value after `else`, if there is one.
     #[cycle(expressions)]
     #[tactic(auto, unfolding(crate::specs::Grammar::else_part))]
     #[inline(never)]
@@ -134,7 +135,7 @@ impl Cursor<'_> {
         no_else(alloc)
     }
 
-    /// Reads a value with all operators, without conditions after it. SyntaxError; OutOfMemory.
+    /// Parses a value with all its operators, but without conditions. SyntaxError; OutOfMemory.
     #[cycle(expressions)]
     #[tactic(auto, using(crate::proofs::Levels::operands))]
     #[inline(always)]
@@ -145,7 +146,7 @@ impl Cursor<'_> {
         self.climb(alloc, depth, start.level, OR_LEVEL + 1, start.value)
     }
 
-    /// Reads an operand of a level. SyntaxError; OutOfMemory.
+    /// Parses an operand of a level. SyntaxError; OutOfMemory.
     #[cycle(expressions)]
     #[tactic(auto, using(crate::proofs::Levels::operands))]
     pub fn operand(&mut self, alloc: Global, depth: u8, level: u8) -> Result<Boxed<Expr>, Error>
@@ -155,8 +156,8 @@ impl Cursor<'_> {
         self.climb(alloc, depth, start.level, level, start.value)
     }
 
-    /// What an operand of a level begins with: a prefix and its operand, else what stands between
-    /// operators.
+    /// The start of an operand of a level: a prefix and its operand, or else a primary expression
+    /// with its steps.
     #[cycle(expressions)]
     #[tactic(auto, unfolding(crate::specs::Levels::operand_start))]
     #[inline(never)]
@@ -180,8 +181,8 @@ impl Cursor<'_> {
         })
     }
 
-    /// After an operand of a level, the steps of all levels before the end, from its own on. Most
-    /// values have no operators after them.
+    /// The steps after an operand, from its own level on up to `end`. Most values have no operators
+    /// after them.
     #[cycle(expressions)]
     #[inline(always)]
     fn climb(
@@ -207,7 +208,7 @@ impl Cursor<'_> {
         Ok(value)
     }
 
-    /// A value with the steps after it that are no operators.
+    /// A value and the steps after it, without operators.
     #[cycle(expressions)]
     #[inline(never)]
     pub(crate) fn with_steps(
@@ -222,7 +223,7 @@ impl Cursor<'_> {
         chained(alloc, value, steps)
     }
 
-    /// As many steps that are no operators as there are.
+    /// As many steps as there are, without operators.
     #[cycle(expressions)]
     #[tactic(auto, using(crate::proofs::Waiting::no_role))]
     #[inline(always)]
@@ -238,8 +239,8 @@ impl Cursor<'_> {
         Ok(steps)
     }
 
-    /// Reads what stands after a link that is no operator, and adds the step to others. SyntaxError;
-    /// OutOfMemory.
+    /// Parses what follows a link that isn't an operator, and pushes the step on `steps`.
+    /// SyntaxError; OutOfMemory.
     #[cycle(expressions)]
     #[inline(always)]
     pub fn one_step(
@@ -265,7 +266,7 @@ impl Cursor<'_> {
         }
     }
 
-    /// An attribute, or the call of a method, at the end of other steps.
+    /// An attribute or a method call, pushed on `steps`.
     #[cycle(expressions)]
     #[tactic(auto, unfolding(crate::specs::Grammar::named_step))]
     #[inline(never)]
@@ -282,7 +283,7 @@ impl Cursor<'_> {
         add_application(Application::Method, name, given, steps)
     }
 
-    /// The item or slice in square brackets, and their end, at the end of other steps.
+    /// The item or slice in square brackets and the closing bracket, pushed on `steps`.
     #[cycle(expressions)]
     #[tactic(auto, unfolding(crate::specs::Grammar::subscript))]
     #[inline(never)]
@@ -303,7 +304,7 @@ impl Cursor<'_> {
         add_one(steps, Step::Item(item))
     }
 
-    /// A slice after its first colon, and the end of its brackets, at the end of other steps.
+    /// A slice after its first colon, and the closing bracket, pushed on `steps`.
     #[cycle(expressions)]
     #[tactic(auto, unfolding(crate::specs::Grammar::slice))]
     #[inline(never)]
@@ -323,7 +324,7 @@ impl Cursor<'_> {
         add_one(steps, Step::Slice(start, stop, by))
     }
 
-    /// The part after the second colon of a slice, if it has one.
+    /// The part after the second colon of a slice, if there is one.
     #[cycle(expressions)]
     #[tactic(auto, unfolding(crate::specs::Grammar::last_part))]
     fn last_part(&mut self, alloc: Global, depth: u8) -> Result<Boxed<Expr>, Error>
@@ -348,7 +349,7 @@ impl Cursor<'_> {
     }
 }
 
-/// What stands for a missing part. OutOfMemory when out of memory.
+/// The expression for a missing part. OutOfMemory if memory runs out.
 #[inline(never)]
 fn missing(alloc: Global) -> Result<Boxed<Expr>, Error>
     ensures { MatchResult result
@@ -358,7 +359,7 @@ fn missing(alloc: Global) -> Result<Boxed<Expr>, Error>
     boxed(alloc, Expr::Const(Value::none()))
 }
 
-/// What stands for a missing else part. OutOfMemory when out of memory.
+/// The expression for a missing else part. OutOfMemory if memory runs out.
 #[inline(never)]
 fn no_else(alloc: Global) -> Result<Boxed<Expr>, Error>
     ensures { MatchResult result
@@ -368,7 +369,7 @@ fn no_else(alloc: Global) -> Result<Boxed<Expr>, Error>
     boxed(alloc, Expr::Const(Value::silent_undefined()))
 }
 
-/// A comparison, and those in a row after it.
+/// A comparison and the chained ones after it, as a step.
 #[tactic(auto, using(crate::proofs::Nesting::comparisons))]
 #[inline(never)]
 pub fn compared(operator: BinaryOperator, right: Boxed<Expr>, after: Items<Comparison>) -> Step
@@ -380,8 +381,7 @@ pub fn compared(operator: BinaryOperator, right: Boxed<Expr>, after: Items<Compa
     Step::Compare(operator, right, after)
 }
 
-/// A value and its conditions; the value itself where there are none. OutOfMemory when out of
-/// memory.
+/// A value and its conditions; the value itself if there are none. OutOfMemory if memory runs out.
 #[tactic(auto, using(crate::proofs::Nesting::conditions))]
 #[inline(never)]
 fn conditional(
@@ -399,7 +399,7 @@ fn conditional(
     boxed(alloc, Expr::Conditional(value, conditions))
 }
 
-/// An operator before its operand. OutOfMemory when out of memory.
+/// A prefix operator and its operand. OutOfMemory if memory runs out.
 #[inline(never)]
 fn unary(alloc: Global, operator: UnaryOperator, operand: Boxed<Expr>) -> Result<Boxed<Expr>, Error>
     ensures { MatchResult result
@@ -409,7 +409,7 @@ fn unary(alloc: Global, operator: UnaryOperator, operand: Boxed<Expr>) -> Result
     boxed(alloc, Expr::Unary(operator, operand))
 }
 
-/// A value and its steps; the value itself if there are none. OutOfMemory when out of memory.
+/// A value and its steps; the value itself if there are none. OutOfMemory if memory runs out.
 #[tactic(auto, using(crate::proofs::Nesting::chains))]
 #[inline(never)]
 pub fn chained(alloc: Global, value: Boxed<Expr>, steps: Items<Step>) -> Result<Boxed<Expr>, Error>

@@ -1,4 +1,4 @@
-//! From tokens to the tree of an expression.
+//! Parsing the tokens of an expression into a tree.
 #![tactic(auto)]
 
 mod applications;

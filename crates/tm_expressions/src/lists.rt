@@ -1,4 +1,4 @@
-//! Lists and boxes of what was read, which want memory.
+//! Lists and boxes of parsed items.
 ghost use Rattle.std.specs.Prelude.{◌≡◌, ◌++◌, [], ◌∷◌, MatchResult};
 ghost use Rattle.tm_values.specs.declared.error.ErrorKind.TheVariants.{OutOfMemory};
 
@@ -6,7 +6,7 @@ use std::alloc::Global;
 use tm_items::{Boxed, Items};
 use tm_values::Error;
 
-/// Items with one more. OutOfMemory when out of memory.
+/// The items and one more. OutOfMemory if memory runs out.
 #[inline(always)]
 pub fn with_one<T: Drop>(items: Items<T>, item: T) -> Result<Items<T>, Error>
     ensures { MatchResult result
@@ -18,7 +18,7 @@ pub fn with_one<T: Drop>(items: Items<T>, item: T) -> Result<Items<T>, Error>
     Ok(items)
 }
 
-/// Adds an item to others. OutOfMemory when out of memory.
+/// Pushes an item. OutOfMemory if memory runs out.
 #[inline(always)]
 pub fn add_one<T: Drop>(items: &mut Items<T>, item: T) -> Result<(), Error>
     ensures { MatchResult result
@@ -29,7 +29,7 @@ pub fn add_one<T: Drop>(items: &mut Items<T>, item: T) -> Result<(), Error>
     Ok(())
 }
 
-/// A value in a box. OutOfMemory when out of memory.
+/// A value in a box. OutOfMemory if memory runs out.
 #[inline(always)]
 pub fn boxed<T: Drop>(alloc: Global, value: T) -> Result<Boxed<T>, Error>
     ensures { MatchResult result

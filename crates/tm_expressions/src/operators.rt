@@ -1,5 +1,5 @@
-//! Operators between operands, read in one loop: those that wait for their right sides stand in a
-//! list. So the machine's stack is taken by brackets, prefixes and the like alone.
+//! Binary operators, parsed in one loop. Operators that wait for their right operand are in a list,
+//! so only brackets, prefixes and the like use the machine's stack.
 ghost use Rattle.std.specs.Prelude.{◌≡◌, ◌++◌, ◌+◌, [], ◌∷◌, ◌<◌, ◌≤◌, length, true, is_some, Some, None, IfOk, MatchResult};
 ghost use Rattle.tm_expressions.specs.Parses.{Leads, Parses};
 ghost use Rattle.tm_expressions.specs.Grammar as grammar;
@@ -22,7 +22,7 @@ use tm_items::{Boxed, Items};
 use tm_syntax::{BinaryOperator, Comparison, Expr, Step};
 use tm_values::Error;
 
-/// A value, and the levels whose steps are read after it.
+/// A value, and the levels whose steps are parsed after it.
 #[derive(Drop)]
 pub struct Reached {
     /// The value.
@@ -33,7 +33,7 @@ pub struct Reached {
     pub end: u8,
 }
 
-/// A value with steps of a level, and the levels after that one.
+/// A value with its steps of a level, and the levels after that one.
 #[derive(Drop)]
 pub struct Reading {
     /// The value.
@@ -48,25 +48,25 @@ pub struct Reading {
     pub end: u8,
 }
 
-/// A comparison, and those in a row after it.
+/// A comparison, and the chained ones after it.
 #[derive(Drop)]
 pub struct Row {
     /// The operator.
     pub operator: BinaryOperator,
-    /// The right side.
+    /// The right operand.
     pub right: Boxed<Expr>,
     /// The comparisons after it.
     pub after: Items<Comparison>,
 }
 
-/// What a right side is that of.
+/// What a right operand belongs to.
 #[derive(Drop)]
 pub enum Role {
     /// An operator.
     Operator(BinaryOperator),
     /// A comparison.
     Comparison(BinaryOperator),
-    /// A comparison in a row after others.
+    /// A chained comparison after others.
     After(Row, BinaryOperator),
     /// `and`
     And,
@@ -74,41 +74,42 @@ pub enum Role {
     Or,
 }
 
-/// An operator that waits for its right side.
+/// An operator that waits for its right operand.
 #[derive(Drop)]
 pub struct Waiting {
-    /// What stands before it.
+    /// What is before it.
     pub before: Reading,
-    /// What the right side is that of.
+    /// What the right operand belongs to.
     pub role: Role,
 }
 
-/// What a right side makes.
+/// What a right operand completes.
 #[derive(Drop)]
 pub enum Made {
     /// A step.
     Step(Step),
-    /// Comparisons, after which others may stand.
+    /// Comparisons, after which others may be chained.
     Row(Row),
 }
 
-/// What is read next.
+/// What is parsed next.
 #[derive(Drop)]
 pub enum Turn {
-    /// What goes on with a value.
+    /// The operators after a value.
     After(Reached),
-    /// What goes on with a value and is no operator, and then the levels after it up to an end.
+    /// The steps after a value that aren't operators, and then the operators of the levels up to an
+    /// end.
     Postfix(Boxed<Expr>, u8),
-    /// The right side of the last operator that waits, an operand of its level.
+    /// The right operand of the last waiting operator, which is an operand of this level.
     Operand(u8),
-    /// Nothing: this is the whole.
+    /// Nothing: this is the whole expression.
     Whole(Boxed<Expr>),
 }
 
-// What is left to be read after each answer is what was left before. SyntaxError where no tokens
-// spell that.
+// The result of each method and the tokens left after it continue the same rule. SyntaxError if the
+// tokens don't match it.
 impl Cursor<'_> {
-    /// After an operand, the steps of all levels from one on and before the end.
+    /// The steps after an operand, of all levels from its level on up to `end`.
     #[cycle(expressions)]
     #[inline(never)]
     pub(crate) fn operators(
@@ -137,7 +138,7 @@ impl Cursor<'_> {
         }
     }
 
-    /// What the right side of an operator of this level begins with.
+    /// The start of the right operand of an operator of this level.
     #[cycle(expressions)]
     #[tactic(auto, using(crate::proofs::Waiting::right_starts))]
     #[inline(always)]
@@ -155,7 +156,7 @@ impl Cursor<'_> {
         })
     }
 
-    /// A value with what goes on with it and is no operator.
+    /// A value with the steps after it that aren't operators.
     #[cycle(expressions)]
     #[tactic(auto, using(crate::proofs::Waiting::postfix_starts))]
     #[inline(always)]
@@ -180,7 +181,7 @@ impl Cursor<'_> {
         })
     }
 
-    /// What is read next after a value.
+    /// What is parsed next after a value.
     #[inline(never)]
     fn turn(
         &mut self,
@@ -205,7 +206,7 @@ impl Cursor<'_> {
         self.after_operator(alloc, depth, level, reached, waiting)
     }
 
-    /// After an operator of a level, the first one there, its right side.
+    /// After the first operator of a level: its right operand.
     fn after_operator(
         &mut self,
         alloc: Global,
@@ -246,8 +247,8 @@ impl Cursor<'_> {
         Ok(Turn::Operand(level))
     }
 
-    /// After a right side, another operator of the level of the last one that waits, or the levels
-    /// after that one. Where none waits it is the whole.
+    /// After a right operand: another operator of the level of the last waiting one, or the levels
+    /// after it. If no operator waits, it is the whole expression.
     #[tactic(auto, using(crate::proofs::Waiting::above_less))]
     #[inline(never)]
     fn after_right(
@@ -281,7 +282,7 @@ impl Cursor<'_> {
     }
 }
 
-/// What the right side after a link is that of; none where it has none.
+/// What the right operand after a link belongs to. None if the link has no right operand.
 fn role_of(link: Link) -> Option<Role>
     ensures { result ≡ role_of link }
 {
@@ -294,7 +295,7 @@ fn role_of(link: Link) -> Option<Role>
     }
 }
 
-/// What a right side makes. OutOfMemory when out of memory.
+/// What a right operand completes. OutOfMemory if memory runs out.
 fn made_by(alloc: Global, role: Role, right: Boxed<Expr>) -> Result<Made, Error>
     ensures { MatchResult result
         (λ it. it ≡ waits.made role right)
@@ -317,8 +318,8 @@ fn made_by(alloc: Global, role: Role, right: Boxed<Expr>) -> Result<Made, Error>
     }
 }
 
-/// What waits after what a right side makes and another link of its level. SyntaxError where that
-/// link may not stand there.
+/// The waiting operator after a completed right operand and another link of its level. SyntaxError
+/// if the link isn't allowed there.
 fn again(before: Reading, made: Made, link: Link) -> Result<Waiting, Error>
     ensures { MatchResult result
         (λ next. waits.again before made link ≡ Some next)
@@ -330,7 +331,7 @@ fn again(before: Reading, made: Made, link: Link) -> Result<Waiting, Error>
     }
 }
 
-/// The operator of a link after a step of its level. SyntaxError where that has no right side.
+/// The operator of a link after a step of its level. SyntaxError if the link has no right operand.
 fn after_step(before: Reading, step: Step, link: Link) -> Result<Waiting, Error>
     ensures { MatchResult result
         (λ next. waits.again before (makes.Step step) link ≡ Some next)
@@ -349,7 +350,7 @@ fn after_step(before: Reading, step: Step, link: Link) -> Result<Waiting, Error>
     Ok(Waiting { before, role })
 }
 
-/// The comparison of a link in a row after others. SyntaxError where that is none.
+/// The comparison of a link, chained after others. SyntaxError if the link isn't a comparison.
 fn after_row(before: Reading, row: Row, link: Link) -> Result<Waiting, Error>
     ensures { MatchResult result
         (λ next. waits.again before (makes.Row row) link ≡ Some next)
@@ -362,8 +363,8 @@ fn after_row(before: Reading, row: Row, link: Link) -> Result<Waiting, Error>
     Ok(Waiting { before, role })
 }
 
-/// A value with its steps of a level, the last of which a right side made, before the levels after
-/// that one. OutOfMemory when out of memory.
+/// A value with its steps of a level, the last of which was just completed, before the levels after
+/// that one. OutOfMemory if memory runs out.
 fn ended(alloc: Global, before: Reading, made: Made) -> Result<Reached, Error>
     ensures { MatchResult result
         (λ r. r ≡ record {
@@ -381,7 +382,7 @@ fn ended(alloc: Global, before: Reading, made: Made) -> Result<Reached, Error>
     })
 }
 
-/// The step that a right side made.
+/// The completed step.
 fn into_step(made: Made) -> Step
     ensures { result ≡ step_of made }
 {

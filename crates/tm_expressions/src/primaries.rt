@@ -1,4 +1,4 @@
-//! What stands between operators: literals, names, calls, and what stands in brackets.
+//! Primary expressions: literals, names, calls and brackets.
 ghost use Rattle.std.specs.Prelude.{◌≡◌, ◌++◌, ◌∷◌, [], MatchResult};
 ghost use Rattle.tm_expressions.specs.Parses.{Adds, Parses};
 ghost use Rattle.tm_expressions.specs.Grammar.{inside, all_passed, argument, bracketed, called, closed, in_brackets, items};
@@ -16,16 +16,16 @@ use tm_items::{Boxed, Items};
 use tm_syntax::{Argument, Expr, Keyword, Name, Pair, Sign};
 use tm_values::Error;
 
-/// What a call is passed.
+/// The arguments of a call.
 pub struct Passed {
-    /// By their places.
+    /// The positional arguments.
     pub by_place: Items<Argument>,
-    /// By their names, after all others.
+    /// The keyword arguments, after all positional ones.
     pub by_name: Items<Keyword>,
 }
 
 impl Drop for Passed {
-    // Not inline, so that the methods in which an error drops it have small frames.
+    // Not inlined, so that methods that drop it on an error have small frames.
     #[inline(never)]
     fn drop(self) {
         let Passed {
@@ -36,7 +36,7 @@ impl Drop for Passed {
 }
 
 impl Passed {
-    /// What is passed by places, and what by names.
+    /// The positional and the keyword arguments.
     pub fn into_parts(self) -> (Items<Argument>, Items<Keyword>)
         ensures { result ≡ (self.by_place, self.by_name) }
     {
@@ -45,9 +45,10 @@ impl Passed {
     }
 }
 
-// Each method reads one rule, with `depth` nestings to go. SyntaxError where no tokens spell it.
+// Each method parses one rule, with `depth` levels of nesting left. SyntaxError if the tokens don't
+// match the rule.
 impl Cursor<'_> {
-    /// A literal, a name, a call, or what stands in brackets.
+    /// A literal, a name, a call, or an expression in brackets.
     #[cycle(expressions)]
     #[tactic(auto, unfolding(crate::specs::Grammar::primary))]
     #[inline(always)]
@@ -72,7 +73,7 @@ impl Cursor<'_> {
         Err(refusal())
     }
 
-    /// A name, the call of one, or that of a block of `self`.
+    /// A name, a call of it, or a call of a block of `self`.
     #[cycle(expressions)]
     #[tactic(auto, unfolding(crate::specs::Grammar::named))]
     #[inline(always)]
@@ -100,7 +101,7 @@ impl Cursor<'_> {
         call_of(alloc, name, given)
     }
 
-    /// The name `self`, or the block that is called after it.
+    /// The name `self`, or a call of a block of `self`.
     #[tactic(auto, unfolding(crate::specs::Grammar::of_self))]
     #[inline(never)]
     fn of_self(&mut self, alloc: Global, depth: u8, name: Name) -> Result<Boxed<Expr>, Error>
@@ -113,7 +114,7 @@ impl Cursor<'_> {
         boxed(alloc, Expr::Var(name))
     }
 
-    /// The expression or tuple in round brackets, and their end.
+    /// The expression or tuple in round brackets, and the closing bracket.
     #[cycle(expressions)]
     #[tactic(auto, unfolding(crate::specs::Grammar::bracketed))]
     #[inline(never)]
@@ -131,7 +132,7 @@ impl Cursor<'_> {
         self.tuple(alloc, depth, first)
     }
 
-    /// An expression after the end of its brackets: a name is called as one without them.
+    /// An expression after its closing bracket. A name in brackets can be called like one without.
     #[cycle(expressions)]
     #[inline(never)]
     fn closed(&mut self, alloc: Global, depth: u8, value: Boxed<Expr>) -> Result<Boxed<Expr>, Error>
@@ -144,7 +145,7 @@ impl Cursor<'_> {
         Ok(value)
     }
 
-    /// A tuple after its first item, and the end of its brackets.
+    /// A tuple after its first item, and the closing bracket.
     #[cycle(expressions)]
     #[tactic(auto, unfolding(crate::specs::Grammar::tuple))]
     #[inline(never)]
@@ -157,7 +158,7 @@ impl Cursor<'_> {
         tuple_of(alloc, items)
     }
 
-    /// The items of a list, and the end of its brackets.
+    /// The items of a list, and the closing bracket.
     #[cycle(expressions)]
     #[tactic(auto, unfolding(crate::specs::Grammar::list_literal))]
     #[inline(never)]
@@ -170,7 +171,7 @@ impl Cursor<'_> {
         list_of(alloc, items)
     }
 
-    /// The pairs of a map, and the end of its brackets.
+    /// The pairs of a map, and the closing bracket.
     #[cycle(expressions)]
     #[tactic(auto, unfolding(crate::specs::Grammar::map_literal))]
     #[inline(never)]
@@ -182,7 +183,7 @@ impl Cursor<'_> {
         boxed(alloc, Expr::Map(pairs))
     }
 
-    /// More expressions at the end of others, up to a sign and with it.
+    /// Expressions up to and including the closing sign, pushed on the others.
     #[cycle(expressions)]
     #[tactic(auto, unfolding(crate::specs::Grammar::items))]
     fn exprs(
@@ -204,7 +205,7 @@ impl Cursor<'_> {
         self.expect(close)
     }
 
-    /// More expressions at the end of others, each after a comma.
+    /// The other expressions, each after a comma.
     #[cycle(expressions)]
     #[tactic(auto, using(crate::proofs::Loops::commas))]
     fn more_exprs(
@@ -223,7 +224,7 @@ impl Cursor<'_> {
         Ok(())
     }
 
-    /// An expression, at the end of others.
+    /// An expression, pushed on the others.
     #[cycle(expressions)]
     #[inline(never)]
     fn one_expr(&mut self, alloc: Global, depth: u8, exprs: &mut Items<Expr>) -> Result<(), Error>
@@ -234,7 +235,7 @@ impl Cursor<'_> {
         add_expr(exprs, value)
     }
 
-    /// The pairs of a map, and the end of its brackets.
+    /// The pairs of a map, and the closing bracket.
     #[cycle(expressions)]
     #[tactic(auto, unfolding(crate::specs::Grammar::items))]
     fn pairs(&mut self, alloc: Global, depth: u8) -> Result<Items<Pair>, Error>
@@ -252,7 +253,7 @@ impl Cursor<'_> {
         Ok(pairs)
     }
 
-    /// More pairs, each after a comma.
+    /// The other pairs, each after a comma.
     #[cycle(expressions)]
     #[tactic(auto, using(crate::proofs::Loops::commas))]
     fn more_pairs(
@@ -271,7 +272,7 @@ impl Cursor<'_> {
         Ok(pairs)
     }
 
-    /// A pair, at the end of others.
+    /// A pair, pushed on the others.
     #[cycle(expressions)]
     #[tactic(auto, unfolding(crate::specs::Grammar::pair))]
     fn one_pair(
@@ -289,7 +290,7 @@ impl Cursor<'_> {
         with_one(pairs, Pair { key, value })
     }
 
-    /// The arguments of a call inside one bracket more, and its end.
+    /// The arguments of a call one nesting level deeper, and the closing bracket.
     #[cycle(expressions)]
     #[tactic(auto, unfolding(crate::specs::Grammar::in_brackets))]
     pub(crate) fn in_brackets(
@@ -305,7 +306,7 @@ impl Cursor<'_> {
         self.all_passed(alloc, depth, given)
     }
 
-    /// The arguments of a call, and the end of its brackets.
+    /// The arguments of a call, and the closing bracket.
     #[cycle(expressions)]
     #[tactic(auto, unfolding(crate::specs::Grammar::all_passed))]
     #[inline(never)]
@@ -322,7 +323,7 @@ impl Cursor<'_> {
         self.expect(Sign::CloseRound)
     }
 
-    /// More arguments after those that are given, each after a comma.
+    /// The other arguments, each after a comma.
     #[cycle(expressions)]
     #[tactic(auto, using(crate::proofs::Loops::arguments))]
     fn more_passed(&mut self, alloc: Global, depth: u8, given: &mut Passed) -> Result<(), Error>
@@ -335,7 +336,7 @@ impl Cursor<'_> {
         Ok(())
     }
 
-    /// An argument, after those that are given.
+    /// An argument, pushed on the others.
     #[cycle(expressions)]
     #[tactic(auto, unfolding(crate::specs::Grammar::one_passed))]
     #[inline(never)]
@@ -355,7 +356,7 @@ impl Cursor<'_> {
         self.argument(alloc, depth, given)
     }
 
-    /// An argument by its name, after its `=`.
+    /// A keyword argument after its `=`.
     #[cycle(expressions)]
     #[tactic(auto, unfolding(crate::specs::Grammar::keyword))]
     fn keyword(
@@ -372,7 +373,7 @@ impl Cursor<'_> {
         add_keyword(given, Keyword::Named(name, value))
     }
 
-    /// A map of arguments by their names, after its `**`.
+    /// A map of keyword arguments after its `**`.
     #[cycle(expressions)]
     #[tactic(auto, unfolding(crate::specs::Grammar::spread_map))]
     fn spread_map(&mut self, alloc: Global, depth: u8, given: &mut Passed) -> Result<(), Error>
@@ -383,7 +384,7 @@ impl Cursor<'_> {
         add_keyword(given, Keyword::Spread(value))
     }
 
-    /// A list of arguments by their places, after its `*`; it stands after none by its name.
+    /// A list of positional arguments after its `*`; no keyword argument may precede it.
     #[cycle(expressions)]
     #[tactic(auto, unfolding(crate::specs::Grammar::spread_list), using(crate::proofs::Nesting::names))]
     fn spread_list(&mut self, alloc: Global, depth: u8, given: &mut Passed) -> Result<(), Error>
@@ -397,7 +398,7 @@ impl Cursor<'_> {
         add_argument(given, Argument::Spread(value))
     }
 
-    /// An argument by its place, which stands after none by its name.
+    /// A positional argument; no keyword argument may precede it.
     #[cycle(expressions)]
     #[tactic(auto, unfolding(crate::specs::Grammar::argument), using(crate::proofs::Nesting::names))]
     fn argument(&mut self, alloc: Global, depth: u8, given: &mut Passed) -> Result<(), Error>
@@ -412,7 +413,7 @@ impl Cursor<'_> {
     }
 }
 
-/// The call of a name with what it is passed. OutOfMemory when out of memory.
+/// The call of a name with its arguments. OutOfMemory if memory runs out.
 #[inline(never)]
 fn call_of(alloc: Global, name: Name, given: Passed) -> Result<Boxed<Expr>, Error>
     ensures { MatchResult result
@@ -423,7 +424,7 @@ fn call_of(alloc: Global, name: Name, given: Passed) -> Result<Boxed<Expr>, Erro
     boxed(alloc, Expr::Call(name, by_place, by_name))
 }
 
-/// A list of one item. OutOfMemory when out of memory.
+/// A list of one item. OutOfMemory if memory runs out.
 #[inline(never)]
 fn lone_item(alloc: Global, item: Boxed<Expr>) -> Result<Items<Expr>, Error>
     ensures { MatchResult result
@@ -433,7 +434,7 @@ fn lone_item(alloc: Global, item: Boxed<Expr>) -> Result<Items<Expr>, Error>
     with_one(Items::new(alloc), item.into_inner())
 }
 
-/// Adds an expression to others. OutOfMemory when out of memory.
+/// Pushes an expression. OutOfMemory if memory runs out.
 #[inline(never)]
 fn add_expr(exprs: &mut Items<Expr>, value: Boxed<Expr>) -> Result<(), Error>
     ensures { MatchResult result
@@ -443,7 +444,7 @@ fn add_expr(exprs: &mut Items<Expr>, value: Boxed<Expr>) -> Result<(), Error>
     add_one(exprs, value.into_inner())
 }
 
-/// A tuple of items. OutOfMemory when out of memory.
+/// A tuple of the items. OutOfMemory if memory runs out.
 #[inline(never)]
 fn tuple_of(alloc: Global, items: Items<Expr>) -> Result<Boxed<Expr>, Error>
     ensures { MatchResult result
@@ -453,7 +454,7 @@ fn tuple_of(alloc: Global, items: Items<Expr>) -> Result<Boxed<Expr>, Error>
     boxed(alloc, Expr::Tuple(items))
 }
 
-/// A list of items. OutOfMemory when out of memory.
+/// A list of the items. OutOfMemory if memory runs out.
 #[inline(never)]
 fn list_of(alloc: Global, items: Items<Expr>) -> Result<Boxed<Expr>, Error>
     ensures { MatchResult result
@@ -463,7 +464,7 @@ fn list_of(alloc: Global, items: Items<Expr>) -> Result<Boxed<Expr>, Error>
     boxed(alloc, Expr::List(items))
 }
 
-/// Nothing that is passed.
+/// No arguments.
 pub fn nothing_passed(alloc: Global) -> Passed
     ensures { result ≡ passed [] [] }
 {
@@ -473,7 +474,7 @@ pub fn nothing_passed(alloc: Global) -> Passed
     }
 }
 
-/// Adds an argument by its place to what is passed. OutOfMemory when out of memory.
+/// Pushes a positional argument. OutOfMemory if memory runs out.
 #[inline(never)]
 pub fn add_argument(given: &mut Passed, argument: Argument) -> Result<(), Error>
     ensures { MatchResult result
@@ -484,7 +485,7 @@ pub fn add_argument(given: &mut Passed, argument: Argument) -> Result<(), Error>
     Ok(())
 }
 
-/// Adds an argument by its name to what is passed. OutOfMemory when out of memory.
+/// Pushes a keyword argument. OutOfMemory if memory runs out.
 #[inline(never)]
 fn add_keyword(given: &mut Passed, keyword: Keyword) -> Result<(), Error>
     ensures { MatchResult result

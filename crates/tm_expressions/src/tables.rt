@@ -1,4 +1,4 @@
-//! What a sign means in an expression: the tables of the grammar.
+//! The meaning of signs in expressions: the tables of the grammar.
 ghost use Rattle.std.specs.Prelude.{◌≡◌, IfSome, MatchOption, Some, None, is_some, nat_lt};
 ghost use Rattle.tm_expressions.specs.Tokens as tokens;
 ghost use Rattle.tm_expressions.specs.Waiting.{role_of};
@@ -6,48 +6,48 @@ ghost use Rattle.tm_expressions.specs.Waiting.{role_of};
 use tm_syntax::{BinaryOperator, Sign, UnaryOperator};
 use tm_values::Value;
 
-/// How an expression goes on with a value.
+/// What continues a value.
 #[derive(Clone, Copy)]
 pub enum Link {
-    /// By a name, which is an attribute's or a method's.
+    /// The name of an attribute or a method.
     Member,
-    /// By what stands in square brackets.
+    /// An item or a slice in square brackets.
     Item,
-    /// By the arguments of its call.
+    /// The arguments of a call.
     Call,
-    /// By a filter.
+    /// A filter.
     Filter,
-    /// By a test.
+    /// A test.
     Test,
-    /// By the right side of an operator.
+    /// The right operand of an operator.
     Operator(BinaryOperator),
-    /// By the right side of a comparison.
+    /// The right operand of a comparison.
     Comparison(BinaryOperator),
-    /// By the right side of `and`.
+    /// The right operand of `and`.
     And,
-    /// By the right side of `or`.
+    /// The right operand of `or`.
     Or,
 }
 
-// The levels of operators, from the tightest.
-/// The level of what stands after a value: the tightest.
+// The levels of operators, from the tightest to the loosest.
+/// The level of steps after a value.
 pub const POSTFIX_LEVEL: u8 = 0;
-/// Of powers.
+/// The level of powers.
 pub const POWER_LEVEL: u8 = 1;
-/// Of products.
+/// The level of products.
 pub const PRODUCT_LEVEL: u8 = 2;
-/// Of `~`.
+/// The level of `~`.
 pub const CONCATENATION_LEVEL: u8 = 3;
-/// Of sums.
+/// The level of sums.
 pub const SUM_LEVEL: u8 = 4;
-/// Of comparisons.
+/// The level of comparisons.
 pub const COMPARISON_LEVEL: u8 = 5;
-/// Of `and`.
+/// The level of `and`.
 pub const AND_LEVEL: u8 = 6;
-/// Of `or`.
+/// The level of `or`.
 pub const OR_LEVEL: u8 = 7;
 
-/// How a sign goes on with a value, and at which level.
+/// The level at which a sign continues a value, and how.
 pub fn link_of(sign: Sign) -> Option<(u8, Link)>
     ensures at { result ≡ tokens.link_of sign }
     ensures operator { IfSome result (λ x. is_some (role_of x.1) ≡ nat_lt 0 x.0) }
@@ -88,7 +88,7 @@ pub fn link_of(sign: Sign) -> Option<(u8, Link)>
     })
 }
 
-/// How a sign after `not` goes on with a value, and at which level.
+/// The level at which a sign after `not` continues a value, and how.
 pub fn negated_link_of(sign: Sign) -> Option<(u8, Link)>
     ensures at { result ≡ tokens.negated_link_of sign }
     ensures operator { IfSome result (λ x. is_some (role_of x.1) ≡ nat_lt 0 x.0) }
@@ -99,7 +99,7 @@ pub fn negated_link_of(sign: Sign) -> Option<(u8, Link)>
     })
 }
 
-/// The operator before an operand, and the level of the operand.
+/// The level of the operand of a prefix sign, and its operator.
 pub fn prefix_of(sign: Sign) -> Option<(u8, UnaryOperator)>
     ensures { result ≡ tokens.prefix_of sign }
 {

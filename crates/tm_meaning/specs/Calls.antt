@@ -1,4 +1,5 @@
--- What a call comes to, up to the run that it needs: the meaning and the machine share it. Neither trees nor instructions stand here.
+-- The result of a call, up to the run that it needs. The meaning of trees and the machine share
+-- these definitions, so neither trees nor instructions occur here.
 use Rattle.std.specs.Prelude.{ℕ, zero, suc, ◌+◌, ◌-◌, ◌%◌, drop, List, [], ◌∷◌, length, map as each, Option, Some, None, Ok, Bool, true, false}
 use Rattle.std.specs.Prelude.{not, nat_eq, nat_lt, is_none, is_some, ◌&&◌, ◌||◌, slice_get, codes, if◌then◌else◌}
 use Rattle.tm_definitions.specs.Maps.{dict_of, namespace_of, keywords_of, plain_of}
@@ -35,27 +36,29 @@ use Rattle.tm_meaning.specs.declared.reply.Reply.TheVariants.{Value as gives, Fa
 use Rattle.tm_meaning.specs.declared.reply.Call.{Call}
 use Rattle.tm_meaning.specs.declared.reply.Call.TheVariants as further
 
--- What is run: a whole stream, or the macro of a number in a stream, with its arguments, of which it takes so many.
+-- What a nested run executes: a whole stream, or a macro of a stream, by its number, with these
+-- arguments.
 pub data Callee : Type 0 where
   whole : StreamId → Callee
   macro_of : StreamId → ℕ → List Val → Callee
 
--- What is put back after a run, from the world before it.
+-- What is restored after a run, with the world before it.
 pub data Undo : Type 0 where
   of_block : World → Undo
   of_super : World → Undo
   of_macro : World → Undo
   of_include : World → Undo
 
--- A run, what is put back after it, the kind that is put before its fault, if one is, and what its text is where that is a value.
+-- A nested run, what is restored after it, the kind that wraps its fault, if any, and how its text
+-- becomes a value.
 pub record NestedCall : Type 0 where
   pub callee : Callee
   pub undo : Undo
   pub wrap : Option Wrapping
   pub text : RunText
 
--- A value, a fault, a run that is needed and the world that it starts from, or the loop of a number of the stream that runs, which is
--- called over these items.
+-- The result of a call: a value; a fault; a nested run that is needed, and the world in which it
+-- starts; or a call of the running stream's loop with this number, over these items.
 pub data Asked : Type 0 where
   has : Val → World → Asked
   refused : List ErrorKind → World → Asked
@@ -67,20 +70,20 @@ ask (Good a w) f = f a w
 ask (Bad chain w) f = refused chain w
 
 -- ---------------------------------------------------------------- after a run
--- so many of the outermost scopes
+-- the n outermost scopes
 abbrev pub outermost : ℕ → List Scope → List Scope
 outermost n frames = drop (length frames - n) frames
 
--- a state with so many of its outermost scopes, which stand at a depth
+-- a state cut to its n outermost scopes, at the given depth
 abbrev pub cut_to : ℕ → ℕ → World → World
 cut_to n outer w = record w { scopes = record { frames = outermost n w.scopes.frames; outer = outer } }
 
--- the scopes, stream, block and escape of a world before, in one after
+-- restores the scopes, stream, block and escape of the world b
 abbrev pub block_undone : World → World → World
 block_undone b w = record (cut_to (length b.scopes.frames) b.scopes.outer w) { stream = b.stream; block = b.block; escape = b.escape }
 
--- these scopes, and of a world before the stream, the block, the escape, the lists of blocks, their places and the loaded names, in one
--- after
+-- restores these scopes, and the stream, block, escape, lists of blocks, their places and the
+-- loaded names of the world b
 abbrev pub run_undone : World → Scopes → World → World
 run_undone b scopes w = record w {
   scopes = scopes;
@@ -92,17 +95,19 @@ run_undone b scopes w = record w {
   loaded = b.loaded;
 }
 
--- so many of the outermost scopes as there were before, at the depth of then, with the closure that was made in the innermost of them
+-- cuts to as many outermost scopes as before, at the depth of before, and restores the closure of
+-- the innermost one
 abbrev pub scopes_after : Scopes → Scopes → Scopes
 scopes_after before scopes = record {
   frames = owning (own_closure before.frames) (outermost (length before.frames) scopes.frames);
   outer = before.outer;
 }
 
--- However the run ended, only the scopes stay that stood before it, and stream, block, escape and outer depth are those before it; after a
--- `super()` so are the places in lists of blocks; after a macro, which has scopes of its own, and after an include so are these lists
--- too, their places and the loaded names. A template that an import runs stands in the innermost scope, whose closure is put back; the
--- names that it gave to that scope stay. Records, kept values and fuel go on.
+-- However a run ends, the scopes opened since then are dropped, and the stream, block, escape and
+-- outer depth are restored. After `super()` the places in lists of blocks are restored too. After a
+-- macro, which has scopes of its own, and after an include, so are these lists, their places and
+-- the loaded names. An imported template runs in the innermost scope: the closure of that scope is
+-- restored, but the names bound in it stay. Records, kept values and fuel aren't restored.
 abbrev pub undone : Undo → World → World
 undone (of_block b) w = block_undone b w
 undone (of_super b) w = record (block_undone b w) { places = b.places }
@@ -127,11 +132,11 @@ is_required (Some c) = c.required
 abbrev pub required_alone : HostValue → StreamId → List TemplateId → Bool
 required_alone host s l = nat_eq (length l) 1 && is_required (card_at host s)
 
--- the run of a block, needed in this world
+-- the run of a block, needed in the world w
 abbrev pub block_call : StreamId → World → NestedCall
 block_call s w = record { callee = whole s; undo = of_block w; wrap = None; text = texts.Captured }
 
--- the block at its list's present place, in a new scope
+-- runs the block at the current place of its list, in a new scope
 abbrev pub enter_block : HostValue → List ℕ → World → Asked
 enter_block host b w =
     ask (need (find b w.blocks) UnknownBlock w) (λ l world1.
@@ -141,12 +146,13 @@ enter_block host b w =
     runs (block_call (block_of t b) w)
     (record world4 { stream = block_of t b; block = Some b })))))
 
--- the run of the next block of a name, needed in this world; before its fault stands EvalBlock
+-- the run of the next block, needed in the world w; EvalBlock wraps its fault
 abbrev pub super_call : StreamId → World → NestedCall
 super_call s w = record { callee = whole s; undo = of_super w; wrap = Some EvalBlock; text = texts.Captured }
 
--- The block after the one that runs, in a new scope, with the list one place on. Where no block runs, or none is after it, or the scope
--- would lie too deep it is refused, before its run.
+-- Runs the next block after the running one in a new scope, and advances the list by one place. It
+-- is refused before the run if no block is running, if there is no next one, or if the scope would
+-- be too deep.
 abbrev pub enter_super : HostValue → World → Asked
 enter_super host w =
     ask (need w.block InvalidOperation w) (λ x world1.
@@ -156,7 +162,7 @@ enter_super host w =
     runs (super_call (block_of t x) w)
     (record world4 { stream = block_of t x; places = put x (place_in x world4.places + 1) world4.places })))))
 
--- the blocks of a template, each alone
+-- each block of a template, in a list of its own
 abbrev pub alone : TemplateId → List ℕ × Card → List ℕ × List TemplateId
 alone t b = (b.0, t ∷ [])
 
@@ -168,11 +174,11 @@ abbrev pub is_argument : List ℕ → List (List ℕ) → Bool
 is_argument x [] = false
 is_argument x (y ∷ ys) = same_name x y || is_argument x ys
 
--- whether `caller` is given to a macro that doesn't name it among its arguments
+-- whether the macro gets `caller` without naming it as an argument
 abbrev pub takes_caller : MacroData → Bool
 takes_caller m = m.caller && not (is_argument (codes "caller") m.arguments)
 
--- whether a macro uses what is given under this key; keys that are no texts are ignored
+-- whether the macro uses a keyword argument of this name; keys that aren't texts are ignored
 abbrev pub is_used : MacroData → Option (List ℕ) → Bool
 is_used m None = true
 is_used m (Some x) = is_argument x m.arguments || (takes_caller m && same_name x (codes "caller"))
@@ -185,8 +191,8 @@ abbrev pub after_first : Val → Option (List Val) → Option (List Val)
 after_first v None = None
 after_first v (Some vs) = Some (v ∷ vs)
 
--- What each of these names is bound to: a value by its place, or else the one given under the name, or else undefined. None where there are
--- too many values, or a name is given twice.
+-- The value of each argument: the positional one, or else the keyword one, or else undefined. None
+-- if there are too many values, or an argument is passed twice.
 abbrev pub bound : List (List ℕ) → List Val → List (Val × Val) → Option (List Val)
 bound [] [] given = Some []
 bound [] (v ∷ vs) given = None
@@ -194,7 +200,8 @@ bound (x ∷ xs) [] given = after_first (or_undefined (find_key (text x false) g
 bound (x ∷ xs) (v ∷ vs) given =
     choose (is_none (find_key (text x false) given)) (λ _. after_first v (bound xs vs given)) (λ _. None)
 
--- the arguments of a macro that is called with these values, of which a keyword map that stands last gives some by their names
+-- the arguments of a macro called with these values; a keyword map at the end holds the keyword
+-- arguments
 abbrev pub bound_to : MacroData → List Val → Option (List Val)
 bound_to m args =
     choose (all_used m (keywords_of args)) (λ _. bound m.arguments (plain_of args) (keywords_of args)) (λ _. None)
@@ -205,13 +212,13 @@ root_context [] = undefined false
 root_context (s ∷ []) = s.context
 root_context (s ∷ t ∷ ss) = root_context (t ∷ ss)
 
--- what the scope of a macro has at its start
+-- the locals of a macro's scope at the start
 abbrev pub first_locals : MacroData → List Val → Bindings
 first_locals m args =
     choose (takes_caller m) (λ _. put (codes "caller") (or_undefined (find_key (text (codes "caller") false) (keywords_of args))) []) (λ _. [])
 
--- the scopes in which a macro runs that is called with these values: one over the context value of the present root, and over it one that
--- reads the macro's closure; they stand at a depth
+-- the scopes of a macro call, at the given depth: one over the context value of the current root,
+-- and one inside it that reads the macro's closure
 abbrev pub macro_scopes : MacroData → List Val → List Scope → ℕ → Scopes
 macro_scopes m args frames outer = record {
   frames = record (plain_scope (undefined false)) { locals = first_locals m args; reads = m.closure } ∷
@@ -223,8 +230,8 @@ abbrev pub is_closure : Option ℕ → World → Bool
 is_closure None w = true
 is_closure (Some n) w = nat_lt n (length w.closures)
 
--- The stream of a macro, where that and the macro's closure are known in this state. Whether the stream has such a macro shows once that is
--- entered.
+-- The stream of a macro, if this state knows the stream and the macro's closure. Whether the stream
+-- has such a macro is checked when it is entered.
 abbrev pub known_stream : MacroData → World → Option StreamId
 known_stream m w = choose (is_closure m.closure w) (λ _. slice_get w.streams m.stream) (λ _. None)
 
@@ -232,12 +239,13 @@ abbrev pub macro_call : StreamId → MacroData → List Val → World → Nested
 macro_call s m given w =
     record { callee = macro_of s m.entry given; undo = of_macro w; wrap = None; text = texts.Captured }
 
--- how deep the two scopes of a macro lie above the call, and the first of them
+-- how much deeper than the call the outer one of a macro's two scopes is
 abbrev pub macro_depth : ℕ
 macro_depth = 4
 
--- The run of a macro that is called so many levels deeper than the scopes stand: refused in this order where the macro is another state's,
--- where the values don't fit its arguments, where it isn't known in this state, and where its scopes would lie deeper than the limit.
+-- The run of a macro called n levels deeper than the scopes. It is refused, in this order, if the
+-- macro belongs to another state, if the values don't fit its arguments, if this state doesn't know
+-- it, or if its scopes would be deeper than the limit.
 abbrev pub enter_macro : ℕ → HostValue → MacroData → List Val → World → Asked
 enter_macro n host m args w =
     ask (check (nat_eq m.state w.id) InvalidOperation w) (λ _ world1.
@@ -252,96 +260,100 @@ enter_macro n host m args w =
     })))))
 
 -- ---------------------------------------------------------------- functions
--- What makes the further calls that objects ask for.
+-- Makes the further calls that objects ask for.
 abbrev pub MakesFurther : Type 0
 MakesFurther = Call → World → Asked
 
--- what a reply comes to
+-- the result of a reply
 abbrev pub replied : MakesFurther → Reply → World → Asked
 replied make (gives v) w = has v w
 replied make (faults chain) w = refused chain w
 replied make (asks_for c) w = make c w
 
--- An object of the caller is called: values to keep are kept first, also where its reply is a fault or a further call.
+-- Calls one of the caller's objects. Its values to keep are stored first, even if its reply is a
+-- fault or a further call.
 abbrev pub object_call : MakesFurther → HostValue → Object → List Val → World → Asked
 object_call make host f args w =
     let stated = f args (view_of host w) in
     replied make stated.reply (record w { temps = put_each stated.temps w.temps })
 
--- the object of a name, where there is one, is called
+-- calls the object, if one was found
 abbrev pub found_call : MakesFurther → HostValue → Option Object → ErrorKind → List Val → World → Asked
 found_call make host found kind args w = ask (need found kind w) (λ f world1. object_call make host f args world1)
 
--- what a function of the language gives
+-- the result of a built-in function
 abbrev pub given_by : GlobalFunction → List Val → World → Res Val
 given_by own.Range args w = answered (range_of args) w
 given_by own.Dict args w = bind (answered (dict_of (records_of w) args) w) (λ ps world1. Good (map (pairs_of ps)) world1)
 given_by own.Namespace args w = bind (answered (namespace_of (records_of w) args) w) (λ ps world1. make_namespace ps world1)
 
--- a function is called, whose further calls are made so
+-- calls a function; `make` makes its further calls
 abbrev pub function_call : MakesFurther → HostValue → Function → List Val → World → Asked
 function_call make host (callers f) args w = object_call make host f args w
 function_call make host (languages g) args w = ask (given_by g args w) has
 
--- A value is called so many levels deeper than the scopes stand: a function by its number, or a macro.
+-- Calls a value, n levels deeper than the scopes: a function by its number, or a macro.
 abbrev pub value_call : MakesFurther → ℕ → HostValue → Val → List Val → World → Asked
 value_call make levels host (function n) args w =
     ask (need (slice_get host.functions n) InvalidOperation w) (λ f world1. function_call make host f args world1)
 value_call make levels host (macro m) args w = enter_macro levels host m args w
 value_call make levels host v args w = refused (InvalidOperation ∷ []) w
 
--- what a name stands for is called as a value
+-- calls the value of a name
 abbrev pub named_call : MakesFurther → ℕ → HostValue → List ℕ → List Val → World → Asked
 named_call make levels host x args w =
     ask (lookup host x w) (λ found world1. ask (need found UnknownFunction world1) (λ f world2. value_call make levels host f args world2))
 
--- The text of what a call comes to, which is not safe.
+-- The text of a call's result, not marked safe.
 abbrev pub as_printed : Asked → Asked
 as_printed (has v w) = ask (answered (text_answer (records_of w) v) w) (λ t world1. has (text t false) world1)
 as_printed (refused chain w) = refused chain w
 as_printed (runs c w) = runs (record c { text = texts.Plain }) w
 as_printed (recurs n items w) = recurs n items w
 
--- a world that stands so many levels deeper
+-- the world, n levels deeper
 abbrev pub deeper : ℕ → World → World
 deeper n w = record w { scopes = record w.scopes { outer = n + w.scopes.outer } }
 
--- What was asked for from there: what is put back after a run is the world that stood before, and so it is where none is needed.
+-- The result of a call made in a deeper world: the world w is restored after a run, and if no run
+-- is needed.
 abbrev pub from_deeper : World → Asked → Asked
 from_deeper w (has v _) = has v w
 from_deeper w (refused chain _) = refused chain w
 from_deeper w (runs c world1) = runs (record c { undo = of_block w; text = texts.Plain }) world1
 from_deeper w (recurs n items _) = refused (InvalidOperation ∷ []) w
 
--- A further call, made so many levels deeper than code called; the further calls of what it calls are made so.
+-- Makes a further call, n levels deeper than the code; `make` makes the further calls of what it
+-- calls.
 abbrev pub further_call : MakesFurther → ℕ → HostValue → Call → World → Asked
 further_call make n host (further.Filter x args) w = found_call make host (find x host.filters) UnknownFilter args w
 further_call make n host (further.Macro x args) w = as_printed (named_call make n host x args w)
 further_call make n host (further.Block b) w = from_deeper w (enter_block host b (deeper n w))
 
--- Each further call is one deeper, so only so many are made, one asked for by the other, after so many that were made.
+-- Each further call is one level deeper, so a chain of them has at most `left` calls, after n calls
+-- that were made.
 abbrev pub further_calls : ℕ → ℕ → HostValue → MakesFurther
 further_calls zero n host c w = refused (InvalidOperation ∷ []) w
 further_calls (suc left) n host c w = further_call (further_calls left (suc n) host) (suc n) host c w
 
--- so many more depths lie within the limit
+-- the number of levels left up to the limit
 abbrev pub depths_left : HostValue → World → ℕ
 depths_left host w = host.limit - depth w.scopes
 
--- what makes further calls where code calls
+-- makes the further calls of a call in code
 abbrev pub by_depths : HostValue → World → MakesFurther
 by_depths host w = further_calls (depths_left host w) 0 host
 
 abbrev pub call_value : HostValue → Val → List Val → World → Asked
 call_value host v args w = value_call (by_depths host w) 0 host v args w
 
--- the first of the values is called with the others
+-- calls the first value with the others
 abbrev pub call_callee : HostValue → List Val → World → Asked
 call_callee host [] w = refused (InvalidOperation ∷ []) w
 call_callee host (v ∷ args) w = call_value host v args w
 
 -- ---------------------------------------------------------------- methods
--- whether these arguments differ from those that were kept last
+-- whether the arguments differ from those that were kept last
 abbrev pub is_changed : Option (List Val) → List Val → Bool
 is_changed None args = true
 is_changed (Some before) args = not (same_values (vals_of before) (vals_of args))
@@ -354,38 +366,38 @@ keeping_at n args [] = []
 keeping_at zero args (l ∷ ls) = keeping args l ∷ ls
 keeping_at (suc n) args (l ∷ ls) = l ∷ keeping_at n args ls
 
--- the argument whose turn it is at an item, one after the other and then from the first again; undefined where there is none
+-- the argument for the current item, cycling through all of them; undefined if there are none
 abbrev pub cycled : Option ℕ → List Val → Val
 cycled None args = undefined false
 cycled (Some place) args = or_undefined (slice_get args (place % length args))
 
--- whether the record of a loop stands there, and what is done with it
+-- uses the record of a loop; InvalidOperation if there is none
 abbrev pub of_loop : Option Loop → World → (Loop → Asked) → Asked
 of_loop None w f = refused (InvalidOperation ∷ []) w
 of_loop (Some l) w f = f l
 
--- the record of the loop of a number, where the state is this one
+-- the record of the loop with this number, if it belongs to this state
 abbrev pub record_at : World → ℕ → ℕ → Option Loop
 record_at w state n = if nat_eq w.id state then slice_get w.loops n else None
 
--- whether the arguments of `changed` differ, which are kept then
+-- whether the arguments of `changed` differ; if so, they are kept
 abbrev pub told_changed : ℕ → List Val → World → Loop → Asked
 told_changed n args w l = has (boolean (is_changed l.kept args)) (record w { loops = keeping_at n args w.loops })
 
--- the argument of `cycle` whose turn it is
+-- the argument that `cycle` returns
 abbrev pub told_turn : List Val → World → Loop → Asked
 told_turn args w l = has (cycled (place_of l.turns) args) w
 
--- the caller's object for a value's method of a name, where there is one
+-- the caller's object for a method that a value lacks, if there is one
 abbrev pub method_object : Option Fallback → Val → List ℕ → Option Object
 method_object None v x = None
 method_object (Some f) v x = Some (f v x)
 
--- A value has no method of a name: the caller's object answers, where there is one.
+-- Calls the caller's object for a method that a value lacks, if there is one.
 abbrev pub unknown_method : HostValue → List ℕ → Val → List Val → World → Asked
 unknown_method host x v args w = found_call (by_depths host w) host (method_object host.unknown_method v x) UnknownMethod args w
 
--- A loop has two methods of its own: whether what it is called with changed, and the argument whose turn it is.
+-- A loop has two methods: `changed` and `cycle`.
 abbrev pub loop_method : HostValue → List ℕ → ℕ → ℕ → List Val → World → Asked
 loop_method host x state n args w =
     if same_name x (codes "changed") then
@@ -396,12 +408,13 @@ loop_method host x state n args w =
 abbrev pub is_macro_attribute : List ℕ → Bool
 is_macro_attribute x = same_name x (codes "name") || same_name x (codes "arguments") || same_name x (codes "caller")
 
--- what is called as a value's method: what a map, keyword map, module or namespace has there, or an attribute of a macro
+-- the method of a value: the member of a map, keyword map, module or namespace, or an attribute of
+-- a macro
 abbrev pub method_in : RecordData → List ℕ → Val → Answer (Option Val)
 method_in r x (macro m) = Ok (if is_macro_attribute x then Some (macro_member m x) else None)
 method_in r x v = context_member r x v
 
--- what was found as a value's method is called
+-- calls the method that was found
 abbrev pub call_in : HostValue → List ℕ → Val → List Val → Option Val → World → Asked
 call_in host x v args None w = unknown_method host x v args w
 call_in host x v args (Some f) w = call_value host f args w
@@ -411,7 +424,7 @@ call_method host x (loop state n) args w = loop_method host x state n args w
 call_method host x v args w =
     ask (answered (method_in (records_of w) x v) w) (λ found world1. call_in host x v args found world1)
 
--- the first of the values is called by its method
+-- calls the method of the first value
 abbrev pub call_first : HostValue → List ℕ → List Val → World → Asked
 call_first host x [] w = refused (InvalidOperation ∷ []) w
 call_first host x (v ∷ args) w = call_method host x v args w
@@ -420,7 +433,7 @@ call_first host x (v ∷ args) w = call_method host x v args w
 abbrev pub apply_filter : HostValue → List ℕ → List Val → World → Asked
 apply_filter host x args w = found_call (by_depths host w) host (find x host.filters) UnknownFilter args w
 
--- Of a test's answer the truth alone counts, whatever undefined values do.
+-- Only the truth of a test's result counts, whatever the behaviour of undefined values.
 abbrev pub as_truth : Asked → Asked
 as_truth (has v w) = has (boolean (is_true v)) w
 as_truth (refused chain w) = refused chain w
@@ -430,7 +443,7 @@ as_truth (recurs n items w) = recurs n items w
 abbrev pub perform_test : HostValue → List ℕ → List Val → World → Asked
 perform_test host x args w = as_truth (found_call (by_depths host w) host (find x host.tests) UnknownTest args w)
 
--- Values are passed to what a name stands for: the first one's method, a filter or a test.
+-- Applies a name to values: a method of the first one, a filter or a test.
 abbrev pub applied : HostValue → Application → List ℕ → List Val → World → Asked
 applied host applications.Method x vs w = call_first host x vs w
 applied host applications.Filter x vs w = apply_filter host x vs w
@@ -438,18 +451,19 @@ applied host applications.Test x vs w = perform_test host x vs w
 applied host applications.NegatedTest x vs w = perform_test host x vs w
 
 -- ---------------------------------------------------------------- loops
--- a kind before a fault
+-- wraps a fault in a kind
 abbrev pub wrapped_as : {A : Type 0} → ErrorKind → Res A → Res A
 wrapped_as kind (Good a w) = Good a w
 wrapped_as kind (Bad chain w) = Bad (kind ∷ chain) w
 
--- A loop is called with a value: it has to be one that can be called, of the stream that runs, and the value has items.
+-- Calls a loop with a value. The loop must be recursive and belong to the running stream, and the
+-- value must have items.
 abbrev pub call_loop : HostValue → Loop → Val → World → Asked
 call_loop host l v w =
     ask (check (l.recursive && same_stream l.stream w.stream) InvalidOperation w) (λ _ world1.
     ask (wrapped_as InvalidOperation (items_over host v world1)) (λ items world2. recurs l.number items world2))
 
--- the innermost loop is called
+-- calls the innermost loop
 abbrev pub call_innermost : HostValue → Val → World → Asked
 call_innermost host v w =
     ask (need (innermost w.scopes.frames) UnknownFunction w) (λ n world1.
@@ -459,7 +473,7 @@ abbrev pub one_argument : List Val → World → Res Val
 one_argument (v ∷ []) w = Good v w
 one_argument vs w = bad InvalidOperation w
 
--- what a name stands for is called: a loop of this state with one value, else as a value
+-- calls the value of a name: a loop of this state with one argument, or any other value
 abbrev pub call_found : HostValue → Val → List Val → World → Asked
 call_found host (loop state n) args w =
     of_loop (record_at w state n) w (λ l. ask (one_argument args w) (λ v world1. call_loop host l v world1))
@@ -473,24 +487,24 @@ no_values (v ∷ vs) = false
 abbrev pub call_super : HostValue → List Val → World → Asked
 call_super host args w = ask (check (no_values args) InvalidOperation w) (λ _ world1. enter_super host world1)
 
--- what a name stands for is called, once it is looked up
+-- looks up a name and calls its value
 abbrev pub call_looked_up : HostValue → List ℕ → List Val → World → Asked
 call_looked_up host x args w =
     ask (lookup host x w) (λ found world1. ask (need found UnknownFunction world1) (λ f world2. call_found host f args world2))
 
--- A name is called, which is looked up after its arguments; `super` is none that is looked up.
+-- Calls a name, which is looked up after its arguments are evaluated. `super` isn't looked up.
 abbrev pub call_named : HostValue → List ℕ → List Val → World → Asked
 call_named host x args w =
     choose (same_name x (codes "super")) (λ _. call_super host args w) (λ _. call_looked_up host x args w)
 
 -- ---------------------------------------------------------------- includes
--- What names a template, or several of which the first is taken that is there: a text, or the items of what has some. A text has none here,
--- and an undefined value neither.
+-- The names of templates in a value, of which the first existing one is used: a text, or the items
+-- of another value. An undefined value has no items here.
 abbrev pub choices_in : RecordData → Val → Answer (List Val)
 choices_in r (text s safe) = Ok (text s safe ∷ [])
 choices_in r v = items_or InvalidOperation r v
 
--- the first that is there, each by its name in the template that runs
+-- the first template that exists; each name is joined to that of the running template
 abbrev pub first_found : HostValue → List Val → World → Res (Option TemplateId)
 first_found host [] w = Good None w
 first_found host (v ∷ vs) w =
@@ -498,12 +512,12 @@ first_found host (v ∷ vs) w =
     bind (joined host name world1) (λ x world2.
     choose (is_some (find x host.templates)) (λ _. Good (Some (entry x)) world2) (λ _. first_found host vs world2)))
 
--- how much deeper a template is that is included
+-- how much deeper an included template is
 abbrev pub include_depth : ℕ
 include_depth = 10
 
--- The scopes in which it runs: one of its own over those that stand, or these, whose innermost one has no closure of its own meanwhile;
--- and how many levels that takes.
+-- The scopes of an included template: a new one in the current scopes, or these alone, whose
+-- innermost one has no closure meanwhile. And how many levels that takes.
 abbrev pub include_frames : Bool → List Scope → List Scope
 include_frames true frames = plain_scope (undefined false) ∷ frames
 include_frames false frames = owning None frames
@@ -512,11 +526,12 @@ abbrev pub include_cost : Bool → ℕ
 include_cost true = 11
 include_cost false = 10
 
--- the run of a template, needed in this world; before its fault stands BadInclude
+-- the run of a template, needed in the world w; BadInclude wraps its fault
 abbrev pub include_call : TemplateId → World → NestedCall
 include_call t w = record { callee = whole (root_of t); undo = of_include w; wrap = Some BadInclude; text = texts.Captured }
 
--- where a template begins that is included: deeper, in a scope apart or not, and with its own escape and blocks
+-- the world in which an included template starts: deeper, with a new scope if `apart`, and with its
+-- own escape and blocks
 abbrev pub in_template : HostValue → Bool → TemplateId → World → World
 in_template host apart t w = record w {
   scopes = record { frames = include_frames apart w.scopes.frames; outer = include_depth + w.scopes.outer };
@@ -526,14 +541,16 @@ in_template host apart t w = record w {
   places = [];
 }
 
--- The template that was found is included, which is refused beyond the limit. Where none was nothing happens if it may be missing.
+-- Includes the template that was found, unless it would exceed the limit. If none was found,
+-- nothing happens if it may be missing.
 abbrev pub include_found : HostValue → Bool → Bool → Option TemplateId → World → Asked
 include_found host apart missing (Some t) w =
     ask (check (not (nat_lt host.limit (include_cost apart + depth w.scopes))) InvalidOperation w) (λ _ world1.
     runs (include_call t w) (in_template host apart t world1))
 include_found host apart missing None w = ask (check missing TemplateNotFound w) (λ _ world1. has (undefined false) world1)
 
--- The template that a value names is included, in a scope apart or not. It may be missing where the value names none at all, too.
+-- Includes the template that a value names, with a new scope if `apart`. It may also be missing if
+-- the value names no template at all.
 abbrev pub enter_include : HostValue → Bool → Val → Bool → World → Asked
 enter_include host apart v missing w =
     ask (answered (choices_in (records_of w) v) w) (λ vs world1.

@@ -1,4 +1,4 @@
--- What each instruction does once it is paid for.
+-- The effect of each instruction, once it is paid for.
 use Rattle.std.specs.Prelude.{ℕ, zero, suc, ◌+◌, pos, List, [], ◌∷◌, ◌++◌, length, nat_lt, nat_eq, Option, Some, None, Bool, true, false}
 use Rattle.std.specs.Prelude.{◌&&◌, slice_get, if◌then◌else◌}
 use Rattle.tm_values.specs.Val.{Val, undefined, none, boolean, number}
@@ -39,11 +39,11 @@ lookup_of host x c = after (looked_up host x c.world) (λ v w. goes (v ∷ c.run
 abbrev pub load_const_of : Val → Config → Next
 load_const_of v c = goes (v ∷ c.run.operands) c.world c
 
--- one operand is replaced
+-- replaces one operand
 abbrev pub replaces_one : (Val → World → Res Val) → Config → Next
 replaces_one g c = on_top c.run.operands c.world (λ v vs. after (g v c.world) (λ x w. goes (x ∷ vs) w c))
 
--- two operands are replaced, the topmost given last
+-- replaces two operands; g gets the topmost one last
 abbrev pub replaces_two : (Val → Val → World → Res Val) → Config → Next
 replaces_two g c =
     on_top c.run.operands c.world (λ b vs. on_top vs c.world (λ a rest. after (g a b c.world) (λ x w. goes (x ∷ rest) w c)))
@@ -57,7 +57,7 @@ unary_of host op c = replaces_one (applied_unary host op) c
 abbrev pub binary_of : HostValue → BinaryOperator → Config → Next
 binary_of host op c = replaces_two (operated host op) c
 
--- two operands are replaced by the topmost and, over it, what is given
+-- replaces two operands by the topmost one and, above it, the result
 abbrev pub compare_and_preserve_of : HostValue → BinaryOperator → Config → Next
 compare_and_preserve_of host op c =
     on_top c.run.operands c.world (λ b vs. on_top vs c.world
@@ -75,14 +75,14 @@ discard_top_of c = on_top c.run.operands c.world (λ v vs. goes vs c.world c)
 abbrev pub get_item_of : HostValue → Config → Next
 get_item_of host c = replaces_two (item_at host) c
 
--- four operands are replaced, a value below its start, stop and step
+-- replaces four operands: a value, and above it the start, stop and step
 abbrev pub slice_instruction_of : HostValue → Config → Next
 slice_instruction_of host c =
     on_top c.run.operands c.world (λ by vs. on_top vs c.world (λ stop us. on_top us c.world (λ start ts. on_top ts c.world (λ v rest.
     after (slice_of host v start stop by c.world) (λ x w. goes (x ∷ rest) w c)))))
 
 -- ---------------------------------------------------------------- lists and maps
--- how many a number counts
+-- a number as a count
 abbrev pub count_in : Val → Option ℕ
 count_in (number (pos n)) = Some n
 count_in v = None
@@ -91,7 +91,7 @@ abbrev pub on_count : Option ℕ → World → (ℕ → Next) → Next
 on_count None w f = stuck w
 on_count (Some n) w f = f n
 
--- so many values, the lowest first, or as many as the number on top of them counts
+-- n values, the lowest first; without n, the topmost operand is the count
 abbrev pub take_counted : Option ℕ → List Val → World → (List Val → List Val → Next) → Next
 take_counted (Some n) vs w f = take_n n vs w f
 take_counted None vs w f = on_top vs w (λ v us. on_count (count_in v) w (λ n. take_n n us w f))
@@ -99,7 +99,7 @@ take_counted None vs w f = on_top vs w (λ v us. on_count (count_in v) w (λ n. 
 abbrev pub build_list_of : Option ℕ → Config → Next
 build_list_of n c = take_counted n c.run.operands c.world (λ vs rest. goes (list_of_values vs ∷ rest) c.world c)
 
--- keys, each with its value after it
+-- keys, each followed by its value
 abbrev pub paired : List Val → List (Val × Val)
 paired (k ∷ v ∷ vs) = (k, v) ∷ paired vs
 paired _ = []
@@ -107,16 +107,16 @@ paired _ = []
 abbrev pub build_map_of : ℕ → Config → Next
 build_map_of n c = take_n (n + n) c.run.operands c.world (λ vs rest. goes (map_of_pairs (paired vs) ∷ rest) c.world c)
 
--- names, each with its value after it
+-- names, each followed by its value
 abbrev pub build_kwargs_of : ℕ → Config → Next
 build_kwargs_of n c = take_n (n + n) c.run.operands c.world (λ vs rest. goes (keyword_map (paired vs) ∷ rest) c.world c)
 
--- ---------------------------------------------------------------- what is spread
+-- ---------------------------------------------------------------- spread arguments
 abbrev pub merge_kwargs_of : HostValue → ℕ → Config → Next
 merge_kwargs_of host n c =
     take_n n c.run.operands c.world (λ vs rest. after (merged_values host vs c.world) (λ v w. goes (v ∷ rest) w c))
 
--- how many items there are, on top of these
+-- pushes values, and then their number
 abbrev pub group_on : List Val → List Val → List Val
 group_on vs rest = number (pos (length vs)) ∷ onto vs rest
 
@@ -152,7 +152,7 @@ is_undefined_of c = on_top c.run.operands c.world (λ v vs. goes (boolean (is_un
 abbrev pub enclose_of : HostValue → List ℕ → Config → Next
 enclose_of host x c = after (enclose host x c.world) (λ _ w. goes c.run.operands w c)
 
--- a closure as an operand: its number, or none
+-- a closure as an operand: its number, or `none`
 abbrev pub closure_value : Option ℕ → Val
 closure_value None = none
 closure_value (Some n) = number (pos n)
@@ -160,7 +160,7 @@ closure_value (Some n) = number (pos n)
 abbrev pub get_closure_of : Config → Next
 get_closure_of c = goes (closure_value (own_closure c.world.scopes.frames) ∷ c.run.operands) c.world c
 
--- the closure that an operand is
+-- the closure that an operand represents
 abbrev pub closure_in : Val → Option (Option ℕ)
 closure_in none = Some None
 closure_in (number (pos n)) = Some (Some n)
@@ -170,18 +170,19 @@ abbrev pub on_parts : Option (Option ℕ) → Option (List (List ℕ)) → World
 on_parts (Some closure) (Some names) w f = f closure names
 on_parts closure names w f = stuck w
 
--- A closure below the names of arguments are replaced by a macro; stuck where they are no such operands.
+-- Replaces a closure and, above it, the names of the arguments by a macro. Stuck if the operands
+-- aren't these.
 abbrev pub build_macro_of : Program → List ℕ → ℕ → Bool → Config → Next
 build_macro_of p x place caller c =
     on_top c.run.operands c.world (λ names vs. on_top vs c.world (λ closure rest.
     on_parts (closure_in closure) (names_in names) c.world (λ own arguments.
     after (make_macro (entry_number place (p.code c.run.stream)) own x arguments caller c.world) (λ v w. goes (v ∷ rest) w c))))
 
--- the first item on top
+-- the first item ends up on top
 abbrev pub unpack_list_of : ℕ → Config → Next
 unpack_list_of n c = on_top c.run.operands c.world (λ v vs. after (unpacked_items n v c.world) (λ xs w. goes (xs ++ vs) w c))
 
--- a namespace on top of a value
+-- a namespace is above the value
 abbrev pub set_attr_of : List ℕ → Config → Next
 set_attr_of x c =
     on_top c.run.operands c.world (λ o vs. on_top vs c.world (λ v rest. after (set_member x v o c.world) (λ _ w. goes rest w c)))
@@ -193,14 +194,14 @@ abbrev pub is_no_loop : Option LoopMark → Bool
 is_no_loop None = true
 is_no_loop (Some m) = false
 
--- A scope that stood before the run isn't left, nor a loop's.
+-- Neither a scope from before the run nor the scope of a loop can be closed.
 abbrev pub pop_frame_of : Base → Config → Next
 pop_frame_of f c =
     choose (nat_lt f.scopes (length c.world.scopes.frames) && is_no_loop (top_mark c.world.scopes.frames))
     (λ _. goes c.run.operands (pop c.world) c) (λ _. stuck c.world)
 
 -- ---------------------------------------------------------------- loops
--- the loops that the run has open, each with where it goes on if it was called
+-- the open loops of the run, each with its return if it was called
 abbrev pub looping : List (Option Return) → Config → Config
 looping rs c = record c { run = record c.run { loops = rs } }
 
@@ -210,7 +211,7 @@ push_loop_of p flags c =
     after (open_loop p.host items flags (loops_before c.run.place (p.code c.run.stream)) w) (λ _ world1.
     goes vs world1 (looping (None ∷ c.run.loops) c))))
 
--- the innermost loop's record, where the run opened that and its scope is on top
+-- uses the record of the innermost loop, if the run opened it and its scope is on top
 abbrev pub on_loop : List (Option Return) → Option Loop → World → (Loop → Next) → Next
 on_loop [] l w f = stuck w
 on_loop (r ∷ rs) None w f = stuck w
@@ -227,7 +228,7 @@ abbrev pub push_did_not_iterate_of : Config → Next
 push_did_not_iterate_of c =
     on_loop c.run.loops (top_loop c.world) c.world (λ l. goes (boolean (nat_eq (length l.items) 0) ∷ c.run.operands) c.world c)
 
--- the run as it was at the call of the loop that ends
+-- the run as it was when the ending loop was called
 abbrev pub returned : Return → List (Option Return) → Config → Config
 returned r rs c =
     record c {
@@ -235,7 +236,7 @@ returned r rs c =
       world = pop c.world;
     }
 
--- the innermost capture's text is the value, and the parent that waits is this one
+-- pushes the text of the innermost capture and restores the parent
 abbrev pub with_text : Option TemplateId → List Capture → Config → Next
 with_text parent [] c = stuck c.world
 with_text parent (k ∷ ks) c = More []
@@ -245,13 +246,13 @@ abbrev pub returns : Return → Bool → Config → Next
 returns r false c = More [] c
 returns r true c = with_text r.parent c.captures c
 
--- A loop that wasn't called is left, and one that was goes on where that was; its captures and escapes are closed.
+-- Ends a loop. A loop that was called returns, and its captures and escapes are closed.
 abbrev pub pop_loop_with : List (Option Return) → Config → Next
 pop_loop_with [] c = stuck c.world
 pop_loop_with (None ∷ rs) c = goes c.run.operands (pop c.world) (looping rs c)
 pop_loop_with (Some r ∷ rs) c = returns r r.value (returned r rs c)
 
--- One that stood before the run isn't left.
+-- A loop from before the run can't be ended.
 abbrev pub pop_loop_frame_of : Base → Config → Next
 pop_loop_frame_of f c =
     choose (nat_lt f.scopes (length c.world.scopes.frames))
@@ -269,11 +270,11 @@ abbrev pub end_capture_with : List Capture → Config → Next
 end_capture_with [] c = stuck c.world
 end_capture_with (k ∷ ks) c = goes (captured_value k c.world ∷ c.run.operands) c.world (record c { captures = ks })
 
--- A capture that stood when the run or the innermost called loop began isn't ended.
+-- A capture from before the run, or from before the innermost called loop, can't be ended.
 abbrev pub end_capture_of : Config → Next
 end_capture_of c = choose (nat_lt c.run.floor (length c.captures)) (λ _. end_capture_with c.captures c) (λ _. stuck c.world)
 
--- the escapes that a run's open `autoescape`s replaced
+-- the escapes that the open `autoescape`s of a run replaced
 abbrev pub replacing : List AutoEscape → Config → Config
 replacing es c = record c { run = record c.run { escapes = es } }
 
@@ -294,28 +295,29 @@ abbrev pub call_function_of : Program → List ℕ → Option ℕ → Config →
 call_function_of p x n c =
     take_counted n c.run.operands c.world (λ vs rest. asked p c rest (call_named p.host x vs c.world))
 
--- values are passed to what a name stands for: the first one's method, a filter or a test
+-- applies a name to values: a method of the first one, a filter or a test
 abbrev pub apply_of : Program → Application → List ℕ → Option ℕ → Config → Next
 apply_of p k x n c = take_counted n c.run.operands c.world (λ vs rest. asked p c rest (applied p.host k x vs c.world))
 
--- the first of the values is called with the others
+-- calls the first value with the others
 abbrev pub call_object_of : Program → Option ℕ → Config → Next
 call_object_of p n c = take_counted n c.run.operands c.world (λ vs rest. asked p c rest (call_callee p.host vs c.world))
 
--- whether a cache that holds this may hold a name: it is empty, or has the name
+-- whether a cache entry can hold a name: it is empty, or has the name already
 abbrev pub may_hold : Option (Option (List ℕ)) → List ℕ → Bool
 may_hold None x = true
 may_hold (Some None) x = true
 may_hold (Some (Some y)) x = same_name x y
 
--- the cache of a number holds a name
+-- stores a name in the cache with this number
 abbrev pub holding : ℕ → List ℕ → Caches → Caches
 holding zero x [] = Some x ∷ []
 holding zero x (held ∷ more) = Some x ∷ more
 holding (suc n) x [] = None ∷ holding n x []
 holding (suc n) x (held ∷ more) = held ∷ holding n x more
 
--- The caches after a use of a name by its number; none where that is no number of a cache, or its cache holds another name.
+-- The caches after a name is used with a cache number. None if there is no such cache, or it holds
+-- another name.
 abbrev pub used : ℕ → List ℕ → Caches → Option Caches
 used cache x held =
     if nat_eq cache no_cache then Some held
@@ -332,7 +334,7 @@ with_filters held c = record c { run = record c.run { filters = held } }
 abbrev pub with_tests : Caches → Config → Config
 with_tests held c = record c { run = record c.run { tests = held } }
 
--- and to a filter or a test of a cache number
+-- the same for a filter or a test with a cache number
 abbrev pub apply_filter_of : Program → List ℕ → Option ℕ → ℕ → Config → Next
 apply_filter_of p x n cache c =
     on_used (used cache x c.run.filters) c.world (λ held. apply_of p applications.Filter x n (with_filters held c))
@@ -347,11 +349,11 @@ call_block_of p f b c =
     (λ _. asked_in_place p f c c.run.operands (enter_block p.host b c.world))
     (λ _. goes c.run.operands c.world c)
 
--- the block after the one that runs, in place
+-- runs the next block after the running one, in place
 abbrev pub fast_super_of : Program → Base → Config → Next
 fast_super_of p f c = asked_in_place p f c c.run.operands (enter_super p.host c.world)
 
--- a parent waits from here on
+-- sets the parent that waits
 abbrev pub awaiting : TemplateId → Config → Config
 awaiting t c = record c { run = record c.run { parent = Some t } }
 
@@ -360,15 +362,15 @@ load_blocks_of host f c =
     on_top c.run.operands c.world (λ v vs.
     after (load host v c.run.parent (nat_lt f.captures (length c.captures)) c.world) (λ t w. goes vs w (awaiting t c)))
 
--- the template that the value names runs in place, in a scope apart or not
+-- runs the template that the value names in place, with a new scope if `apart`
 abbrev pub include_of : Program → Base → Bool → Bool → Config → Next
 include_of p f apart missing c =
     on_top c.run.operands c.world (λ v vs. asked_in_place p f c vs (enter_include p.host apart v missing c.world))
 
--- a value is replaced by the module of the innermost scope's names and the value's printed text
+-- replaces a value by the module of the innermost scope's names and the value's printed text
 abbrev pub export_locals_of : Config → Next
 export_locals_of c = on_top c.run.operands c.world (λ v vs. after (module_with v c.world) (λ m w. goes (m ∷ vs) w c))
 
--- the innermost loop is called in place
+-- calls the innermost loop in place
 abbrev pub fast_recurse_of : Program → Base → Config → Next
 fast_recurse_of p f c = on_top c.run.operands c.world (λ v vs. asked_in_place p f c vs (call_innermost p.host v c.world))

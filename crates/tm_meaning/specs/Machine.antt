@@ -1,4 +1,4 @@
--- The machine: where it stands, what a step gives, and how runs end.
+-- The machine: its configurations, its steps, and how runs end.
 use Rattle.std.specs.Prelude.{ℕ, zero, suc, ◌+◌, List, [], ◌∷◌, ◌++◌, length, Option, Some, None, Bool, true, false, ◌&&◌, nat_lt}
 use Rattle.std.specs.Prelude.{slice_get, nat_eq, option_and_then}
 use Rattle.tm_values.specs.Val.{Val, undefined}
@@ -14,12 +14,13 @@ use Rattle.tm_syntax.specs.Loops.{loop_places}
 use Rattle.tm_syntax.specs.Entries.{entries}
 use Rattle.tm_meaning.specs.Meaning.{none_waits}
 
--- A text that waits for its capture's end, and whether it takes what is written.
+-- The text of an open capture, and whether the capture receives what is written.
 pub record Capture : Type 0 where
   pub heard : Bool
   pub text : List ℕ
 
--- Where a loop goes on that was called: the run as it was, and whether the text is a value, after which the parent is as it was too.
+-- Where a called loop returns to: the run as it was, and whether the text becomes a value; then the
+-- parent is restored too.
 pub record Return : Type 0 where
   pub place : ℕ
   pub operands : List Val
@@ -28,13 +29,14 @@ pub record Return : Type 0 where
   pub parent : Option TemplateId
   pub value : Bool
 
--- The names that caches hold, each at the cache's number; after them all caches are empty.
+-- The names in the caches, by cache number; the caches after them are empty.
 abbrev pub Caches : Type 0
 Caches = List (Option (List ℕ))
 
--- What is a run's own: its stream and the place in it, its operands, the topmost first, the escapes that its open `autoescape`s replaced,
--- for each loop that it has open where that goes on if it was called, the captures that stood when this run or the innermost called loop
--- began, the parent that waits, the caches for filters and those for tests.
+-- The state of one run: its stream and its place in it; its operands, the topmost first; the
+-- escapes that its open `autoescape`s replaced; its open loops, each with its return if it was
+-- called; the number of captures when this run or the innermost called loop began; the parent that
+-- waits; and the caches of filters and tests.
 pub record Activation : Type 0 where
   pub stream : StreamId
   pub place : ℕ
@@ -46,38 +48,42 @@ pub record Activation : Type 0 where
   pub filters : Caches
   pub tests : Caches
 
--- Where the machine stands: the run, the open captures of all runs, innermost first, and the world.
+-- The configuration of the machine: the run, the open captures of all runs, innermost first, and
+-- the world.
 pub record Config : Type 0 where
   pub run : Activation
   pub captures : List Capture
   pub world : World
 
--- How a run ends: done, with the operands and the captures that are left; by a fault; or stuck, which only a stream does that no compiler wrote.
+-- How a run ends: finished, with the operands and captures that are left; failed by a fault; or
+-- stuck, which is impossible for a stream that the compiler wrote.
 pub data End : Type 0 where
   Finished : List Val → List Capture → World → End
   Failed : List ErrorKind → World → End
   Stuck : World → End
 
--- Where to go on after a nested run: the run that waits, its place moved on, the call, and whether the text is a value.
+-- Where a nested run returns to: the waiting run, whose place is advanced already, the call, and
+-- whether the text becomes a value.
 pub record Back : Type 0 where
   pub run : Activation
   pub call : NestedCall
   pub value : Bool
 
--- A step writes a text and goes on, or ends the run, or restarts it in another stream, or first needs a run of its own.
+-- A step writes a text and continues, or ends the run, or restarts it in another stream, or needs a
+-- nested run first.
 pub data Next : Type 0 where
   More : List ℕ → Config → Next
   Over : End → Next
   Restart : Config → Next
   Nest : Base → Config → Back → Next
 
--- What all runs share: the environment, and the instructions of each stream.
+-- What all runs share: the environment, and the code of each stream.
 pub record Program : Type 0 where
   pub host : HostValue
   pub code : StreamId → List Instruction
 
 -- ---------------------------------------------------------------- small parts
--- a stream that can't go on
+-- a stream that can't continue
 abbrev pub stuck : World → Next
 stuck w = Over (Stuck w)
 
@@ -90,7 +96,7 @@ abbrev pub on_top : List Val → World → (Val → List Val → Next) → Next
 on_top [] w f = stuck w
 on_top (v ∷ vs) w f = f v vs
 
--- the topmost n, the lowest first, and what is below
+-- the n topmost operands, the lowest first, and those below them
 abbrev pub taken : ℕ → List Val → List Val → Option (List Val × List Val)
 taken zero acc vs = Some (acc, vs)
 taken (suc n) acc [] = None
@@ -103,7 +109,7 @@ on_taken (Some r) w f = f r.0 r.1
 abbrev pub take_n : ℕ → List Val → World → (List Val → List Val → Next) → Next
 take_n n vs w f = on_taken (taken n [] vs) w f
 
--- values on others, the last on top
+-- pushes values, the last on top
 abbrev pub onto : List Val → List Val → List Val
 onto [] stack = stack
 onto (v ∷ vs) stack = onto vs (v ∷ stack)
@@ -114,27 +120,28 @@ at_place n vs c = record c { run = record c.run { place = n; operands = vs } }
 abbrev pub with_world : World → Config → Config
 with_world w c = record c { world = w }
 
--- on to the next place, with these operands
+-- advances to the next place, with these operands
 abbrev pub on : List Val → Config → Config
 on vs c = at_place (c.run.place + 1) vs c
 
 abbrev pub goes : List Val → World → Config → Next
 goes vs w c = More [] (on vs (with_world w c))
 
--- on to a place
+-- jumps to a place
 abbrev pub jumps : ℕ → List Val → World → Config → Next
 jumps n vs w c = More [] (at_place n vs (with_world w c))
 
--- ---------------------------------------------------------------- what is written
+-- ---------------------------------------------------------------- written text
 abbrev pub first_heard : List Capture → Bool
 first_heard [] = true
 first_heard (k ∷ ks) = k.heard
 
--- whether what is written is heard: by the innermost capture of this run, else as the run is and where no parent waits
+-- whether written text is heard: as the innermost capture of this run says, or else as the run is,
+-- if no parent waits
 abbrev pub audible : Base → Config → Bool
 audible f c = choose (nat_lt f.captures (length c.captures)) (λ _. first_heard c.captures) (λ _. f.heard && none_waits c.run.parent)
 
--- the captures after a text, and what the writer gets of it
+-- appends a text to the innermost capture; without one, the writer gets it
 abbrev pub put_in : List Capture → List ℕ → List Capture
 put_in [] t = []
 put_in (k ∷ ks) t = record k { text = k.text ++ t } ∷ ks
@@ -160,22 +167,22 @@ run_from s floor = record {
   tests = [];
 }
 
--- The run goes on with the root of a parent, in the scopes that are left; no parent waits from there on.
+-- Continues the run with the root of a parent, in the scopes that are left. No parent waits then.
 abbrev pub restarted : TemplateId → Config → Config
 restarted t c = record c { run = run_from (root_of t) c.run.floor; world = record c.world { stream = root_of t } }
 
--- a run of a macro from its entry, with its arguments as its first operands, the last one on top
+-- a run of a macro from its entry, with its arguments as operands, the last one on top
 abbrev pub run_of_macro : StreamId → List Val → ℕ → ℕ × ℕ → Option Activation
 run_of_macro s given floor e =
     choose (nat_eq e.1 (length given)) (λ _. Some (record (run_from s floor) { place = e.0; operands = onto given [] })) (λ _. None)
 
--- The run of a callee from its first place, over so many captures. A stream has no run of a macro that it lacks, or that takes other
--- arguments.
+-- The run of a callee from its first place, with `floor` open captures. None if the stream lacks
+-- the macro, or the macro takes another number of arguments.
 abbrev pub first_run : Program → Callee → ℕ → Option Activation
 first_run p (whole s) floor = Some (run_from s floor)
 first_run p (macro_of s n given) floor = option_and_then (run_of_macro s given floor) (slice_get (entries (p.code s)) n)
 
--- a run over captures and in a world
+-- a configuration of a run, captures and a world
 abbrev pub running : Activation → List Capture → World → Config
 running a ks w = record { run = a; captures = ks; world = w }
 
@@ -185,25 +192,25 @@ base_of heard ks w = record { captures = length ks; scopes = length w.scopes.fra
 abbrev pub new_capture : Bool → Capture
 new_capture heard = record { heard = heard; text = [] }
 
--- what a capture is at its end: its text, or undefined where it took none
+-- the value of a capture at its end: its text, or undefined if it received nothing
 abbrev pub captured_value : Capture → World → Val
 captured_value k w = choose k.heard (λ _. captured_text k.text w) (λ _. undefined false)
 
--- the run that waits goes on after the call, over these operands
+-- the waiting run, which continues after the call with these operands
 abbrev pub waiting : List Val → Config → Activation
 waiting vs c = record c.run { place = c.run.place + 1; operands = vs }
 
--- a run that is needed first, over these captures; where its callee has none the call is refused
+-- a run that is needed first; the call is refused if the callee has no run
 abbrev pub nested : Option Activation → Bool → List Capture → World → Back → Next
 nested None heard ks w back = Over (Failed (wrapped back.call.wrap (InvalidOperation ∷ [])) (undone back.call.undo w))
 nested (Some a) heard ks w back = Nest (base_of heard ks w) (running a ks w) back
 
--- a nested run whose text is heard where the call is
+-- a nested run whose text is heard if that of the call is
 abbrev pub nested_in_place : Program → Base → List Val → Config → NestedCall → World → Next
 nested_in_place p f vs c k w =
     nested (first_run p k.callee (length c.captures)) (audible f c) c.captures w (record { run = waiting vs c; call = k; value = false })
 
--- a nested run whose text waits in a capture
+-- a nested run whose text is captured
 abbrev pub nested_as_value : Program → List Val → Config → NestedCall → World → Next
 nested_as_value p vs c k w =
     let ks = new_capture true ∷ c.captures in
@@ -212,7 +219,7 @@ nested_as_value p vs c k w =
 abbrev pub pushed : Val → Activation → Activation
 pushed v r = record r { operands = v ∷ r.operands }
 
--- what the end of a nested run leads to, after what is put back; its operands are dropped
+-- continues after a nested run, once everything is restored; the nested run's operands are dropped
 abbrev pub back_with : Bool → RunText → Activation → List Capture → World → Next
 back_with false t r ks w = More [] (record { run = r; captures = ks; world = w })
 back_with true t r [] w = stuck w
@@ -223,7 +230,8 @@ back_to back (Finished vs ks w) = back_with back.value back.call.text back.run k
 back_to back (Failed chain w) = Over (Failed (wrapped back.call.wrap chain) (undone back.call.undo w))
 back_to back (Stuck w) = stuck (undone back.call.undo w)
 
--- A loop is called over items: it begins at its place, over no operands, and goes on here after it. One that can't be called there isn't.
+-- Calls a loop with items. It starts at its place without operands, and returns here. A loop that
+-- isn't recursive can't be called.
 abbrev pub recursion : Program → Config → Bool → List Val → List Capture → ℕ → Option LoopPlace → List Val → World → Next
 recursion p c value vs ks n None items w = Over (Failed (InvalidOperation ∷ []) w)
 recursion p c value vs ks n (Some l) items w =
@@ -249,18 +257,18 @@ recursion p c value vs ks n (Some l) items w =
     })))
     (λ _. Over (Failed (InvalidOperation ∷ []) w))
 
--- where the loop of a number begins in the stream that runs
+-- the place of the running stream's loop with this number
 abbrev pub place_of_loop : Program → Config → ℕ → Option LoopPlace
 place_of_loop p c n = slice_get (loop_places 0 (p.code c.run.stream)) n
 
--- what a call comes to, over the operands below it: its value is pushed
+-- continues with the result of a call, whose value is pushed on vs
 abbrev pub asked : Program → Config → List Val → Asked → Next
 asked p c vs (has v w) = goes (v ∷ vs) w c
 asked p c vs (refused chain w) = Over (Failed chain w)
 asked p c vs (runs k w) = nested_as_value p vs c k w
 asked p c vs (recurs n items w) = recursion p c true vs (new_capture true ∷ c.captures) n (place_of_loop p c n) items w
 
--- or it is made in place
+-- the same in place
 abbrev pub asked_in_place : Program → Base → Config → List Val → Asked → Next
 asked_in_place p f c vs (has v w) = goes vs w c
 asked_in_place p f c vs (refused chain w) = Over (Failed chain w)

@@ -1,4 +1,4 @@
--- What trees mean. No stream's place and no operand stands here.
+-- The meaning of trees. Neither places nor operands occur here.
 use Rattle.std.specs.Prelude.{ℕ, ◌+◌, ◌^◌, pos, List, [], ◌∷◌, ◌++◌, Option, Some, None, Bool, true, false, ◌&&◌}
 use Rattle.std.specs.Prelude.{nat_lt, if◌then◌else◌, Ok, codes}
 use Rattle.tm_values.specs.Answer.{Answer, invalid}
@@ -31,16 +31,16 @@ use Rattle.tm_meaning.specs.Operators.{list_of_values, map_of_pairs, listed, map
 use Rattle.tm_values.specs.Truth.{is_undefined}
 
 -- ---------------------------------------------------------------- runs and outcomes
--- A run of a stream's tree: the escape at its start, whether it is heard, whether this stands inside a capture of its own, the parent that
--- waits. Its stream is the world's.
+-- A run of a stream's tree: the escape at its start, whether it is heard, whether it is inside a
+-- capture of its own, and the parent that waits. Its stream is the world's.
 pub record Run : Type 0 where
   pub first : AutoEscape
   pub heard : Bool
   pub inside : Bool
   pub parent : Option TemplateId
 
--- How statements end: done, by leaving a loop, by going on with its next item, or by a fault. A run that is done has the values that it
--- leaves: of statements none, of an expression its value.
+-- How statements end: done, by `break`, by `continue`, or by a fault. A run that is done leaves
+-- values: none for statements, and one for an expression.
 pub data Ending : Type 0 where
   done : List Val → Ending
   leave next : Ending
@@ -51,22 +51,23 @@ abbrev pub left_by : Ending → List Val
 left_by (done vs) = vs
 left_by e = []
 
--- An ending, the parent that waits then, the text heard so far, and the world that is left.
+-- The ending, the parent that waits at the end, the text heard so far, and the world that is left.
 pub record Outcome : Type 0 where
   pub ending : Ending
   pub parent : Option TemplateId
   pub text : List ℕ
   pub world : World
 
--- What nests: a callee's run, heard or not, over the text heard so far.
+-- A nested run of a callee, heard or not, with the text heard so far.
 abbrev pub Nests : Type 0
 Nests = Callee → Bool → List ℕ → World → Outcome
 
--- A loop of the stream that runs, by its number, called over these items: its rounds, in the scopes of the call.
+-- A call of the running stream's loop with this number, over these items: its rounds, in the scopes
+-- of the call.
 abbrev pub Again : Type 0
 Again = ℕ → List Val → Run → List ℕ → World → Outcome
 
--- What a statement stands under: the environment, what nests, and the loops of its stream.
+-- The context of a statement: the environment, nested runs, and the loops of its stream.
 pub record Under : Type 0 where
   pub host : HostValue
   pub nests : Nests
@@ -78,12 +79,12 @@ ended e run out w = record { ending = e; parent = run.parent; text = out; world 
 abbrev pub so_far : Run → List ℕ → World → Outcome
 so_far run out w = ended (done []) run out w
 
--- goes on with a value, or ends with the text so far
+-- continues with a value, or ends with the text so far
 abbrev pub use_it : {A : Type 0} → Res A → Run → List ℕ → (A → World → Outcome) → Outcome
 use_it (Good a w) run out f = f a w
 use_it (Bad chain w) run out f = ended (fault chain) run out w
 
--- goes on where the first is done
+-- continues if the first part is done
 abbrev pub on_done : Ending → Outcome → (Unit {0} → Outcome) → Outcome
 on_done (done vs) o f = f tt
 on_done leave o f = o
@@ -97,7 +98,7 @@ abbrev pub none_waits : Option TemplateId → Bool
 none_waits None = true
 none_waits (Some t) = false
 
--- whether what is said here is heard
+-- whether text written here is heard
 abbrev pub audible : Run → Bool
 audible run = choose run.inside (λ _. run.heard) (λ _. run.heard && none_waits run.parent)
 
@@ -105,21 +106,21 @@ abbrev pub say : Run → List ℕ → List ℕ → List ℕ
 say run t out = choose (audible run) (λ _. out ++ t) (λ _. out)
 
 -- ---------------------------------------------------------------- calls
--- a run that was needed, as a value; what it replaced is put back, also where it ended in a fault
+-- the value of a nested run; what it replaced is restored, even after a fault
 abbrev pub value_after : Ending → NestedCall → Outcome → Res Val
 value_after (fault chain) c o = Bad (wrapped c.wrap chain) (undone c.undo o.world)
 value_after e c o = Good (run_value c.text o.text (undone c.undo o.world)) (undone c.undo o.world)
 
--- a run inside a capture of its own, which takes what is written or not
+-- a run inside a capture of its own, which receives what is written or not
 abbrev pub capturing : Bool → Run → Run
 capturing heard run = record run { heard = heard; inside = true }
 
--- what was heard, where no fault was
+-- the text that was heard, unless there was a fault
 abbrev pub heard_after : Ending → Outcome → Res (List ℕ)
 heard_after (fault chain) o = Bad chain o.world
 heard_after e o = Good o.text o.world
 
--- and as a value, as of a loop that was called
+-- that text as a value, such as for a called loop
 abbrev pub text_after : Ending → Outcome → Res Val
 text_after e o = bind (heard_after e o) (λ t w. Good (captured_text t w) w)
 
@@ -129,7 +130,7 @@ value_of u run (refused chain w) = Bad chain w
 value_of u run (runs c w) = let o = u.nests c.callee true [] w in value_after o.ending c o
 value_of u run (recurs n items w) = let o = u.again n items (capturing true run) [] w in text_after o.ending o
 
--- a run that was needed, in place
+-- a nested run in place
 abbrev pub after : Ending → NestedCall → Run → Outcome → Outcome
 after (fault chain) c run o = ended (fault (wrapped c.wrap chain)) run o.text (undone c.undo o.world)
 after e c run o = so_far run o.text (undone c.undo o.world)
@@ -140,17 +141,17 @@ in_place_of u run out (refused chain w) = ended (fault chain) run out w
 in_place_of u run out (runs c w) = let o = u.nests c.callee (audible run) out w in after o.ending c run o
 in_place_of u run out (recurs n items w) = u.again n items run out w
 
--- A block's tag does nothing unheard, nor where a parent waits; nor does `self.b()`.
+-- A block tag does nothing if it isn't heard, or if a parent waits. The same holds for `self.b()`.
 abbrev pub block_tag : Under → Run → List ℕ → List ℕ → World → Outcome
 block_tag u run b out w =
     choose (none_waits run.parent && audible run) (λ _. in_place_of u run out (enter_block u.host b w)) (λ _. so_far run out w)
 
 -- ---------------------------------------------------------------- expressions
--- What arguments by their names become in the end, after a row of names with their values.
+-- What keyword arguments become, after a row of names with their values.
 abbrev pub RowValues : Type 0
 RowValues = List (Val × Val) → World → Res (List Val)
 
--- what is guarded where the condition is true, with the jump after it, and else what stands for it
+-- the guarded value and a charged jump if the condition is true; otherwise the other value
 abbrev pub under_condition : HostValue → (World → Res Val) → (World → Res Val) → (World → Res Val) → World → Res Val
 under_condition host test guarded other w =
     bind (test w) (λ v world1. ticked world1 (λ world2. bind (truth host v world2) (λ b world3.
@@ -174,19 +175,19 @@ abbrev mutual
   eval u run (chained a _ ss) w = bind (eval u run a w) (λ v world1. eval_steps u run ss v world1)
   eval u run (conditional a _ cs) w = eval_conditions u run cs (λ world1. eval u run a world1) w
 
-  -- the last condition first
+  -- the last condition comes first
   pub eval_conditions : {n : _} → Under → Run → Row_of-Condition n → (World → Res Val) → World → Res Val
   eval_conditions u run no_condition guarded w = guarded w
   eval_conditions u run (with_condition c e more) guarded w =
       eval_conditions u run more
       (λ world1. under_condition u.host (λ world2. eval u run c world2) guarded (λ world2. eval u run e world2) world1) w
 
-  -- from the first to the last
+  -- from first to last
   pub eval_all : {n : _} → Under → Run → Row_of-Expr n → World → Res (List Val)
   eval_all u run no_expr w = Good [] w
   eval_all u run (expr e more) w = bind (eval u run e w) (λ v world1. bind (eval_all u run more world1) (λ vs world2. Good (v ∷ vs) world2))
 
-  -- a key before its value
+  -- each key before its value
   pub eval_pairs : {n : _} → Under → Run → Row_of-Pair n → World → Res (List (Val × Val))
   eval_pairs u run no_pair w = Good [] w
   eval_pairs u run (with_pair k v more) w =
@@ -202,7 +203,8 @@ abbrev mutual
   eval_arguments u run (argument a more) w =
       bind (eval_argument u run a w) (λ v world1. bind (eval_arguments u run more world1) (λ vs world2. Good (v ∷ vs) world2))
 
-  -- after a row of values: each row as a list, and each value that is spread; what stands under a name is in the last row
+  -- after a row of values: each row becomes a list; a spread value counts as one; the keyword
+  -- arguments are part of the last row
   pub eval_lists : {n : _} → Under → Run → List Val → Row_of-Argument n → (World → Res (List Val)) → World → Res (List Val)
   eval_lists u run row no_argument by_name w = bind (by_name w) (λ ks world1. listed (row ++ ks) world1)
   eval_lists u run row (argument (plain a) more) by_name w =
@@ -211,7 +213,8 @@ abbrev mutual
       bind (listed row w) (λ ls world1. bind (eval u run a world1) (λ v world2.
       bind (eval_lists u run [] more by_name world2) (λ vs world3. Good (ls ++ v ∷ vs) world3)))
 
-  -- after a row of names with their values, a name being charged: each row as a map, and each value that is spread; so the last row ends
+  -- after a row of names with their values, where each name is charged: each row becomes a map; a
+  -- spread value counts as one; `end` ends the last row
   pub eval_keywords : {n : _} → Under → Run → RowValues → List (Val × Val) → Row_of-Keyword n → World → Res (List Val)
   eval_keywords u run end row no_keyword w = end row w
   eval_keywords u run end row (keyword_and (keyword x a) more) w =
@@ -220,7 +223,8 @@ abbrev mutual
       bind (mapped row w) (λ ms world1. bind (eval u run a world1) (λ v world2.
       bind (eval_keywords u run end [] more world2) (λ ns world3. Good (ms ++ v ∷ ns) world3)))
 
-  -- a value goes on; `and` and `or` charge their test, and give the operand that ran last
+  -- a step after a value; `and` and `or` charge their test, and return the operand that was
+  -- evaluated last
   pub eval_step : Under → Run → Step → Val → World → Res Val
   eval_step u run (Attribute x) v w = ticked w (λ world1. attribute u.host v x world1)
   eval_step u run (Apply' k x _ given _ named) v w =
@@ -242,8 +246,8 @@ abbrev mutual
   eval_step u run (or_else a) v w =
       ticked w (λ world1. bind (truth u.host v world1) (λ b world2. choose b (λ _. Good v world2) (λ _. eval u run a world2)))
 
-  -- Comparisons in a row, from the first: each but the last charges its test; where it is false it is the value, and dropping its right
-  -- side is charged. After the last one the jump is.
+  -- Chained comparisons, from the first. Each but the last charges its test. If it is false, it is
+  -- the result, and dropping its right operand is charged. After the last one, its jump is charged.
   pub eval_links : {n : _} → Under → Run → BinaryOperator → Row_of-Comparison n → Val → Val → World → Res Val
   eval_links u run op no_comparison x y w =
       ticked w (λ world1. bind (applied_binary u.host op x y world1) (λ v world2. ticked world2 (λ world3. Good v world3)))
@@ -258,13 +262,13 @@ abbrev mutual
   eval_steps u run no_step v w = Good v w
   eval_steps u run (step s ss) v w = bind (eval_step u run s v w) (λ x world1. eval_steps u run ss x world1)
 
--- what filters make of a value, from the left
+-- applies filters to a value, from left to right
 abbrev pub filtered : Under → Run → List Step → Val → World → Res Val
 filtered u run [] v w = Good v w
 filtered u run (f ∷ more) v w = bind (eval_step u run f v w) (λ x world1. filtered u run more x world1)
 
 -- ---------------------------------------------------------------- targets
--- a value is given to a name, charged
+-- binds a name to a value, which is charged
 abbrev pub give : List ℕ → Val → World → Res (Unit {0})
 give x v w = ticked w (λ world1. Good tt (store x v world1))
 
@@ -275,7 +279,7 @@ abbrev mutual
       ticked w (λ world1. bind (unpacked_items (count_targets ts) v world1) (λ vs world2. assign_all u run ts vs world2))
   assign u run (Member e x) v w = bind (eval u run e w) (λ o world1. ticked world1 (λ world2. set_member x v o world2))
 
-  -- to each its own; there are as many
+  -- assigns each value to its target; there are as many values as targets
   pub assign_all : {n : _} → Under → Run → Row_of-AssignmentTarget n → List Val → World → Res (Unit {0})
   assign_all u run no_target vs w = Good tt w
   assign_all u run (target t ts) [] w = Good tt w
@@ -289,51 +293,54 @@ abbrev pub set_each : Under → Run → List Assignment → World → Res (Unit 
 set_each u run [] w = Good tt w
 set_each u run (a ∷ more) w = bind (set_to u run a.target a.value w) (λ _ world1. set_each u run more world1)
 
--- ---------------------------------------------------------------- templates that run here
--- The template that a value names runs in place, charged; whether it has a scope of its own, and whether it may be missing.
+-- ---------------------------------------------------------------- includes and imports
+-- Runs the template that a value names in place, which is charged, with a new scope if `apart`. It
+-- may be missing if `missing`.
 abbrev pub include : Under → Run → Bool → Expr → Bool → List ℕ → World → Outcome
 include u run apart e missing out w =
     use_it (eval u run e w) run out (λ v world1.
     use_it (tick world1) run out (λ _ world2. in_place_of u run out (enter_include u.host apart v missing world2)))
 
--- One that is there runs in a scope of its own, which stays open, and inside a capture: what is heard of it.
+-- Runs an existing template in a new scope, which stays open, inside a capture. The result is the
+-- text that is heard.
 abbrev pub included : Under → Run → Expr → World → Res (List ℕ)
 included u run e w =
     bind (push u.host (plain_scope (undefined false)) w) (λ _ world1.
     let o = include u run false e false [] world1 in heard_after o.ending o)
 
--- What a template exports, as a module, is given to a target.
+-- Assigns the module of a template to a target.
 abbrev pub import : Under → Run → Expr → AssignmentTarget → World → Res (Unit {0})
 import u run e t w =
     bind (included u (capturing true run) e w) (λ x world1.
     ticked world1 (λ world2. assign u run t (module_of world2 x) (pop world2)))
 
--- Each of the names that a template leaves is looked up, charged; then the scope is left, and their values are given to names from the last
--- to the first.
+-- Looks up each imported name, which is charged. Then the scope is closed, and the names are bound
+-- from last to first.
 abbrev pub give_each : HostValue → List Imported → World → Res (Unit {0})
 give_each host [] w = Good tt (pop w)
 give_each host (x ∷ xs) w =
     ticked w (λ world1. bind (looked_up host x.name world1) (λ v world2.
     bind (give_each host xs world2) (λ _ world3. give x.target v world3)))
 
--- What is heard of the template is dropped.
+-- The text of the template is dropped.
 abbrev pub import_names : Under → Run → Expr → List Imported → World → Res (Unit {0})
 import_names u run e xs w =
     bind (included u (capturing false run) e w) (λ _ world1. bind (give_each u.host xs world1) (λ _ world2. tick world2))
 
 -- ---------------------------------------------------------------- macros
--- each of these names is enclosed, charged
+-- adds each of the names to the closure, which is charged
 abbrev pub enclose_each : HostValue → List (List ℕ) → World → Res (Unit {0})
 enclose_each host [] w = Good tt w
 enclose_each host (x ∷ xs) w = ticked w (λ world1. bind (enclose host x world1) (λ _ world2. enclose_each host xs world2))
 
--- The macro of a number as a value: the jump over it, each name that it encloses, its closure and the names of its parameters are charged.
+-- The macro with this number as a value. The jump over its body, each name in its closure, the
+-- closure and the names of its parameters are charged.
 abbrev pub declared : HostValue → ℕ → MacroHead → World → Res Val
 declared host n m w =
     ticked w (λ world1. bind (enclose_each host m.free world1) (λ _ world2. ticked world2 (λ world3. ticked world3 (λ world4.
     make_macro n (own_closure world3.scopes.frames) m.name m.parameters m.caller world4))))
 
--- the value of an argument, or the default where that is undefined, which is tested at a charge
+-- the value of an argument, or its default if it is undefined; the test is charged
 abbrev pub or_default : Under → Run → Option Expr → Val → World → Res Val
 or_default u run None v w = Good v w
 or_default u run (Some e) v w =
@@ -342,30 +349,32 @@ or_default u run (Some e) v w =
 abbrev pub take_parameter : Under → Run → Parameter → Val → World → Res (Unit {0})
 take_parameter u run p v w = bind (or_default u run p.default v w) (λ x world1. assign u run (To p.name) x world1)
 
--- Parameters take the values of as many arguments, from the last to the first.
+-- Binds the parameters to the arguments, from last to first. There are as many arguments as
+-- parameters.
 abbrev pub take_parameters : Under → Run → List Parameter → List Val → World → Res (Unit {0})
 take_parameters u run [] vs w = Good tt w
 take_parameters u run (p ∷ ps) [] w = Good tt w
 take_parameters u run (p ∷ ps) (v ∷ vs) w = bind (take_parameters u run ps vs w) (λ _ world1. take_parameter u run p v world1)
 
--- ---------------------------------------------------------------- calls that are given a macro
--- after a row of names with their values the macro of a number, under the name `caller`
+-- ---------------------------------------------------------------- calls with a macro as `caller`
+-- after a row of names with their values: adds the macro with this number as `caller`
 abbrev pub with_caller : HostValue → ℕ → MacroHead → RowValues
 with_caller host n m row w =
     ticked w (λ world1. bind (declared host n m world1) (λ v world2. mapped (row ++ (text (codes "caller") false, v) ∷ []) world2))
 
--- What a call is passed, after values before the arguments, where those by their names end so.
+-- The arguments of a call, above the values `before`; `end` ends the keyword arguments.
 abbrev pub passed_so : {n m : _} → Under → Run → RowValues → List Val → Row_of-Argument n → Row_of-Keyword m → World → Res (List Val)
 passed_so u run end before given named w =
     passed u.host before given named (λ world1. eval_arguments u run given world1)
     (λ world1. eval_keywords u run end [] named world1) (λ by_name world1. eval_lists u run before given by_name world1) w
 
--- a value is called with what is after its arguments alone
+-- calls a value with the end as its only argument
 abbrev pub call_alone : Under → Run → RowValues → Val → World → Res Val
 call_alone u run end v w =
     bind (end [] w) (λ ks world1. ticked world1 (λ world2. value_of u run (call_callee u.host (v ∷ ks) world2)))
 
--- The last step of a value is its call, whose arguments end so; what a step that is no call gives is called.
+-- If the last step of a value is a call, the end is added to its arguments; otherwise the step's
+-- value is called.
 abbrev pub step_call : Under → Run → RowValues → Step → Val → World → Res Val
 step_call u run end (Apply' k x _ given _ named) v w =
     bind (passed_so u run end (v ∷ []) given named w) (λ vs world1.
@@ -380,7 +389,7 @@ steps_call u run end no_step v w = call_alone u run end v w
 steps_call u run end (step s no_step) v w = step_call u run end s v w
 steps_call u run end (step s (step t more)) v w = bind (eval_step u run s v w) (λ x world1. steps_call u run end (step t more) x world1)
 
--- An expression that is a call, whose arguments end so; what another gives is called.
+-- If an expression is a call, the end is added to its arguments; otherwise its value is called.
 abbrev pub call : Under → Run → RowValues → Expr → World → Res Val
 call u run end (Call' f _ given _ named) w =
     bind (passed_so u run end [] given named w) (λ vs world1.
@@ -389,7 +398,7 @@ call u run end (chained a _ ss) w = bind (eval u run a w) (λ v world1. steps_ca
 call u run end e w = bind (eval u run e w) (λ v world1. call_alone u run end v world1)
 
 -- ---------------------------------------------------------------- statements
--- What is closed after a body, however it ended, but for a fault.
+-- Closes what was opened around a body, however it ended, except after a fault.
 abbrev pub closing_by : Ending → (World → World) → Outcome → Outcome
 closing_by (fault chain) close o = o
 closing_by e close o = record o { world = close o.world }
@@ -397,8 +406,8 @@ closing_by e close o = record o { world = close o.world }
 abbrev pub closing : (World → World) → Outcome → Outcome
 closing close o = closing_by o.ending close o
 
--- A capture: its text goes on; where its body left a loop or went on with the next item the text is dropped, after the charge of the
--- capture's end.
+-- A capture: continues with its text. After `break` or `continue` in its body, the text is dropped,
+-- and the end of the capture is charged.
 abbrev pub captured_by : Ending → Outcome → Run → List ℕ → (Run → List ℕ → World → Outcome) → Outcome
 captured_by (done vs) o run out f = f run o.text o.world
 captured_by (fault chain) o run out f = ended (fault chain) run out o.world
@@ -407,31 +416,31 @@ captured_by e o run out f = use_it (tick o.world) run out (λ _ world1. ended e 
 abbrev pub captured : Outcome → Run → List ℕ → (Run → List ℕ → World → Outcome) → Outcome
 captured o run out f = captured_by o.ending o (record run { parent = o.parent }) out f
 
--- a value, charged, and heard as it is written
+-- emits a value, which is charged
 abbrev pub emit : Under → Run → List ℕ → Val → World → Outcome
 emit u run out v w =
     use_it (tick w) run out (λ _ world1. use_it (emitted u.host v world1) run out (λ t world2. so_far run (say run t out) world2))
 
--- what becomes of the text of a capture
+-- what happens to the text of a capture
 abbrev pub use_text : Under → Run → CaptureUse → Val → List ℕ → World → Outcome
 use_text u run uses.Emit v out w = emit u run out v w
 use_text u run (uses.Assign t) v out w = use_it (assign u run t v w) run out (λ _ world1. so_far run out world1)
 
--- after the first part of an `if` that has a second
+-- after the first branch of an `if` with an else part
 abbrev pub after_first : Otherwise → Run → Outcome → Outcome
 after_first no_else run o = o
 after_first (otherwise _ body) run o =
     then_do run o (λ run1 out1 world1. use_it (tick world1) run1 out1 (λ _ world2. so_far run1 out1 world2))
 
 -- ---------------------------------------------------------------- loops
--- a round's end, charged: its loop is left, or goes on
+-- the end of a round, which is charged: the loop ends, or continues
 abbrev pub round_end : Ending → Run → Outcome → (Run → List ℕ → World → Outcome) → Outcome
 round_end (fault chain) run o f = o
 round_end leave run o f = use_it (tick o.world) run o.text (λ _ world1. so_far run o.text (pop world1))
 round_end e run o f = use_it (tick o.world) run o.text (λ _ world1. f run o.text world1)
 
--- A round for each item: the next one is asked for, charged, the scope loses its names, and the body runs. Where no item is left the loop
--- is.
+-- A round for each item: taking the item is charged, the names of the scope are dropped, and the
+-- body runs. The loop ends when no item is left.
 abbrev pub rounds : (Val → Run → List ℕ → World → Outcome) → List Val → Run → List ℕ → World → Outcome
 rounds turn [] run out w = use_it (tick w) run out (λ _ world1. so_far run out (pop (next_turn world1)))
 rounds turn (v ∷ vs) run out w =
@@ -443,18 +452,18 @@ abbrev pub loop_over : HostValue → ℕ → Bool → (Val → Run → List ℕ 
 loop_over host n recursive turn vs run out w =
     use_it (open_loop host vs (for_flags recursive) n w) run out (λ _ world1. rounds turn vs run out world1)
 
--- A count as a value, one more than it was: InvalidOperation beyond the whole numbers.
+-- A count plus one, as a value: InvalidOperation if it exceeds the largest number.
 abbrev pub incremented : ℕ → Answer Val
 incremented n = if nat_lt (n + 1) (2 ^ 127) then Ok (number (pos (n + 1))) else invalid
 
--- The count of what is taken, one more, after three charges.
+-- The count of selected items plus one, after three charges.
 abbrev pub one_counted : ℕ → World → Res Val
 one_counted n w =
     ticked w (λ world1. ticked world1 (λ world2. ticked world2 (λ world3. answered (incremented n) world3)))
 
--- Of items those whose condition is true, of which so many are taken already: the next item is asked for, charged, the scope loses its
--- names, the condition is tested, charged,
--- and what is taken is counted; then the jump back is charged. Where no item is left the loop is.
+-- Selects the items whose condition is true, with n selected already. For each item, taking it is
+-- charged, the names of the scope are dropped, and the condition is tested, which is charged. A
+-- selected item is counted, and the jump back is charged. The loop ends when no item is left.
 abbrev pub selected : HostValue → (Val → World → Res Val) → ℕ → List Val → World → Res (List Val)
 selected host condition n [] w = ticked w (λ world1. Good [] (pop (next_turn world1)))
 selected host condition n (v ∷ vs) w =
@@ -465,7 +474,7 @@ selected host condition n (v ∷ vs) w =
     bind (selected host condition (n + 1) vs world6) (λ us world7. Good (v ∷ us) world7))))
     (λ _. ticked world4 (λ world5. selected host condition n vs world5))))))
 
--- what a loop goes over: with a condition the items for which that is true, in a loop without the name `loop` before it
+-- the items of a loop; with a condition, the items that a preceding loop without `loop` selects
 abbrev pub loop_items : Under → ℕ → Run → AssignmentTarget → Expr → Option Expr → World → Res (List Val)
 loop_items u at run t e None w = bind (eval u run e w) (λ v world1. items_over u.host v world1)
 loop_items u at run t e (Some c) w =
@@ -536,7 +545,7 @@ abbrev mutual
   exec_else u at no_else run out w = so_far run out w
   exec_else u at (otherwise _ body) run out w = exec_all u at body run out w
 
-  -- what runs where a loop had no items, after its test, which is charged
+  -- the else part of a loop, after its test, which is charged
   pub exec_after_loop : Under → Numbers → Otherwise → Bool → Run → List ℕ → World → Outcome
   exec_after_loop u at no_else none_taken run out w = so_far run out w
   exec_after_loop u at (otherwise _ body) none_taken run out w =

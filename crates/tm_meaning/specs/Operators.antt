@@ -1,4 +1,4 @@
--- What operators, members and the arguments of calls give.
+-- The results of operators, member look-ups and the arguments of calls.
 use Rattle.std.specs.Prelude.{ℕ, List, [], ◌∷◌, ◌++◌, Bool, true, false, not}
 use Rattle.std.specs.Result.{result_map_both}
 use Rattle.tm_values.specs.Answer.{Answer}
@@ -33,7 +33,7 @@ as_value answer = result_map_both boolean (λ e. e) answer
 abbrev pub negated : Answer Bool → Answer Val
 negated answer = result_map_both (λ b. boolean (not b)) (λ e. e) answer
 
--- what a prefix operator gives of a value
+-- the result of a prefix operator
 abbrev pub result_of_unary : UnaryOperator → UndefinedBehavior → Val → Answer Val
 result_of_unary unaries.Not b v = negated (truth_of b v)
 result_of_unary unaries.Negate b v = arithmetic.negated v
@@ -41,7 +41,7 @@ result_of_unary unaries.Negate b v = arithmetic.negated v
 abbrev pub applied_unary : HostValue → UnaryOperator → Val → World → Res Val
 applied_unary host op v w = answered (result_of_unary op host.undefined v) w
 
--- what an operator gives of two values
+-- the result of a binary operator
 abbrev pub result_of : BinaryOperator → UndefinedBehavior → RecordData → Val → Val → Answer Val
 result_of binaries.Equal b r x y = as_value (compared comparison.Equal b x y)
 result_of binaries.NotEqual b r x y = as_value (compared comparison.NotEqual b x y)
@@ -82,16 +82,16 @@ slice_of host v start stop by w = answered (sliced host.undefined v start stop b
 abbrev pub list_of_values : List Val → Val
 list_of_values vs = list (vals_of vs)
 
--- of equal keys the first spelling and the last value
+-- of equal keys, the first spelling and the last value
 abbrev pub map_of_pairs : List (Val × Val) → Val
 map_of_pairs ps = map (pairs_of (put_all ps))
 
--- and of arguments by their names
+-- the same for keyword arguments
 abbrev pub keyword_map : List (Val × Val) → Val
 keyword_map ps = keywords (pairs_of (put_all ps))
 
 -- ---------------------------------------------------------------- arguments
--- the keyword map of the pairs of all maps that are spread
+-- the keyword map of the pairs of all spread maps
 abbrev pub merged_values : HostValue → List Val → World → Res Val
 merged_values host vs w =
     bind (answered (merged host.undefined (records_of w) vs) w) (λ ps world1. Good (keywords (pairs_of ps)) world1)
@@ -100,7 +100,8 @@ merged_values host vs w =
 abbrev pub items_of_lists : HostValue → List Val → World → Res (List Val)
 items_of_lists host vs w = answered (items_of_all host.undefined (records_of w) vs) w
 
--- A row of values is a list, and one of names with their values a keyword map, charged, where there are any.
+-- A row of values becomes a list, and a row of names with their values becomes a keyword map. That
+-- is charged, unless the row is empty.
 abbrev pub listed : List Val → World → Res (List Val)
 listed [] w = Good [] w
 listed (v ∷ vs) w = ticked w (λ world1. Good (list_of_values (v ∷ vs) ∷ []) world1)
@@ -109,17 +110,18 @@ abbrev pub mapped : List (Val × Val) → World → Res (List Val)
 mapped [] w = Good [] w
 mapped (p ∷ ps) w = ticked w (λ world1. Good (keyword_map (p ∷ ps) ∷ []) world1)
 
--- maps become one, charged, where one was spread
+-- if one was spread, maps become one, which is charged
 abbrev pub merged_by : Bool → HostValue → List Val → World → Res (List Val)
 merged_by false host ms w = Good ms w
 merged_by true host ms w = ticked w (λ world1. bind (merged_values host ms world1) (λ v world2. Good (v ∷ []) world2))
 
--- What stands under a name is evaluated after what stands at a place.
+-- Evaluates positional arguments before keyword arguments.
 abbrev pub both_passed : List Val → (World → Res (List Val)) → (World → Res (List Val)) → World → Res (List Val)
 both_passed before by_place by_name w =
     bind (by_place w) (λ vs world1. bind (by_name world1) (λ ks world2. Good (before ++ (vs ++ ks)) world2))
 
--- What a call is passed, after values before the arguments: one by one; or the items of lists, charged, where some are spread.
+-- The arguments of a call, above the values `before`: one by one, or, if some are spread, the items
+-- of lists, which is charged.
 abbrev pub passed_by : Bool → HostValue → List Val → (World → Res (List Val)) → (World → Res (List Val)) →
     ((World → Res (List Val)) → World → Res (List Val)) → World → Res (List Val)
 passed_by false host before by_place by_name lists w = both_passed before by_place by_name w
@@ -134,7 +136,7 @@ abbrev pub passed : {n m : _} → HostValue → List Val → Row_of-Argument n �
 passed host before given named by_place maps lists w =
     passed_by (has_spread given) host before by_place (named_by host named maps) lists w
 
--- what a test answered is turned round, charged, where that is asked for
+-- negates the result of a negated test, which is charged
 abbrev pub turned : HostValue → Application → Val → World → Res Val
 turned host applications.Method v w = Good v w
 turned host applications.Filter v w = Good v w

@@ -1,4 +1,4 @@
--- What the runs of streams mean, and renders.
+-- The meaning of whole streams and of renders.
 use Rattle.std.specs.Prelude.{ℕ, zero, suc, ◌+◌, ◌^◌, ◌-◌, List, [], ◌∷◌, Option, Some, None, Bool, true, false}
 use Rattle.std.specs.Prelude.{nat_eq, slice_get, length}
 use Rattle.tm_values.specs.Val.{Val}
@@ -19,33 +19,33 @@ failed kind run out w = ended (fault (kind ∷ [])) run out w
 abbrev pub new_run : Bool → World → Run
 new_run heard w = record { first = w.escape; heard = heard; inside = false; parent = None }
 
--- what is done, or a fault where its charge wasn't paid
+-- done, or a fault if the charge wasn't paid
 abbrev pub done_by : Res (Unit {0}) → Outcome → Outcome
 done_by (Good _ w) o = record o { ending = done []; world = w }
 done_by (Bad chain w) o = record o { ending = fault chain; world = w }
 
--- The end of statements that a run has: whatever it was, the run is over. A loop that isn't there is left, or goes on, at a charge; no source
--- has such a tree.
+-- The end of a run's statements: whatever the ending, the run is over. A `break` or `continue`
+-- outside of a loop, which no source contains, is charged.
 abbrev pub at_end : Ending → Outcome → Outcome
 at_end (done vs) o = record o { ending = done [] }
 at_end (fault chain) o = o
 at_end e o = done_by (tick o.world) o
 
--- a value that is left, or the fault before it
+-- the value that is left, or the fault before it
 abbrev pub leaving : Res Val → Run → List ℕ → Outcome
 leaving m run out = use_it m run out (λ v w. ended (done (v ∷ [])) run out w)
 
--- A stream runs its statements, or evaluates its expression, whose value is left.
+-- Runs the statements of a stream, or evaluates its expression, whose value is left.
 abbrev pub stream_run : Under → StreamTree → Run → List ℕ → World → Outcome
 stream_run u (statements body) run out w = let o = exec_all u first_numbers body.row run out w in at_end o.ending o
 stream_run u (expression e) run out w = leaving (eval u run e w) run out
 
--- A macro's body, once its parameters have taken the values of its arguments.
+-- Runs the body of a macro, once its parameters are bound to its arguments.
 abbrev pub macro_body : Under → FoundMacro → List Val → Run → List ℕ → World → Outcome
 macro_body u m given run out w =
     use_it (take_parameters u run m.parameters given w) run out (λ _ world1. exec_all u m.at m.body.row run out world1)
 
--- the run of a macro, where there is one that takes so many arguments
+-- the run of a macro, if it exists and takes that many arguments
 abbrev pub macro_run : Under → Option FoundMacro → List Val → Run → List ℕ → World → Outcome
 macro_run u None given run out w = failed InvalidOperation run out w
 macro_run u (Some m) given run out w =
@@ -55,7 +55,7 @@ macro_run u (Some m) given run out w =
 abbrev pub over : HostValue → Nests → Again → Under
 over host nests again = record { host = host; nests = nests; again = again }
 
--- what a round of a loop does with its item
+-- a round of a loop with its item
 abbrev pub turn_of : Under → FoundLoop → Val → Run → List ℕ → World → Outcome
 turn_of u l v run out w = use_it (assign u run l.target v w) run out (λ _ world1. exec_all u l.at l.body.row run out world1)
 
@@ -64,8 +64,8 @@ again_in u None n items run out w = failed InvalidOperation run out w
 again_in u (Some l) n items run out w =
     choose l.recursive (λ _. loop_over u.host n true (turn_of u l) items run out w) (λ _. failed InvalidOperation run out w)
 
--- the loops of a stream, over as many levels: level zero isn't reached, since each call opens a scope within the limit, and there is one
--- level more than the limit
+-- the loops of a stream, with k levels left; level zero isn't reached, since each call opens a
+-- scope within the limit, and there is one more level than the limit
 abbrev pub again_of : HostValue → Nests → StreamTree → ℕ → Again
 again_of host nests tree zero n items run out w = failed InvalidOperation run out w
 again_of host nests tree (suc k) n items run out w =
@@ -74,7 +74,7 @@ again_of host nests tree (suc k) n items run out w =
 abbrev pub under : HostValue → Nests → StreamTree → Under
 under host nests tree = over host nests (again_of host nests tree (host.limit + 1))
 
--- what follows a stream's end: the run of the parent that waits, if one does
+-- after a stream's end: the run of the parent that waits, if there is one
 abbrev pub to_parent : Option TemplateId → Outcome → (TemplateId → Outcome) → Outcome
 to_parent None o f = o
 to_parent (Some t) o f = f t
@@ -83,8 +83,9 @@ abbrev pub restarting : Ending → Outcome → (TemplateId → Outcome) → Outc
 restarting (fault chain) o f = o
 restarting e o f = to_parent o.parent o f
 
--- A stream, and after it the root of the parent that it asks for, in the scopes that are left and heard as the run was at its start; over
--- so many names that were not loaded before. Each parent's name was not, so with none left no parent is asked for.
+-- Runs a stream, and then the root of its parent, in the scopes that are left, and heard as the run
+-- was at its start. n counts the names that aren't loaded yet. A parent's name is one of them, so
+-- with none left no parent waits.
 abbrev pub run_of : HostValue → Nests → Trees → ℕ → StreamId → Run → List ℕ → World → Outcome
 run_of host nests trees zero s run out w =
     let o = stream_run (under host nests (trees s)) (trees s) run out w in
@@ -93,8 +94,8 @@ run_of host nests trees (suc n) s run out w =
     let o = stream_run (under host nests (trees s)) (trees s) run out w in
     restarting o.ending o (λ t. run_of host nests trees n (root_of t) run o.text (record o.world { stream = root_of t }))
 
--- what nests, over as many levels of depth: level zero isn't reached, since each run that nests stands at least one deeper, and within the
--- limit
+-- nested runs, with n levels of depth left; level zero isn't reached, since each nested run is at
+-- least one level deeper, and within the limit
 abbrev pub nests_of : HostValue → Trees → ℕ → Nests
 nests_of host trees zero callee heard out w = failed InvalidOperation (new_run heard w) out w
 nests_of host trees (suc n) (macro_of s entry given) heard out w =
@@ -107,8 +108,8 @@ abbrev pub first_fuel : Option ℕ → ℕ
 first_fuel None = 2 ^ 64 - 1
 first_fuel (Some fuel) = fuel
 
--- What a render starts from: one scope over the context value, no records, the template's blocks each alone, and the fuel that was set,
--- else the greatest u64.
+-- The start of a render: one scope over the context value, no records, the template's blocks each
+-- in a list of its own, and the fuel that was set, or else the largest u64.
 abbrev pub first_world : HostValue → TemplateId → ℕ → Option ℕ → Val → World
 first_world host t id fuel context = record {
   id = id;
@@ -128,25 +129,28 @@ first_world host t id fuel context = record {
   fuel = first_fuel fuel;
 }
 
--- What a render means, from a world: the stream that it names, heard.
+-- The meaning of a render, from a world: the stream that it names, heard.
 abbrev pub rendered : HostValue → Trees → World → Outcome
 rendered host trees w = nests_of host trees (host.limit + 1) (whole w.stream) true [] w
 
--- The one value that a run left, or its fault. A run that left another number of values is no expression's.
+-- The one value that a run left, or its fault. A run that left another number of values isn't that
+-- of an expression.
 abbrev pub value_left : Ending → World → Res Val
 value_left (done (v ∷ [])) w = Good v w
 value_left (fault chain) w = Bad chain w
 value_left e w = Bad (InvalidOperation ∷ []) w
 
--- What an expression means, from a world: the stream that it names runs in the same way, and leaves the expression's value.
+-- The meaning of an expression, from a world: its stream is run in the same way, and leaves the
+-- value of the expression.
 abbrev pub evaluated : HostValue → Trees → World → Res Val
 evaluated host trees w = let o = rendered host trees w in value_left o.ending o.world
 
--- What the block of a name means that a state is asked for, from its world: its tag, heard and where no parent waits.
+-- The meaning of a block that a state is asked to render, from its world: its tag, heard and
+-- without a waiting parent.
 abbrev pub rendered_block : HostValue → Trees → List ℕ → World → Outcome
 rendered_block host trees b w = block_tag (under host (nests_of host trees (host.limit + 1)) (statements empty)) (new_run true w) b [] w
 
--- the chain of kinds, which is empty where all was done
+-- the chain of kinds; empty if it is done
 abbrev pub chain_in : Ending → List ErrorKind
 chain_in (fault chain) = chain
 chain_in e = []
@@ -154,6 +158,6 @@ chain_in e = []
 abbrev pub chain_of : Outcome → List ErrorKind
 chain_of o = chain_in o.ending
 
--- the values that are left where all was done
+-- the values that are left if it is done
 abbrev pub left_of : Outcome → List Val
 left_of o = left_by o.ending

@@ -22,7 +22,7 @@ use Rattle.tm_meaning.specs.Instructions.{store_local_of, unpack_list_of, set_at
 use Rattle.tm_meaning.specs.Instructions.{push_did_not_iterate_of, pop_loop_frame_of, begin_capture_of, end_capture_of, push_auto_escape_of}
 use Rattle.tm_meaning.specs.Instructions.{pop_auto_escape_of, is_undefined_of, enclose_of, get_closure_of, build_macro_of}
 
--- what an instruction is charged: 0 where it is free
+-- the charge of an instruction; 0 if it is free
 abbrev pub charge_of : Instruction → ℕ
 charge_of i.DupTop = 0
 charge_of i.DiscardTop = 0
@@ -44,18 +44,19 @@ charge_of _ = 1
 abbrev pub pay : Instruction → World → Res (Unit {0})
 pay x w = pays (charge_of x) w
 
--- all that the run opened is closed
+-- everything that the run opened is closed
 abbrev pub closed : Base → Config → Bool
 closed f c =
     nat_eq f.captures (length c.captures) && nat_eq f.scopes
     (length c.world.scopes.frames) && is_empty c.run.escapes && is_empty c.run.loops
 
--- Where no parent waits a stream's run is over, and else it restarts there.
+-- The run of a stream is over if no parent waits; otherwise it restarts in the parent.
 abbrev pub parent_next : Option TemplateId → Config → Next
 parent_next None c = Over (Finished c.run.operands c.captures c.world)
 parent_next (Some t) c = Restart (restarted t c)
 
--- A macro's run is over, with all closed that it opened; a parent that waits there runs nowhere.
+-- The run of a macro is over once everything that it opened is closed. A parent that waits there
+-- never runs.
 abbrev pub return_of : Base → Config → Next
 return_of f c = choose (closed f c) (λ _. Over (Finished c.run.operands c.captures c.world)) (λ _. stuck c.world)
 
@@ -129,7 +130,8 @@ effect p f i.EndCapture c = end_capture_of c
 effect p f i.PushAutoEscape c = push_auto_escape_of f c
 effect p f i.PopAutoEscape c = pop_auto_escape_of c
 
--- After the last instruction, with all closed that the run opened, it is over, or restarts in the parent that waits.
+-- After the last instruction, with everything closed that the run opened, the run is over, or
+-- restarts in the waiting parent.
 abbrev pub finish : ℕ → Base → Config → Next
 finish size f c = choose (nat_eq c.run.place size && closed f c) (λ _. parent_next c.run.parent c) (λ _. stuck c.world)
 
@@ -137,12 +139,12 @@ abbrev pub act : Program → Base → Option Instruction → Config → Next
 act p f None c = finish (length (p.code c.run.stream)) f c
 act p f (Some x) c = after (pay x c.world) (λ _ w. effect p f x (with_world w c))
 
--- one step: the instruction at the place is paid for and takes effect
+-- one step: pays for the instruction at the place and performs it
 abbrev pub step : Program → Base → Config → Next
 step p f c = act p f (slice_get (p.code c.run.stream) c.run.place) c
 
 -- ---------------------------------------------------------------- whole runs
--- An end, and the text that the writer has got by then.
+-- The end of a run, and the text that the writer has received by then.
 pub record Final : Type 0 where
   pub text : List ℕ
   pub end : End
@@ -150,7 +152,7 @@ pub record Final : Type 0 where
 abbrev pub final : List ℕ → End → Final
 final t e = record { text = t; end = e }
 
--- Once the writer has got this text, what a step gave leads to an end.
+-- The result of a step leads to an end, once the writer has received the text t.
 pub data Leads (p : Program) : Base → List ℕ → Next → Final → Type 0 where
   over : {f : Base} {t : List ℕ} {n : Next} {e : End} {o : Final} → n ≡ Over e → o ≡ final t e → Leads p f t n o
   more : {f : Base} {t d : List ℕ} {n : Next} {c : Config} {o : Final} → n ≡ More d c → Leads p f (t ++ d) (step p f c) o → Leads p f t n o
@@ -158,7 +160,7 @@ pub data Leads (p : Program) : Base → List ℕ → Next → Final → Type 0 w
   nest : {f g : Base} {t : List ℕ} {n : Next} {c : Config} {back : Back} {e o : Final} →
       n ≡ Nest g c back → Leads p g t (step p g c) e → Leads p f e.text (back_to back e.end) o → Leads p f t n o
 
--- The run of a callee that begins here: its first step, or a refusal where there is none.
+-- The start of a callee's run: its first step, or a refusal if it has no run.
 abbrev pub begun : Program → Base → Option Activation → List Capture → World → Next
 begun p f None ks w = Over (Failed (InvalidOperation ∷ []) w)
 begun p f (Some a) ks w = step p f (running a ks w)
@@ -166,11 +168,11 @@ begun p f (Some a) ks w = step p f (running a ks w)
 abbrev pub begins : Program → Base → Callee → List Capture → World → Next
 begins p f k ks w = begun p f (first_run p k (length ks)) ks w
 
--- From a configuration, once the writer has got this text, the machine comes to an end.
+-- From a configuration, once the writer has received the text t, the machine reaches an end.
 abbrev pub Reaches : Program → Base → List ℕ → Config → Final → Type 0
 Reaches p f t c o = Leads p f t (step p f c) o
 
--- The same as a function, with at most so many steps one inside the other.
+-- The same as a function, with a bound on the number of nested steps.
 abbrev pub and_on : Option Final → (Final → Option Final) → Option Final
 and_on None g = None
 and_on (Some o) g = g o

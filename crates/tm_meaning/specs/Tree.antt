@@ -5,7 +5,7 @@ pub use Rattle.tm_syntax.specs.Blocks.{Body, body_of, empty, FoundBlock, StreamT
 use Rattle.tm_syntax.specs.Named.{by_name}
 use Rattle.tm_meaning.specs.World.{Named, find, TemplateId, own, entry, StreamId, Card, Template, or_is}
 
--- A template as a tree: its name, its escape, and what it runs, statements or an expression.
+-- A template as a tree: its name, its escape, and its root, which is statements or an expression.
 pub record TemplateTree : Type 0 where
   pub name : List ℕ
   pub escape : AutoEscape
@@ -36,6 +36,6 @@ abbrev pub tree_at : TemplateTree → Named TemplateTree → TemplateId → Temp
 tree_at t ts own = t
 tree_at t ts (entry x) = or_is (find x ts) t
 
--- of the render's own template, over the environment's
+-- the streams of the rendered template and of the environment's
 abbrev pub trees_of : TemplateTree → Named TemplateTree → Trees
 trees_of t ts s = part_of (tree_at t ts s.template) s.block

@@ -1,4 +1,4 @@
--- What a state is to the meaning and to the machine, and what both do to it.
+-- The state as the meaning and the machine see it, and their operations on it.
 use Rattle.std.specs.Prelude.{ℕ, zero, suc, ◌+◌, ◌-◌, ◌≤◌, List, [], ◌∷◌, ◌++◌, length, map as each, Option, Some, None, option_and_then, Bool}
 use Rattle.std.specs.Prelude.{is_some, true, false, not, ◌&&◌, ◌||◌, nat_le, nat_lt, nat_eq, if◌then◌else◌, Ok, Err, slice_get, codes}
 use Rattle.tm_trees.specs.Instructions.{LoopFlags}
@@ -46,7 +46,7 @@ root_of t = record { template = t; block = None }
 abbrev pub block_of : TemplateId → List ℕ → StreamId
 block_of t b = record { template = t; block = Some b }
 
--- What is known of a stream beside its content: whether it is a required block.
+-- What is known about a stream besides its content: whether it is a required block.
 pub record Card : Type 0 where
   pub required : Bool
 
@@ -57,7 +57,8 @@ pub record Template : Type 0 where
   pub blocks : Named Card
 
 -- ---------------------------------------------------------------- a state
--- A scope: its names, the value whose keys are names too, its loop, the closure made in it, the closure it reads.
+-- A scope: its locals, the context value, whose keys are names too, its loop, the closure made in
+-- it, and the closure that it reads.
 pub record Scope : Type 0 where
   pub locals : Bindings
   pub context : Val
@@ -65,13 +66,14 @@ pub record Scope : Type 0 where
   pub own_closure : Option ℕ
   pub reads : Option ℕ
 
--- The scopes, innermost first, and the depth at which the outermost stands.
+-- The scopes, innermost first, and the depth of the outermost one.
 pub record Scopes : Type 0 where
   pub frames : List Scope
   pub outer : ℕ
 
--- A loop's record: its items, how often the next one was asked for, once more than there are at most, its depth, its number in its stream
--- in source order, whether it can be called, its stream, and the arguments of `changed`.
+-- The record of a loop: its items; how often the next one was taken, at most once more than there
+-- are items; its depth; its number in its stream, in source order; whether it can be called; its
+-- stream; and the arguments of `changed`.
 pub record Loop : Type 0 where
   pub items : List Val
   pub turns : ℕ
@@ -81,9 +83,10 @@ pub record Loop : Type 0 where
   pub stream : StreamId
   pub kept : Option (List Val)
 
--- A state: its id, scopes and records, the streams that declared macros, the kept values, for each block the templates that have it, from
--- child to root, the places in these lists that a `super()` moved, the names loaded so far, the block that runs, the escape, the stream
--- that runs, the fuel that was set, and the fuel left.
+-- A state: its id, scopes and records; the streams that declared macros; the kept values; for each
+-- block the templates that have it, from child to root; the places in these lists that `super()`
+-- advanced; the names loaded so far; the running block; the escape; the running stream; the fuel
+-- that was set; and the fuel left.
 pub record World : Type 0 where
   pub id : ℕ
   pub scopes : Scopes
@@ -101,7 +104,7 @@ pub record World : Type 0 where
   pub fuel_set : Option ℕ
   pub fuel : ℕ
 
--- What an object of the caller sees.
+-- What the caller's objects can see.
 pub record View : Type 0 where
   pub id : ℕ
   pub frames : List Scope
@@ -113,29 +116,30 @@ pub record View : Type 0 where
   pub escape : AutoEscape
   pub undefined : UndefinedBehavior
 
--- What a callable answers: values to keep, in order, and a value or a fault.
+-- The result of a callable: values to keep, in order, and its reply.
 pub record Stated : Type 0 where
   pub temps : Bindings
   pub reply : Reply
 
--- An object of the caller that is called: what it answers, by its arguments and what it sees.
+-- One of the caller's objects that can be called: its result depends on its arguments and on what
+-- it can see.
 abbrev pub Object : Type 0
 Object = List Val → View → Stated
 
--- An object of the caller that is asked where a value has no method of a name: what it is for that value and name.
+-- The caller's object for methods that a value lacks: the object for that value and name.
 abbrev pub Fallback : Type 0
 Fallback = Val → List ℕ → Object
 
--- A formatter of the caller: the text that a value is written as, by what it sees.
+-- The caller's formatter: the text that is written for a value, depending on what it can see.
 abbrev pub Format : Type 0
 Format = Val → View → Answer (List ℕ)
 
--- A function that the environment has: an object of the caller, or one of the language.
+-- A function of the environment: one of the caller's objects, or a built-in one.
 pub data Function : Type 0 where
   callers : Object → Function
   languages : GlobalFunction → Function
 
--- What the environment gives. Trees and code aren't here: they are functions of a stream.
+-- What the environment contains. Trees and code aren't part of it: they are functions of a stream.
 pub record HostValue : Type 0 where
   pub own : Template
   pub templates : Named Template
@@ -163,7 +167,7 @@ bind (Bad chain w) f = Bad chain w
 abbrev pub bad : {A : Type 0} → ErrorKind → World → Res A
 bad kind w = Bad (kind ∷ []) w
 
--- a value that has to be there
+-- a value that must be there
 abbrev pub need : {A : Type 0} → Option A → ErrorKind → World → Res A
 need (Some a) kind w = Good a w
 need None kind w = bad kind w
@@ -172,20 +176,21 @@ abbrev pub check : Bool → ErrorKind → World → Res (Unit {0})
 check true kind w = Good tt w
 check false kind w = bad kind w
 
--- what an operation answers, in a world that it leaves as it is
+-- the result of an operation that doesn't change the world
 abbrev pub answered : {A : Type 0} → Answer A → World → Res A
 answered (Ok a) w = Good a w
 answered (Err chain) w = Bad chain w
 
 -- ---------------------------------------------------------------- fuel
--- Whether a charge can be paid: it is at most what is left. And that it can.
+-- Whether a charge can be paid, as a truth value and as a proposition.
 abbrev pub can_be_paid : ℕ → ℕ → Bool
 can_be_paid charge left = nat_le charge left
 
 abbrev pub CanPay : ℕ → ℕ → Type 0
 CanPay charge left = charge ≤ left
 
--- The fuel that is left after a charge: all of it where the charge is 0; and none, with the fuel out, where it can't be paid.
+-- The fuel left after a charge: unchanged if the charge is 0. If it can't be paid, the fuel is used
+-- up.
 abbrev pub charged : ℕ → ℕ → Option ℕ
 charged charge left = if nat_eq charge 0 then Some left else if can_be_paid charge left then Some (left - charge) else None
 
@@ -193,7 +198,7 @@ abbrev pub with_fuel : Option ℕ → World → Res (Unit {0})
 with_fuel (Some left) w = Good tt (record w { fuel = left })
 with_fuel None w = bad OutOfFuel (record w { fuel = 0 })
 
--- A state pays a charge, or its fuel is out and none is left.
+-- Pays a charge, or fails with OutOfFuel, with no fuel left.
 abbrev pub pays : ℕ → World → Res (Unit {0})
 pays charge w = with_fuel (charged charge w.fuel) w
 
@@ -204,7 +209,7 @@ tick w = pays 1 w
 abbrev pub ticked : {A : Type 0} → World → (World → Res A) → Res A
 ticked w f = bind (tick w) (λ _ world1. f world1)
 
--- ---------------------------------------------------------------- what is known of a world
+-- ---------------------------------------------------------------- queries of a world
 abbrev pub template_at : HostValue → TemplateId → Template
 template_at host own = host.own
 template_at host (entry x) = or_is (find x host.templates) host.own
@@ -232,7 +237,7 @@ card_at host s = card_in (template_at host s.template) s.block
 abbrev pub name_of : HostValue → World → List ℕ
 name_of host w = (template_at host w.stream.template).name
 
--- the place of a loop's item, of how often the next one was asked for: none before the first
+-- the index of a loop's item, from the number of items taken; None before the first
 abbrev pub place_of : ℕ → Option ℕ
 place_of zero = None
 place_of (suc n) = Some n
@@ -252,7 +257,7 @@ loop_data l = record {
   following = following_of l.items l.turns;
 }
 
--- what stands in the state's loops and namespaces
+-- the content of the state's loops and namespaces
 abbrev pub records_of : World → RecordData
 records_of w = record { state = w.id; namespaces = w.namespaces; loops = each loop_data w.loops }
 
@@ -278,7 +283,7 @@ abbrev pub read_closure : List Bindings → Option ℕ → List ℕ → Option V
 read_closure closures None x = None
 read_closure closures (Some n) x = option_and_then (find x) (slice_get closures n)
 
--- a scope's own: its locals, then `loop`, then the closure that it reads
+-- a scope's own bindings: its locals, then `loop`, then the closure that it reads
 abbrev pub in_scope : View → List ℕ → Scope → Option Val
 in_scope view x s = or_else (find x s.locals) (or_else (marked_loop view.records.state s.mark x) (read_closure view.closures s.reads x))
 
@@ -286,7 +291,7 @@ abbrev pub namespace_member : Option (List (Val × Val)) → List ℕ → Answer
 namespace_member None x = invalid
 namespace_member (Some ps) x = Ok (maps.find (text x false) ps)
 
--- what a context value has at a name; that of a record of another state can't be known
+-- the member of a context value; a record of another state can't be read
 abbrev pub context_member : RecordData → List ℕ → Val → Answer (Option Val)
 context_member r x (namespace state n) = namespace_member (namespace_at r state n) x
 context_member r x v = Ok (member x v)
@@ -299,7 +304,7 @@ abbrev pub or_on_answer : Answer (Option Val) → (Unit {0} → Answer (Option V
 or_on_answer (Ok found) f = or_on found f
 or_on_answer (Err chain) f = Err chain
 
--- An inner scope gives before an outer one, and its own names before its context value.
+-- An inner scope comes before an outer one, and a scope's own bindings before its context value.
 abbrev pub in_frames : View → List ℕ → List Scope → Answer (Option Val)
 in_frames view x [] = Ok None
 in_frames view x (s ∷ ss) =
@@ -307,7 +312,7 @@ in_frames view x (s ∷ ss) =
     or_on_answer (context_member view.records x s.context) (λ _.
     in_frames view x ss))
 
--- The value of a name, of the scopes or else of the globals.
+-- The value of a name, from the scopes or else from the globals.
 abbrev pub find_name : View → List ℕ → Answer (Option Val)
 find_name view x = or_on_answer (in_frames view x view.frames) (λ _. Ok (find x view.globals))
 
@@ -327,7 +332,7 @@ plain_scope context = record { locals = []; context = context; mark = None; own_
 abbrev pub with_frames : List Scope → World → World
 with_frames frames w = record w { scopes = record w.scopes { frames = frames } }
 
--- One scope more, unless it would lie deeper than the limit.
+-- Opens a scope, unless it would be deeper than the limit.
 abbrev pub push : HostValue → Scope → World → Res (Unit {0})
 push host s w =
     choose (nat_lt (depth w.scopes) host.limit) (λ _. Good tt (with_frames (s ∷ w.scopes.frames) w)) (λ _. bad InvalidOperation w)
@@ -336,7 +341,7 @@ abbrev pub without_first : {A : Type 0} → List A → List A
 without_first [] = []
 without_first (x ∷ xs) = xs
 
--- The innermost scope is left.
+-- Closes the innermost scope.
 abbrev pub pop : World → World
 pop w = with_frames (without_first w.scopes.frames) w
 
@@ -355,25 +360,25 @@ put_at n x v [] = []
 put_at zero x v (c ∷ cs) = put x v c ∷ cs
 put_at (suc n) x v (c ∷ cs) = c ∷ put_at n x v cs
 
--- closures, where that of a number has a name
+-- binds a name in the closure with this number
 abbrev pub put_in : Option ℕ → List ℕ → Val → List Bindings → List Bindings
 put_in None x v cs = cs
 put_in (Some n) x v cs = put_at n x v cs
 
--- the innermost scope's own closure, where there is one, has the name from here on
+-- binds the name in the closure of the innermost scope, if there is one
 abbrev pub put_enclosed : List ℕ → Val → World → World
 put_enclosed x v w = record w { closures = put_in (own_closure w.scopes.frames) x v w.closures }
 
--- The innermost scope has the name from here on, and so has its own closure.
+-- Binds the name in the innermost scope and in its closure.
 abbrev pub store : List ℕ → Val → World → World
 store x v w = put_enclosed x v (with_frames (stored_in x v w.scopes.frames) w)
 
--- the closure of a number is the innermost scope's own, or none is
+-- sets the closure of the innermost scope
 abbrev pub owning : Option ℕ → List Scope → List Scope
 owning closure [] = []
 owning closure (s ∷ ss) = record s { own_closure = closure } ∷ ss
 
--- the closure of a new number, where the innermost scope has none of its own
+-- sets the closure of the innermost scope to number n
 abbrev pub with_own : ℕ → List Scope → List Scope
 with_own n frames = owning (Some n) frames
 
@@ -381,18 +386,18 @@ abbrev pub one_closure_more : List Scope → List Bindings → List Bindings
 one_closure_more [] cs = cs
 one_closure_more (s ∷ ss) cs = cs ++ [] ∷ []
 
--- the innermost scope has a closure of its own from here on
+-- makes a closure for the innermost scope, unless it has one
 abbrev pub closing_over : Option ℕ → World → World
 closing_over (Some n) w = w
 closing_over None w =
     record (with_frames (with_own (length w.closures) w.scopes.frames) w) { closures = one_closure_more w.scopes.frames w.closures }
 
--- whether the innermost scope's own closure has a name
+-- whether the closure of the innermost scope has a name
 abbrev pub has_enclosed : List ℕ → World → Bool
 has_enclosed x w = is_some (read_closure w.closures (own_closure w.scopes.frames) x)
 
--- The innermost scope's own closure, which is made where there is none, has a name with its present value, or undefined; a name that it has
--- stays as it is.
+-- Binds the name to its present value, or undefined, in the closure of the innermost scope, unless
+-- the closure has the name. The closure is made if there is none.
 abbrev pub enclose : HostValue → List ℕ → World → Res (Unit {0})
 enclose host x w =
     choose (has_enclosed x w) (λ _. Good tt w) (λ _.
@@ -409,7 +414,7 @@ abbrev pub innermost : List Scope → Option ℕ
 innermost [] = None
 innermost (s ∷ ss) = or_else (number_of s.mark) (innermost ss)
 
--- one deeper in a loop that can be called, and else outermost
+-- one level deeper than a recursive loop, and otherwise the outermost level
 abbrev pub depth_inside : Option Loop → ℕ
 depth_inside None = 0
 depth_inside (Some l) = if l.recursive then l.depth + 1 else 0
@@ -431,7 +436,8 @@ new_loop items flags number w = record {
   kept = None;
 }
 
--- A loop of a number in a scope of its own, with a record after all others; where there is no room for the scope there is no record.
+-- Opens a loop in a new scope and appends its record. If there is no room for the scope, no record
+-- is made.
 abbrev pub open_loop : HostValue → List Val → LoopFlags → ℕ → World → Res (Unit {0})
 open_loop host items flags number w =
     bind (push host (loop_scope (record { number = length w.loops; variable = flags.variable })) w) (λ _ world1.
@@ -453,7 +459,7 @@ abbrev pub top_mark : List Scope → Option LoopMark
 top_mark [] = None
 top_mark (s ∷ ss) = s.mark
 
--- The innermost scope's loop is asked for its next item.
+-- Takes the next item of the innermost scope's loop.
 abbrev pub next_turn : World → World
 next_turn w = turned_of (top_mark w.scopes.frames) w
 
@@ -461,15 +467,15 @@ abbrev pub without_locals : List Scope → List Scope
 without_locals [] = []
 without_locals (s ∷ ss) = record s { locals = [] } ∷ ss
 
--- The innermost scope loses its names.
+-- Drops the names of the innermost scope.
 abbrev pub cleared : World → World
 cleared w = with_frames (without_locals w.scopes.frames) w
 
--- the record of the innermost scope, where that is a loop's
+-- the record of the innermost scope, if that is a loop's
 abbrev pub top_loop : World → Option Loop
 top_loop w = option_and_then (λ (m : LoopMark). slice_get w.loops m.number) (top_mark w.scopes.frames)
 
--- what a loop goes over
+-- the items that a loop iterates over
 abbrev pub items_over : HostValue → Val → World → Res (List Val)
 items_over host v w = answered (iterated host.undefined (records_of w) v) w
 
@@ -479,21 +485,21 @@ with_member n x v [] = []
 with_member zero x v (ps ∷ more) = maps.put (text x false) v ps ∷ more
 with_member (suc n) x v (ps ∷ more) = ps ∷ with_member n x v more
 
--- A namespace of this state has the attribute from here on.
+-- Sets an attribute of a namespace of this state.
 abbrev pub set_member : List ℕ → Val → Val → World → Res (Unit {0})
 set_member x v o w =
     bind (answered (settable (records_of w) o) w) (λ n world1. Good tt (record world1 { namespaces = with_member n x v world1.namespaces }))
 
--- A namespace more, of these pairs, after all others.
+-- Appends a new namespace with these pairs.
 abbrev pub make_namespace : List (Val × Val) → World → Res Val
 make_namespace ps w = Good (namespace w.id (length w.namespaces)) (record w { namespaces = w.namespaces ++ ps ∷ [] })
 
--- so many items of a value
+-- the items of a value, which must be exactly n
 abbrev pub unpacked_items : ℕ → Val → World → Res (List Val)
 unpacked_items n v w = answered (unpacked (records_of w) n v) w
 
 -- ---------------------------------------------------------------- macros
--- where a stream stands among those that declared macros: from a number on
+-- the index of a stream among those that declared macros, counted from n
 abbrev pub stream_from : ℕ → StreamId → List StreamId → ℕ
 stream_from n s [] = n
 stream_from n s (t ∷ ts) = if same_stream s t then n else stream_from (n + 1) s ts
@@ -502,12 +508,12 @@ abbrev pub is_there : StreamId → List StreamId → Bool
 is_there s [] = false
 is_there s (t ∷ ts) = same_stream s t || is_there s ts
 
--- the streams that declared macros, with this one after them unless it is there
+-- the streams that declared macros, with s appended unless it is there
 abbrev pub with_stream : StreamId → List StreamId → List StreamId
 with_stream s ts = if is_there s ts then ts else ts ++ s ∷ []
 
--- A macro of the stream that runs, by its entry, its closure, its name, the names of its arguments, and whether it takes `caller`. At its
--- first macro a stream gets its number.
+-- A macro of the running stream, by its entry, its closure, its name, the names of its arguments,
+-- and whether it takes `caller`. A stream gets its number with its first macro.
 abbrev pub make_macro : ℕ → Option ℕ → List ℕ → List (List ℕ) → Bool → World → Res Val
 make_macro number closure x arguments caller w =
     Good (macro (record {
@@ -521,18 +527,19 @@ make_macro number closure x arguments caller w =
     })) (record w { streams = with_stream w.stream w.streams })
 
 -- ---------------------------------------------------------------- emission
--- an answer after a verdict
+-- a result, unless the verdict is an error
 abbrev pub where_fine : {A : Type 0} → Verdict → A → Answer A
 where_fine (Ok u) a = Ok a
 where_fine (Err chain) a = Err chain
 
--- what a value is written as: what the caller's formatter gives, or else by the escape that is seen
+-- the text written for a value: by the caller's formatter, or else by the current escape
 abbrev pub formatted : Option Format → Val → View → Answer (List ℕ)
 formatted None v view =
     where_fine (emission_verdict view.escape view.records v) (emitted_text view.escape view.records v)
 formatted (Some f) v view = f v view
 
--- What a value is written as: an undefined one is refused where the behavior says so, and then the formatter is asked, else the escape.
+-- The text written for a value. An undefined value is refused if the behaviour says so. Then the
+-- formatter is used, or else the escape.
 abbrev pub emitted : HostValue → Val → World → Res (List ℕ)
 emitted host v w = answered (unless (refusal_of host.undefined Emission v) (formatted host.formatter v (view_of host w))) w
 
@@ -544,13 +551,13 @@ escape_named name =
     else if same_name name (codes "none") then Ok escapes.None
     else invalid
 
--- the escape at a run's start, or Html where there was none
+-- the escape at a run's start, or Html if there was none
 abbrev pub switched_on : AutoEscape → AutoEscape
 switched_on escapes.None = escapes.Html
 switched_on first = first
 
--- The escape that a value stands for, in a run that began with this one: a text names it, what equals true switches it on, and all else
--- switches it off.
+-- The escape that a value selects, in a run that began with `first`: a text names it, a value equal
+-- to true switches it on, and any other value switches it off.
 abbrev pub escape_for : AutoEscape → Val → Answer AutoEscape
 escape_for first (text name safe) = escape_named name
 escape_for first v = Ok (if same_value v (boolean true) then switched_on first else escapes.None)
@@ -563,7 +570,7 @@ abbrev pub is_escaping : AutoEscape → Bool
 is_escaping escapes.None = false
 is_escaping escape = true
 
--- a captured text as a value, at its end
+-- a captured text as a value
 abbrev pub captured_text : List ℕ → World → Val
 captured_text t w = text t (is_escaping w.escape)
 
@@ -573,7 +580,7 @@ abbrev pub is_exported : List ℕ → Bool
 is_exported [] = true
 is_exported (b ∷ bs) = not (same_name (b ∷ []) (codes "_"))
 
--- each exported name as a key of its value
+-- each exported name as a key, with its value
 abbrev pub exported : Bindings → List (Val × Val)
 exported [] = []
 exported (p ∷ ps) = choose (is_exported p.0) (λ _. (text p.0 false, p.1) ∷ exported ps) (λ _. exported ps)
@@ -582,11 +589,11 @@ abbrev pub top_locals : List Scope → Bindings
 top_locals [] = []
 top_locals (s ∷ ss) = s.locals
 
--- the module of the names that the innermost scope exports, and of a text
+-- the module of the exported names of the innermost scope, with a text
 abbrev pub module_of : World → List ℕ → Val
 module_of w t = exports (pairs_of (exported (top_locals w.scopes.frames))) t
 
--- the same with the text that a value is printed as, which is refused where that can't be printed
+-- the same with the printed text of a value; refused if the value can't be printed
 abbrev pub module_with : Val → World → Res Val
 module_with v w = bind (answered (text_answer (records_of w) v) w) (λ t world1. Good (module_of world1 t) world1)
 
@@ -595,6 +602,6 @@ abbrev pub levels_of : Option ℕ → ℕ → Option (ℕ × ℕ)
 levels_of None left = None
 levels_of (Some set) left = Some (set - left, left)
 
--- The fuel consumed and the fuel left, where fuel was set.
+-- The fuel consumed and the fuel left, if fuel was set.
 abbrev pub fuel_levels : World → Option (ℕ × ℕ)
 fuel_levels w = levels_of w.fuel_set w.fuel

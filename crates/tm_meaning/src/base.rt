@@ -1,12 +1,12 @@
-//! What a run stands on.
+//! What a run starts from.
 use tm_values::AutoEscape;
 
-/// What stays the same over a run.
+/// What stays the same during a run.
 #[derive(Drop)]
 pub struct Base {
-    /// How many captures were open when it began.
+    /// The number of captures that were open at its start.
     pub captures: usize,
-    /// How many scopes there were.
+    /// The number of scopes at its start.
     pub scopes: usize,
     /// Whether its text is heard.
     pub heard: bool,

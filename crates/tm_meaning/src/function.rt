@@ -1,12 +1,12 @@
-//! The functions of the language.
+//! The built-in functions.
 
-/// A function that every new environment has, which the machine runs itself.
+/// A function that every new environment has and that the machine runs itself.
 #[derive(Clone, Copy, PartialEq, Eq)]
 pub enum GlobalFunction {
-    /// `range`: numbers by steps.
+    /// `range`: a list of numbers from a start to a stop by a step.
     Range,
-    /// `dict`: a map, with keywords put into it.
+    /// `dict`: a map, with the keyword arguments added.
     Dict,
-    /// `namespace`: a new namespace, with what `dict` gives.
+    /// `namespace`: a new namespace with the pairs that `dict` would return.
     Namespace,
 }

@@ -1,5 +1,5 @@
-//! Definitions: what a state is, what trees mean, what the machine does. The functions here are
-//! laws: they run nothing, and their contracts say what is proved of the definitions.
+//! Definitions: what a state is, what trees mean, and what the machine does. The functions here are
+//! laws: they run nothing, and their contracts state what is proved about the definitions.
 #![tactic(auto)]
 
 ghost use Rattle.std.specs.Prelude.{◌≡◌, ◌++◌, ℕ, List, Option};
@@ -26,20 +26,21 @@ pub use run_text::RunText;
 pub use stream::{StreamId, TemplateId};
 pub use wrapping::Wrapping;
 
-/// A run has one end.
+/// A run has only one end.
 pub fn one_end()
     ensures { (p : Program) (f : Base) (t : List ℕ) (n : Next) (o q : Final) →
         Leads p f t n o → Leads p f t n q → o ≡ q }
 {}
 
-/// What the writer has got it keeps.
+/// The text that the writer has received only grows.
 pub fn text_grows()
     ensures { (p : Program) (f : Base) (t : List ℕ) (n : Next) (o : Final) →
         Leads p f t n o → (rest : List ℕ) × (o.text ≡ t ++ rest) }
 {}
 
-/// A look-up answers by what has the name first: from the innermost scope outward its locals, its
-/// loop, its closure and its context value, and then the globals; and what it answers is so found.
+/// A look-up returns the first value bound to the name. Each scope, from the innermost outward, has
+/// its locals, its loop, its closure and its context value; the globals come last. Every result of
+/// a look-up is found this way.
 pub fn look_up_order()
     ensures answers { (view : View) (x : List ℕ) (a : Answer (Option Val)) →
         Finds view x view.frames a → find_name view x ≡ a }

@@ -1,10 +1,10 @@
-//! Scopes of loops.
+//! The scopes of loops.
 
-/// What marks a loop's scope.
+/// Marks the scope of a loop.
 #[derive(Clone, Copy)]
 pub struct LoopMark {
     /// The number of the loop's record.
     pub number: usize,
-    /// Whether the scope has the name `loop`.
+    /// Whether the scope binds `loop`.
     pub variable: bool,
 }

@@ -1,27 +1,27 @@
-//! How a call of an object of the caller ends.
+//! The results of calling the caller's objects.
 use tm_items::Items;
 use tm_syntax::Name;
 use tm_values::{Error, Value};
 
-/// What an object of the caller answers to a call: a value, a fault, or a further call.
+/// The result of calling one of the caller's objects: a value, a fault, or a further call.
 #[derive(Drop)]
 pub enum Reply {
     /// The value of the call.
     Value(Value),
-    /// Why there is none.
+    /// The error, if there is no value.
     Fault(Error),
-    /// What is called in its place.
+    /// A call that is made instead.
     Further(Call),
 }
 
-/// A further call, which is one deeper than the call that asks for it.
+/// A further call. It is one level deeper than the call that asks for it.
 #[derive(Drop)]
 pub enum Call {
-    /// The filter of a name, with these values. The name is looked up as it is.
+    /// Applies the filter of that name to these values. The name isn't changed before the look-up.
     Filter(Name, Items<Value>),
-    /// What a name stands for where the call is, a macro or a function, with these values. Its value is the text
-    /// of what that gives, and not safe.
+    /// Looks up the name where the call is made, and calls the macro or function with these values.
+    /// The value is the printed text of the result, not marked safe.
     Macro(Name, Items<Value>),
-    /// The block of a name, whose text is the value, and not safe.
+    /// Runs the block of that name. The value is its text, not marked safe.
     Block(Name),
 }

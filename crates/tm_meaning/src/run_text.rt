@@ -1,12 +1,12 @@
-//! What the text of a run is as a value.
+//! The text of a run as a value.
 
-/// What the text of a run is, where it is a value.
+/// How the text of a run becomes a value.
 #[derive(Clone, Copy)]
 pub enum RunText {
-    /// A text, which is safe where an escape is in force.
+    /// A text, marked safe if an escape is in force.
     Captured,
-    /// A text that isn't safe.
+    /// A text, not marked safe.
     Plain,
-    /// Whether that text is true, so whether there is any.
+    /// The truth of that text: whether it isn't empty.
     Truth,
 }

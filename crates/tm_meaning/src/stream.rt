@@ -1,19 +1,19 @@
-//! What runs: the streams of templates, by name.
+//! The names of templates and of their streams.
 ghost use Rattle.std.specs.Prelude.{◌≡◌, None, Some, IfOk};
 ghost use Rattle.tm_meaning.specs.World.{root_of, block_of, same_template, same_stream};
 
 use std::alloc::AllocError;
 use tm_syntax::Name;
 
-/// A template: the render's own, or an entry of the environment.
+/// A template: the rendered one, or an entry of the environment.
 pub enum TemplateId {
-    /// The one that is rendered.
+    /// The rendered template.
     Own,
-    /// The one that the environment has at a name.
+    /// The environment's template of that name.
     Entry(Name),
 }
 
-// By hand: one call for each owner, in place of a drop of each part.
+// By hand: one call for each owner, instead of a drop of each part.
 impl Drop for TemplateId {
     fn drop(self) {
         match self {
@@ -23,7 +23,7 @@ impl Drop for TemplateId {
 }
 
 impl TemplateId {
-    /// Whether it is this template.
+    /// Whether both are the same template.
     pub fn is(&self, other: &TemplateId) -> bool
         ensures { result ≡ same_template self.now other.now }
     {
@@ -36,7 +36,7 @@ impl TemplateId {
         }
     }
 
-    /// The same template. Fails only where the owners of a name can't be counted.
+    /// A second owner of the same id. AllocError only if the count of a name's owners overflows.
     pub fn share(&self) -> Result<TemplateId, AllocError>
         ensures { IfOk result (λ template. template ≡ self.now) }
     {
@@ -47,15 +47,15 @@ impl TemplateId {
     }
 }
 
-/// A stream: a template's root, or its block of a name.
+/// A stream: the root of a template, or its block of that name.
 pub struct StreamId {
     /// The template.
     pub template: TemplateId,
-    /// The name of the block; none for the root.
+    /// The name of the block, or None for the root.
     pub block: Option<Name>,
 }
 
-// By hand: one call for each owner, in place of a drop of each part.
+// By hand: one call for each owner, instead of a drop of each part.
 impl Drop for StreamId {
     fn drop(self) {
         let StreamId {
@@ -76,7 +76,7 @@ impl StreamId {
         }
     }
 
-    /// Whether it is this stream.
+    /// Whether both are the same stream.
     pub fn is(&self, other: &StreamId) -> bool
         ensures { result ≡ same_stream self.now other.now }
     {
@@ -90,7 +90,7 @@ impl StreamId {
         }
     }
 
-    /// The same stream. Fails only where the owners of a name can't be counted.
+    /// A second owner of the same id. AllocError only if the count of a name's owners overflows.
     pub fn share(&self) -> Result<StreamId, AllocError>
         ensures { IfOk result (λ stream. stream ≡ self.now) }
     {
@@ -104,7 +104,7 @@ impl StreamId {
         })
     }
 
-    /// A block of a template.
+    /// The block `name` of a template.
     pub fn block(template: TemplateId, name: Name) -> StreamId
         ensures { result ≡ block_of template name }
     {

@@ -1,15 +1,15 @@
-//! What is put before the fault of a run.
+//! Kinds that wrap the fault of a nested run.
 ghost use Rattle.std.specs.Prelude.{◌≡◌};
 ghost use Rattle.tm_meaning.specs.Memory.{kind_of_wrapping};
 
 use tm_values::ErrorKind;
 
-/// The kind that is put before a fault of a nested run.
+/// The kind that wraps the fault of a nested run.
 #[derive(Clone, Copy, PartialEq, Eq)]
 pub enum Wrapping {
-    /// A block that another one runs.
+    /// A block called by `super()` failed.
     EvalBlock,
-    /// A template that another one includes.
+    /// An included template failed.
     BadInclude,
 }
 

@@ -1,4 +1,4 @@
--- Worked rows: trees with the names that they read.
+-- Worked examples: trees and the names that they read.
 use Rattle.std.specs.Prelude.{◌≡◌, ℕ, List, [], ◌∷◌, Some, None, true, false, codes, refl}
 use Rattle.tm_syntax.specs.Forms.{chained, plain}
 use Rattle.tm_trees.specs.Trees.applications
@@ -61,7 +61,7 @@ abbrev calls_with : List ℕ → List ℕ → Stmt
 calls_with p y = CallBlock' (Call' (codes "m") (tt ∷ []) (argument (plain (name (codes "x"))) no_argument) [] no_keyword)
     (plain_parameter p ∷ []) (tt ∷ []) (alone y)
 
--- a and b, where the default of one is the other
+-- parameters a and b, where the default of one is the other
 abbrev reads_later : List Parameter
 reads_later = with_default (codes "a") (codes "b") ∷ plain_parameter (codes "b") ∷ []
 
@@ -138,7 +138,7 @@ import_reads = refl
 import_assigns : undeclared false (statement (Import (name (codes "a")) (To (codes "x"))) (alone (codes "x"))) ≡ codes "a" ∷ []
 import_assigns = refl
 
--- {% from a import x as y %}{{ y }}, and {{ x }} in the place of that
+-- {% from a import x as y %}{{ y }}, and with {{ x }} instead of {{ y }}
 from_assigns : undeclared false (statement (FromImport (name (codes "a")) (renamed (codes "x") (codes "y"))) (alone (codes "y")))
     ≡ codes "a" ∷ []
 from_assigns = refl
@@ -152,7 +152,7 @@ from_renames = refl
 macro_reads : undeclared false (statement (macro_writes (codes "x")) no_statement) ≡ codes "x" ∷ []
 macro_reads = refl
 
--- the same with `m` and with `caller` in the place of `x`, and {{ m }} after it
+-- the same with `m` and with `caller` instead of `x`, and with {{ m }} after it
 own_name : undeclared false (statement (macro_writes (codes "m")) (alone (codes "m"))) ≡ []
 own_name = refl
 
@@ -179,7 +179,7 @@ encloses_itself = refl
 encloses_defaults : free_names reads_later (alone (codes "x")) ≡ codes "b" ∷ codes "x" ∷ []
 encloses_defaults = refl
 
--- {% macro n() %}{{ caller }}{% endmacro %}, in another macro and there
+-- {% macro n() %}{{ caller }}{% endmacro %}, inside another macro and on its own
 caller_within : takes_caller [] (statement (macro_writes (codes "caller")) no_statement) ≡ false
 caller_within = refl
 

@@ -9,7 +9,7 @@ ghost use Rattle.tm_trees.specs.Trees.{steps};
 use std::alloc::{AllocError, Global};
 use tm_syntax::{Application, Expr, Name, Step};
 
-/// The name that an expression is; none of another expression.
+/// The name, if the expression is one.
 pub(crate) fn name_of(expr: &Expr) -> Option<&Name>
     ensures { option_copied result ≡ name_of expr.now }
 {
@@ -27,7 +27,7 @@ pub(crate) fn name_of(expr: &Expr) -> Option<&Name>
     }
 }
 
-/// The name of an attribute; none of another step.
+/// The name, if the step is an attribute.
 fn attribute_of(step: &Step) -> Option<&Name>
     ensures { option_copied result ≡ attribute_of step.now }
 {
@@ -54,7 +54,7 @@ fn is_method(application: Application) -> bool
     }
 }
 
-/// The name of a method; none of another step.
+/// The name, if the step is a method.
 fn method_of(step: &Step) -> Option<&Name>
     ensures { option_copied result ≡ method_of step.now }
 {
@@ -77,7 +77,7 @@ fn method_of(step: &Step) -> Option<&Name>
     }
 }
 
-/// Adds an attribute to a text; AllocError.
+/// Appends an attribute to a text. AllocError if memory runs out.
 fn push_member(text: &mut String, member: &Name) -> Result<(), AllocError>
     ensures { OnOk result (string_bytes text.new ≡ dot (string_bytes text.old) member.now) }
 {
@@ -85,7 +85,7 @@ fn push_member(text: &mut String, member: &Name) -> Result<(), AllocError>
     text.push_str(member.as_str())
 }
 
-/// Adds a method to a text; nothing of another step. AllocError.
+/// Appends a method to a text; nothing for another step. AllocError if memory runs out.
 fn push_last(text: &mut String, step: &Step) -> Result<(), AllocError>
     ensures { OnOk result
         (string_bytes text.new ≡ with_member (method_of step.now) (string_bytes text.old)) }
@@ -96,8 +96,8 @@ fn push_last(text: &mut String, step: &Step) -> Result<(), AllocError>
     }
 }
 
-/// A name with the attributes that stand first after it, and a method directly after these;
-/// AllocError.
+/// A name with the attributes directly after it, and a method directly after these. AllocError if
+/// memory runs out.
 pub(crate) fn dotted(alloc: Global, name: &Name, after: &[Step]) -> Result<String, AllocError>
     ensures { IfOk result (λ text. string_bytes text ≡ dotted name.now (steps after.now)) }
 {

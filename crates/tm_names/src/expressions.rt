@@ -12,7 +12,7 @@ use std::alloc::AllocError;
 use tm_syntax::{Argument, Comparison, Condition, Expr, Keyword, Name, Pair, Step};
 
 impl Walker {
-    /// Reads the name that a call begins with; `super` is none. AllocError.
+    /// Reads the function name of a call; `super` doesn't count. AllocError if memory runs out.
     fn read_function(&mut self, name: &Name) -> Result<(), AllocError>
         ensures { OnOk result (self.new ≡ read_function name.now self.old) }
     {
@@ -22,7 +22,7 @@ impl Walker {
         self.read(name.as_str())
     }
 
-    /// Reads a name with steps after it; AllocError.
+    /// Reads a name and the steps after it. AllocError if memory runs out.
     fn read_chain(&mut self, nested: bool, name: &Name, after: &[Step]) -> Result<(), AllocError>
         ensures { OnOk result
             (self.new ≡ read_chain nested name.now (steps after.now) self.old) }
@@ -34,7 +34,7 @@ impl Walker {
         self.read(name.as_str())
     }
 
-    /// Walks over an expression; AllocError.
+    /// Walks an expression. AllocError if memory runs out.
     #[cycle(expressions)]
     pub(crate) fn walk_expr(&mut self, nested: bool, expr: &Expr) -> Result<(), AllocError>
         ensures { OnOk result (self.new ≡ walk_expr nested expr.now self.old) }
@@ -64,7 +64,7 @@ impl Walker {
         }
     }
 
-    /// Walks over what a chain begins with, of which these are the steps; AllocError.
+    /// Walks the start of a chain with these steps. AllocError if memory runs out.
     #[cycle(expressions)]
     fn walk_first(&mut self, nested: bool, first: &Expr, after: &[Step]) -> Result<(), AllocError>
         ensures { OnOk result (self.new ≡ read_first nested (name_of first.now)
@@ -76,7 +76,7 @@ impl Walker {
         }
     }
 
-    /// Walks over expressions; AllocError.
+    /// Walks expressions. AllocError if memory runs out.
     #[cycle(expressions)]
     fn walk_exprs(&mut self, nested: bool, items: &[Expr]) -> Result<(), AllocError>
         ensures { OnOk result (self.new ≡ walk_exprs nested (exprs items.now) self.old) }
@@ -87,7 +87,7 @@ impl Walker {
         Ok(())
     }
 
-    /// Walks over pairs; AllocError.
+    /// Walks pairs. AllocError if memory runs out.
     #[cycle(expressions)]
     fn walk_pairs(&mut self, nested: bool, entries: &[Pair]) -> Result<(), AllocError>
         ensures { OnOk result (self.new ≡ walk_pairs nested (pairs entries.now) self.old) }
@@ -99,7 +99,7 @@ impl Walker {
         Ok(())
     }
 
-    /// Walks over an argument; AllocError.
+    /// Walks an argument. AllocError if memory runs out.
     #[cycle(expressions)]
     fn walk_argument(&mut self, nested: bool, argument: &Argument) -> Result<(), AllocError>
         ensures { OnOk result (self.new ≡ walk_argument nested argument.now self.old) }
@@ -110,7 +110,7 @@ impl Walker {
         }
     }
 
-    /// Walks over arguments by their places; AllocError.
+    /// Walks positional arguments. AllocError if memory runs out.
     #[cycle(expressions)]
     fn walk_arguments(&mut self, nested: bool, given: &[Argument]) -> Result<(), AllocError>
         ensures { OnOk result
@@ -122,7 +122,7 @@ impl Walker {
         Ok(())
     }
 
-    /// Walks over an argument by its name, which is not read; AllocError.
+    /// Walks a keyword argument, whose name isn't read. AllocError if memory runs out.
     #[cycle(expressions)]
     fn walk_keyword(&mut self, nested: bool, keyword: &Keyword) -> Result<(), AllocError>
         ensures { OnOk result (self.new ≡ walk_keyword nested keyword.now self.old) }
@@ -133,7 +133,7 @@ impl Walker {
         }
     }
 
-    /// Walks over arguments by their names; AllocError.
+    /// Walks keyword arguments. AllocError if memory runs out.
     #[cycle(expressions)]
     fn walk_keywords(&mut self, nested: bool, named: &[Keyword]) -> Result<(), AllocError>
         ensures { OnOk result
@@ -145,7 +145,7 @@ impl Walker {
         Ok(())
     }
 
-    /// Walks over conditions, each with what stands for a value where it is false; AllocError.
+    /// Walks conditions, each with its alternative. AllocError if memory runs out.
     #[cycle(expressions)]
     fn walk_conditions(&mut self, nested: bool, asked: &[Condition]) -> Result<(), AllocError>
         ensures { OnOk result
@@ -158,7 +158,7 @@ impl Walker {
         Ok(())
     }
 
-    /// Walks over a step; AllocError.
+    /// Walks a step. AllocError if memory runs out.
     #[cycle(expressions)]
     fn walk_step(&mut self, nested: bool, step: &Step) -> Result<(), AllocError>
         ensures { OnOk result (self.new ≡ walk_step nested step.now self.old) }
@@ -189,7 +189,7 @@ impl Walker {
         }
     }
 
-    /// Walks over comparisons; AllocError.
+    /// Walks comparisons. AllocError if memory runs out.
     #[cycle(expressions)]
     fn walk_comparisons(&mut self, nested: bool, after: &[Comparison]) -> Result<(), AllocError>
         ensures { OnOk result
@@ -201,7 +201,7 @@ impl Walker {
         Ok(())
     }
 
-    /// Walks over steps; AllocError.
+    /// Walks steps. AllocError if memory runs out.
     #[cycle(expressions)]
     fn walk_steps(&mut self, nested: bool, after: &[Step]) -> Result<(), AllocError>
         ensures { OnOk result (self.new ≡ walk_steps nested (steps after.now) self.old) }
@@ -212,7 +212,7 @@ impl Walker {
         Ok(())
     }
 
-    /// Walks over the filters of a block; AllocError.
+    /// Walks the filters of a block. AllocError if memory runs out.
     pub(crate) fn walk_filters(&mut self, nested: bool, filters: &[Step]) -> Result<(), AllocError>
         ensures { OnOk result (self.new ≡ walk_filters nested filters.now self.old) }
     {

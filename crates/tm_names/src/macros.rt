@@ -12,16 +12,16 @@ use std::collections::BTreeSet;
 use tm_items::{Boxed, Items};
 use tm_syntax::{Expr, Name, Parameter, Stmt};
 
-/// What a macro reads.
+/// The names that a macro reads.
 #[derive(Drop)]
 pub struct MacroNames {
-    /// The names that its closure has, in their order.
+    /// The names in its closure, in order.
     pub free: Items<Name>,
     /// Whether it takes `caller`.
     pub takes_caller: bool,
 }
 
-/// The names that a macro with these parameters and this body reads; AllocError.
+/// The names that a macro with these parameters and this body reads. AllocError if memory runs out.
 pub fn macro_names(
     alloc: Global,
     parameters: &[Parameter],
@@ -40,7 +40,7 @@ pub fn macro_names(
     Ok(MacroNames { free, takes_caller })
 }
 
-/// Whether one of these parameters has this name.
+/// Whether a parameter has this name.
 fn has_parameter(parameters: &[Parameter], name: &str) -> bool
     ensures { result ≡ is_among name.now (parameter_names parameters.now) }
 {
@@ -52,7 +52,7 @@ fn has_parameter(parameters: &[Parameter], name: &str) -> bool
     false
 }
 
-/// The names but for one, in their order; AllocError.
+/// The names except `left_out`, in order. AllocError if memory runs out.
 fn names_without(
     alloc: Global,
     found: &BTreeSet<String>,
@@ -72,7 +72,7 @@ fn names_without(
 }
 
 impl Walker {
-    /// Walks over parameters, each before its default; AllocError.
+    /// Walks parameters, each before its default. AllocError if memory runs out.
     pub(crate) fn walk_parameters(
         &mut self,
         nested: bool,
@@ -88,7 +88,7 @@ impl Walker {
         Ok(())
     }
 
-    /// Walks over an expression, where there is one; AllocError.
+    /// Walks an expression, if there is one. AllocError if memory runs out.
     pub(crate) fn walk_condition(
         &mut self,
         nested: bool,

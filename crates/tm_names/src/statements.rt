@@ -17,8 +17,8 @@ use tm_syntax::{
     Assignment, AssignmentTarget, CallBlock, Expr, ForLoop, Macro, Name, Parameter, Stmt, Tree,
 };
 
-/// The names that a source's tree reads where no open scope has assigned them before, each as its text; with
-/// what is nested in them, as `a.b.c`, where that is asked for. AllocError.
+/// The names that a source's tree reads before any open scope has assigned them. With `nested`, a
+/// name includes the attributes after it, such as `a.b.c`. AllocError if memory runs out.
 pub fn undeclared(alloc: Global, tree: &Tree, nested: bool) -> Result<BTreeSet<String>, AllocError>
     ensures { IfOk result
         (λ names. map string_bytes (keys names) ≡ undeclared_in nested tree.now) }
@@ -32,7 +32,7 @@ pub fn undeclared(alloc: Global, tree: &Tree, nested: bool) -> Result<BTreeSet<S
 }
 
 impl Walker {
-    /// Walks over a statement; AllocError.
+    /// Walks a statement. AllocError if memory runs out.
     #[cycle(statements)]
     fn walk(&mut self, nested: bool, statement: &Stmt) -> Result<(), AllocError>
         ensures { OnOk result (self.new ≡ walk nested statement.now self.old) }
@@ -80,7 +80,7 @@ impl Walker {
         }
     }
 
-    /// Walks over a condition and its bodies; AllocError.
+    /// Walks a condition and its bodies. AllocError if memory runs out.
     #[cycle(statements)]
     fn walk_if(
         &mut self,
@@ -100,7 +100,7 @@ impl Walker {
         }
     }
 
-    /// Walks over a loop; AllocError.
+    /// Walks a loop. AllocError if memory runs out.
     #[cycle(statements)]
     fn walk_for(&mut self, nested: bool, for_loop: &ForLoop) -> Result<(), AllocError>
         ensures { OnOk result (self.new ≡ walk nested (For for_loop.now) self.old) }
@@ -113,7 +113,7 @@ impl Walker {
         }
     }
 
-    /// Walks over what is in the scope of a loop; AllocError.
+    /// Walks the contents of a loop's scope. AllocError if memory runs out.
     #[cycle(statements)]
     fn walk_rounds(&mut self, nested: bool, for_loop: &ForLoop) -> Result<(), AllocError>
         ensures { OnOk result (self.new ≡ close_scope (walk_all nested (statements for_loop.now.body)
@@ -126,7 +126,7 @@ impl Walker {
         Ok(())
     }
 
-    /// Walks over what stands before a loop's body in its scope; AllocError.
+    /// Walks the head of a loop, in the scope of the loop. AllocError if memory runs out.
     fn walk_head(
         &mut self,
         nested: bool,
@@ -142,7 +142,7 @@ impl Walker {
         self.assign(name)
     }
 
-    /// Walks over a block's body in its scope; AllocError.
+    /// Walks the body of a block in its scope. AllocError if memory runs out.
     #[cycle(statements)]
     fn walk_block(&mut self, nested: bool, body: &[Stmt]) -> Result<(), AllocError>
         ensures { OnOk result (self.new ≡
@@ -154,7 +154,7 @@ impl Walker {
         Ok(())
     }
 
-    /// Walks over targets with their values, and a body, in their scope; AllocError.
+    /// Walks assignments and a body in their scope. AllocError if memory runs out.
     #[cycle(statements)]
     fn walk_with(
         &mut self,
@@ -172,7 +172,7 @@ impl Walker {
         Ok(())
     }
 
-    /// Walks over a macro, whose scope has `caller`; AllocError.
+    /// Walks a macro, whose scope has `caller`. AllocError if memory runs out.
     #[cycle(statements)]
     fn walk_macro(&mut self, nested: bool, declared: &Macro) -> Result<(), AllocError>
         ensures { OnOk result (self.new ≡ walk nested (Declare declared.now) self.old) }
@@ -185,7 +185,7 @@ impl Walker {
         )
     }
 
-    /// Walks over a call and the macro that it is given; AllocError.
+    /// Walks a call and its `caller` macro. AllocError if memory runs out.
     #[cycle(statements)]
     fn walk_call_block(&mut self, nested: bool, tag: &CallBlock) -> Result<(), AllocError>
         ensures { OnOk result (self.new ≡ walk nested (CallTag tag.now) self.old) }
@@ -194,7 +194,7 @@ impl Walker {
         self.walk_body(nested, tag.parameters.as_slice(), tag.body.as_slice())
     }
 
-    /// Walks over parameters and the body of a macro in a scope of their own; AllocError.
+    /// Walks the parameters and the body of a macro in a new scope. AllocError if memory runs out.
     #[cycle(statements)]
     fn walk_body(
         &mut self,
@@ -214,7 +214,7 @@ impl Walker {
         Ok(())
     }
 
-    /// Walks over statements; AllocError.
+    /// Walks statements. AllocError if memory runs out.
     #[cycle(statements)]
     pub(crate) fn walk_all(&mut self, nested: bool, body: &[Stmt]) -> Result<(), AllocError>
         ensures { OnOk result (self.new ≡ walk_all nested (statements body.now) self.old) }

@@ -8,7 +8,7 @@ use std::alloc::AllocError;
 use tm_syntax::{Assignment, AssignmentTarget, CaptureUse, Expr, Imported};
 
 impl Walker {
-    /// Walks over a target: its names are assigned. AllocError.
+    /// Walks a target, whose names are assigned. AllocError if memory runs out.
     #[cycle(targets)]
     pub(crate) fn walk_target(
         &mut self,
@@ -24,7 +24,7 @@ impl Walker {
         }
     }
 
-    /// Walks over targets; AllocError.
+    /// Walks targets. AllocError if memory runs out.
     #[cycle(targets)]
     fn walk_targets(&mut self, nested: bool, parts: &[AssignmentTarget]) -> Result<(), AllocError>
         ensures { OnOk result (self.new ≡ walk_targets nested (targets parts.now) self.old) }
@@ -35,7 +35,7 @@ impl Walker {
         Ok(())
     }
 
-    /// Walks over a target and then the value that it is given; AllocError.
+    /// Walks a target and then its value. AllocError if memory runs out.
     pub(crate) fn walk_set(
         &mut self,
         nested: bool,
@@ -48,7 +48,7 @@ impl Walker {
         self.walk_expr(nested, value)
     }
 
-    /// Walks over targets with their values, one after the other; AllocError.
+    /// Walks assignments, one after the other. AllocError if memory runs out.
     pub(crate) fn walk_assignments(
         &mut self,
         nested: bool,
@@ -62,7 +62,7 @@ impl Walker {
         Ok(())
     }
 
-    /// Walks over names that a template leaves, of which the given ones are assigned; AllocError.
+    /// Walks imported names, whose targets are assigned. AllocError if memory runs out.
     pub(crate) fn walk_imports(&mut self, imports: &[Imported]) -> Result<(), AllocError>
         ensures { OnOk result (self.new ≡ walk_imports imports.now self.old) }
     {
@@ -72,7 +72,7 @@ impl Walker {
         Ok(())
     }
 
-    /// Walks over what becomes of the text of a capture; AllocError.
+    /// Walks the use of a capture's text. AllocError if memory runs out.
     pub(crate) fn walk_use(&mut self, nested: bool, becomes: &CaptureUse) -> Result<(), AllocError>
         ensures { OnOk result (self.new ≡ walk_use nested becomes.now self.old) }
     {

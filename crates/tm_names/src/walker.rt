@@ -1,4 +1,5 @@
-//! A walk over a tree: the names that are assigned in open scopes, and those that were found.
+//! A walk over a tree. It records the names that are assigned in open scopes, and the names that
+//! were found.
 ghost use Rattle.std.specs.BTreeMap.{is_at};
 ghost use Rattle.std.specs.BTreeSet.{insert_key, keys};
 ghost use Rattle.std.specs.List.{list_any};
@@ -14,7 +15,7 @@ use std::marker::Model;
 use tm_items::Items;
 use tm_syntax::{Name, NameMap};
 
-/// The open scopes, the innermost last, and the names that were found.
+/// The open scopes, the innermost last, and the names found so far.
 #[derive(Drop)]
 pub(crate) struct Walker {
     alloc: Global,
@@ -33,7 +34,7 @@ impl Model for Walker {
 }
 
 impl Walker {
-    /// Nothing is found, and one scope is open; AllocError.
+    /// A walk with one open scope, and nothing found yet. AllocError if memory runs out.
     pub(crate) fn new(alloc: Global) -> Result<Walker, AllocError>
         ensures { IfOk result (λ walker. walker ≡ beginning) }
     {
@@ -46,7 +47,7 @@ impl Walker {
         })
     }
 
-    /// Where memory comes from.
+    /// The allocator.
     pub(crate) fn alloc(&self) -> Global {
         self.alloc
     }
@@ -58,7 +59,7 @@ impl Walker {
         is_assigned_in(self.scopes.as_slice(), name)
     }
 
-    /// A name is assigned in the innermost scope; AllocError.
+    /// Assigns a name in the innermost scope. AllocError if memory runs out.
     pub(crate) fn assign(&mut self, name: Name) -> Result<(), AllocError>
         ensures { OnOk result (self.new ≡ assign name self.old) }
     {
@@ -77,14 +78,14 @@ impl Walker {
         self.has_found(name)
     }
 
-    /// Whether a text is found.
+    /// Whether a text was found.
     fn has_found(&self, text: &str) -> bool
         ensures { result ≡ list_any (is_at (name_cmp text.now)) self.now.found }
     {
         self.found.contains(text)
     }
 
-    /// A text is found; AllocError.
+    /// Adds a text to those that were found. AllocError if memory runs out.
     fn add_found(&mut self, text: &str) -> Result<(), AllocError>
         ensures { OnOk result
             (self.new ≡ record self.old { found = insert_key name_cmp self.old.found text.now }) }
@@ -94,7 +95,8 @@ impl Walker {
         Ok(())
     }
 
-    /// A name is read, and found as this text where no open scope has assigned it; AllocError.
+    /// Reads a name: adds `text` to the texts that were found, unless an open scope has assigned
+    /// the name. AllocError if memory runs out.
     pub(crate) fn read_as(&mut self, name: &str, text: &str) -> Result<(), AllocError>
         ensures { OnOk result (self.new ≡ read_as name.now text.now self.old) }
     {
@@ -107,21 +109,21 @@ impl Walker {
         self.add_found(text)
     }
 
-    /// A name is read; AllocError.
+    /// Reads a name. AllocError if memory runs out.
     pub(crate) fn read(&mut self, name: &str) -> Result<(), AllocError>
         ensures { OnOk result (self.new ≡ read name.now self.old) }
     {
         self.read_as(name, name)
     }
 
-    /// A scope opens; AllocError.
+    /// Opens a scope. AllocError if memory runs out.
     pub(crate) fn open_scope(&mut self) -> Result<(), AllocError>
         ensures { OnOk result (self.new ≡ open_scope self.old) }
     {
         self.scopes.push(NameMap::new(self.alloc))
     }
 
-    /// The innermost scope closes.
+    /// Closes the innermost scope.
     pub(crate) fn close_scope(&mut self)
         ensures { self.new ≡ close_scope self.old }
     {
@@ -137,7 +139,7 @@ impl Walker {
     }
 }
 
-/// Whether one of these scopes has assigned a name. The last are asked first.
+/// Whether one of these scopes has assigned a name. Searches from the last.
 fn is_assigned_in(scopes: &[NameMap<()>], name: &str) -> bool
     ensures { result ≡ is_assigned name.now (reverse scopes.now) }
 {

@@ -1,4 +1,4 @@
--- What is left of making a value whose namespaces are maps.
+-- What is left of replacing the namespaces in a value by maps.
 use Rattle.std.specs.Prelude.{◌≡◌, ℕ, zero, suc, ◌+◌, List, [], ◌∷◌, ◌++◌, Ok}
 use Rattle.tm_values.specs.Answer.{Answer}
 use Rattle.tm_values.specs.Map.{IsMap}
@@ -17,7 +17,7 @@ use Rattle.tm_operations.specs.declared.mapped.Kind.TheVariants as kind
 use Rattle.tm_operations.specs.declared.mapped.Ahead.{Ahead}
 use Rattle.tm_operations.specs.declared.mapped.Ahead.TheVariants as next
 
--- ---------------------------------------------------------------- what parts become
+-- ---------------------------------------------------------------- finished parts
 abbrev pub before_items : List Val → Vals → Vals
 before_items [] vs = vs
 before_items (x ∷ xs) vs = val x (before_items xs vs)
@@ -31,27 +31,28 @@ made_of kind.Map ps = map ps
 made_of kind.Keywords ps = keywords ps
 made_of (kind.Module s) ps = exports ps s
 
--- the list of these items, and of those that are left
+-- the list of the finished items and those that are left
 abbrev pub list_after : RecordData → ℕ → List Val → Vals → Answer Val
 list_after r levels done rest = map_ok (λ vs. list (before_items done vs)) (mapped_items (namespace_mapped r levels) rest)
 
--- the same of pairs
+-- the same for pairs
 abbrev pub map_after : RecordData → Kind → ℕ → List (Val × Val) → Pairs → Answer Val
 map_after r k levels done rest = map_ok (λ ps. made_of k (before_pairs done ps)) (mapped_pairs (namespace_mapped r levels) rest)
 
--- ---------------------------------------------------------------- what was begun
--- what it becomes, once its part is made
+-- ---------------------------------------------------------------- values in progress
+-- what the value becomes once its part is finished
 abbrev pub resumed : RecordData → Begun → Answer Val → Answer Val
 resumed r (begun.List b) part = with_ok part (λ x. list_after r b.levels (b.done.items ++ x ∷ []) (vals_of b.rest.now))
 resumed r (begun.Map b) part =
     with_ok part (λ x. map_after r b.kind b.levels (b.done.items ++ (b.key, x) ∷ []) (pairs_of b.rest.now))
 
--- what the outermost becomes, once the innermost's part is made, which stands last
+-- what the outermost value becomes once the part of the innermost one, the last in the list, is
+-- finished
 abbrev pub outermost : RecordData → List Begun → Answer Val → Answer Val
 outermost r [] part = part
 outermost r (b ∷ bs) part = resumed r b (outermost r bs part)
 
--- what comes next: a part in which namespaces may lie so deep, or one that is made
+-- the next step: a part in which namespaces are entered to the given depth, or a finished part
 abbrev pub part_next : RecordData → Ahead → Answer Val
 part_next r (next.Part v levels) = mapped_within r levels v.now
 part_next r (next.Made v) = Ok v
@@ -59,7 +60,7 @@ part_next r (next.Made v) = Ok v
 abbrev pub comes_to : RecordData → List Begun → Ahead → Answer Val
 comes_to r bs n = outermost r bs (part_next r n)
 
--- the keys of what was begun ascend
+-- the keys of a value in progress are ascending
 abbrev pub Ascends : Begun → Type 0
 Ascends (begun.List b) = Unit {0}
 Ascends (begun.Map b) = (v : Val) → IsMap (b.done.items ++ (b.key, v) ∷ b.rest.now)
@@ -68,7 +69,7 @@ abbrev pub AllAscend : List Begun → Type 0
 AllAscend [] = Unit {0}
 AllAscend (b ∷ bs) = Ascends b × AllAscend bs
 
--- ---------------------------------------------------------------- how much is left
+-- ---------------------------------------------------------------- the weight of what is left
 abbrev pub NamespaceWeights : Type 0
 NamespaceWeights = ℕ → ℕ → ℕ
 

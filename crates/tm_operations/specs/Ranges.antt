@@ -1,4 +1,4 @@
--- What numbers of 64 bits are.
+-- Numbers of 64 bits.
 use Rattle.std.specs.Prelude.{List, ℤ}
 use Rattle.std.specs.Int.{w64}
 use Rattle.std.specs.Int.RustNames.{FitsSigned}

@@ -1,4 +1,5 @@
--- Worked calls of `range`, `dict` and `namespace`, and values with their namespaces as maps.
+-- Worked examples: calls of `range`, `dict` and `namespace`, and values with their namespaces
+-- replaced by maps.
 use Rattle.std.specs.Prelude.{◌≡◌, ℕ, ℤ, pos, false, List, [], map as each, Option, Ok, codes}
 use Rattle.std.specs.declared.cmp.Ordering.TheVariants.{Less}
 use Rattle.tm_definitions.specs.Mapped.{with_maps}
@@ -28,11 +29,11 @@ NamespaceIs arguments ps = namespace_of no_records arguments ≡ Ok ps
 abbrev pub numbers : List ℕ → List Val
 numbers ns = each (λ n. number (pos n)) ns
 
--- the text a
+-- the text "a"
 abbrev pub letter : Val
 letter = text (codes "a") false
 
--- the pair of the text a, or of b, and the number
+-- the pair of the text "a", or "b", and the number
 abbrev pub a_is : ℕ → Val × Val
 a_is n = (letter, number (pos n))
 
@@ -45,7 +46,7 @@ map_of ps = map (pairs_of ps)
 abbrev pub keywords_given : List (Val × Val) → Val
 keywords_given ps = keywords (pairs_of ps)
 
--- the macro of an entry, a closure and a name
+-- the macro with this entry, closure and name
 abbrev pub macro_at : ℕ → Option ℕ → List ℕ → Val
 macro_at entry closure name = macro (record {
   state = 0;
@@ -57,7 +58,7 @@ macro_at entry closure name = macro (record {
   caller = false;
 })
 
--- the first stands before the second in the order of values
+-- the first is below the second in the order of values
 abbrev pub IsBelow : Val → Val → Type 0
 IsBelow v w = val_cmp v w ≡ Less
 

@@ -9,16 +9,16 @@ use std::alloc::Global;
 use tm_primitives::whole;
 use tm_values::{Error, ErrorKind, Node, SharedText, Value, share_all};
 
-/// The sum of two numbers, truth values counted as 0 and 1; or two texts or two lists, one after
-/// another, not safe. InvalidOperation for other values and a sum out of range, or OutOfMemory.
+/// The sum of two numbers, where truth values count as 0 and 1, or the concatenation of two texts
+/// or two lists, not marked safe. InvalidOperation for other values and if a sum is out of range.
+/// OutOfMemory if memory runs out.
 pub fn add(alloc: Global, left: &Value, right: &Value) -> Result<Value, Error>
     ensures { IsAnswer result (added left.now right.now) }
 {
     add_to(alloc, left.share()?, right)
 }
 
-/// The same sum, for which the left value is used up: a text that has no other owner is added to in
-/// place.
+/// The same, but takes the left value: a text that has no other owner is appended to in place.
 pub fn add_to(alloc: Global, left: Value, right: &Value) -> Result<Value, Error>
     ensures { IsAnswer result (added left right.now) }
 {
@@ -28,7 +28,7 @@ pub fn add_to(alloc: Global, left: Value, right: &Value) -> Result<Value, Error>
     }
 }
 
-// The sum, where the left value is no text.
+// The sum, if the left value isn't a text.
 fn add_others(alloc: Global, left: &Value, right: &Value) -> Result<Value, Error>
     requires { text_in left.now ≡ None }
     ensures { IsAnswer result (added left.now right.now) }
@@ -42,8 +42,8 @@ fn add_others(alloc: Global, left: &Value, right: &Value) -> Result<Value, Error
     }
 }
 
-/// The difference of two numbers; InvalidOperation for other values and a result out of range, or
-/// OutOfMemory.
+/// The difference of two numbers. InvalidOperation for other values and if the result is out of
+/// range. OutOfMemory if memory runs out.
 pub fn subtract(alloc: Global, left: &Value, right: &Value) -> Result<Value, Error>
     ensures { IsAnswer result (subtracted left.now right.now) }
 {
@@ -53,8 +53,8 @@ pub fn subtract(alloc: Global, left: &Value, right: &Value) -> Result<Value, Err
     }
 }
 
-/// The product of two numbers; InvalidOperation for other values and a result out of range, or
-/// OutOfMemory.
+/// The product of two numbers. InvalidOperation for other values and if the result is out of range.
+/// OutOfMemory if memory runs out.
 pub fn multiply(alloc: Global, left: &Value, right: &Value) -> Result<Value, Error>
     ensures { IsAnswer result (multiplied left.now right.now) }
 {
@@ -64,8 +64,9 @@ pub fn multiply(alloc: Global, left: &Value, right: &Value) -> Result<Value, Err
     }
 }
 
-/// The quotient `//` of two numbers, whose remainder is not negative; InvalidOperation for other
-/// values, a zero divisor and a result out of range, or OutOfMemory.
+/// The quotient `//` of two numbers, rounded so that the remainder isn't negative. InvalidOperation
+/// for other values, for a zero divisor and if the result is out of range. OutOfMemory if memory
+/// runs out.
 pub fn floor_divide(alloc: Global, left: &Value, right: &Value) -> Result<Value, Error>
     ensures { IsAnswer result (floor_divided left.now right.now) }
 {
@@ -75,8 +76,8 @@ pub fn floor_divide(alloc: Global, left: &Value, right: &Value) -> Result<Value,
     }
 }
 
-/// The remainder `%` of two numbers, which is not negative; InvalidOperation for other values and a
-/// zero divisor, or OutOfMemory.
+/// The remainder `%` of two numbers, which is never negative. InvalidOperation for other values and
+/// for a zero divisor. OutOfMemory if memory runs out.
 pub fn remainder(alloc: Global, left: &Value, right: &Value) -> Result<Value, Error>
     ensures { IsAnswer result (remaining left.now right.now) }
 {
@@ -86,8 +87,8 @@ pub fn remainder(alloc: Global, left: &Value, right: &Value) -> Result<Value, Er
     }
 }
 
-/// A number raised to another; InvalidOperation for other values, a negative exponent and a result
-/// out of range, or OutOfMemory.
+/// A number raised to the power of another. InvalidOperation for other values, for a negative
+/// exponent and if the result is out of range. OutOfMemory if memory runs out.
 pub fn power(alloc: Global, left: &Value, right: &Value) -> Result<Value, Error>
     ensures { IsAnswer result (raised left.now right.now) }
 {
@@ -97,8 +98,8 @@ pub fn power(alloc: Global, left: &Value, right: &Value) -> Result<Value, Error>
     }
 }
 
-/// The number with the other sign; InvalidOperation for other values and the least number, or
-/// OutOfMemory.
+/// The negated number. InvalidOperation for other values and for the least number. OutOfMemory if
+/// memory runs out.
 pub fn negate(alloc: Global, value: &Value) -> Result<Value, Error>
     ensures { IsAnswer result (negated value.now) }
 {
@@ -108,7 +109,8 @@ pub fn negate(alloc: Global, value: &Value) -> Result<Value, Error>
     }
 }
 
-/// `/` has no answer, since there are no fractions: InvalidOperation, or OutOfMemory.
+/// `/` always fails, since there are no fractions: InvalidOperation, or OutOfMemory if memory runs
+/// out.
 pub fn divide(alloc: Global, _left: &Value, _right: &Value) -> Result<Value, Error>
     ensures { IsAnswer result (divided _left.now _right.now) }
 {
@@ -127,7 +129,7 @@ fn no_fractions(alloc: Global) -> Error
     )
 }
 
-// Two numbers, where both values are.
+// The two numbers, if both values are numbers.
 fn whole_operands(left: &Value, right: &Value) -> Option<(i128, i128)>
     ensures { result ≡ both (whole_in left.now) (whole_in right.now) }
 {

@@ -5,8 +5,8 @@ ghost use Rattle.tm_definitions.specs.Comparison.{compared};
 use tm_definitions::ComparisonOperator;
 use tm_values::{Error, UndefinedBehavior, UndefinedUse, Value, check_defined};
 
-/// Whether the comparison holds of the two values, `==` and `!=` by equality and the others by the
-/// order: UndefinedError where one is undefined and the behaviour refuses that.
+/// Whether the comparison holds: `==` and `!=` use equality, the others the order. UndefinedError
+/// if a value is undefined and the behaviour refuses that.
 pub fn compare(
     comparison: ComparisonOperator,
     left: &Value,

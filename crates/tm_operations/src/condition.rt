@@ -1,11 +1,11 @@
-//! The truth that conditions ask for.
+//! The truth of conditions.
 ghost use Rattle.std.specs.Prelude.{◌≡◌};
 ghost use Rattle.tm_definitions.specs.Truth.{truth_of};
 
 use tm_values::{Error, UndefinedBehavior, UndefinedUse, Value, check_defined};
 
-/// The truth that a condition asks for: UndefinedError where the value is undefined and the
-/// behaviour refuses that.
+/// The truth of a condition's value. UndefinedError if it is undefined and the behaviour refuses
+/// that.
 pub fn truth(value: &Value, behavior: UndefinedBehavior) -> Result<bool, Error>
     ensures { result ≡ truth_of behavior value.now }
 {

@@ -1,4 +1,4 @@
-//! What `in` finds.
+//! The operator `in`.
 ghost use Rattle.std.specs.Prelude.{◌≡◌, ◌∷◌, []};
 ghost use Rattle.tm_definitions.specs.Containment.{has_part, found_in, contained};
 ghost use Rattle.tm_values.specs.Answer.{IsAnswer};
@@ -10,9 +10,10 @@ use tm_values::{
 };
 
 /// Whether `item in container`: an item of a list, a key of a map, keyword map, module or
-/// namespace, a text inside a text. UndefinedError where a side is undefined and the behaviour
-/// refuses that, the right side asked first; nothing is in an undefined container.
-/// InvalidOperation for other pairs, and for a namespace whose record isn't there, or OutOfMemory.
+/// namespace, or a text inside a text. An undefined container contains nothing. UndefinedError if a
+/// side is undefined and the behaviour refuses that; the right side is checked first.
+/// InvalidOperation for other pairs, and for a namespace that has no record. OutOfMemory if memory
+/// runs out.
 pub fn contains<R: Records>(
     alloc: Global,
     container: &Value,
@@ -53,7 +54,7 @@ fn find_in<R: Records>(
     }
 }
 
-// Whether the part stands anywhere in the text.
+// Whether `part` occurs anywhere in `content`.
 fn has_part(content: &str, part: &str) -> bool
     ensures { result ≡ has_part part.now content.now }
 {

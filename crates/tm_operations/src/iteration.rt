@@ -1,4 +1,4 @@
-//! What `for` goes over, and what unpacks into several targets.
+//! Iterating over values, and unpacking them into several targets.
 ghost use Rattle.std.specs.Prelude.{◌≡◌, ◌∷◌, [], Ok, map as each};
 ghost use Rattle.std.specs.Str.{chars};
 ghost use Rattle.tm_definitions.specs.Iteration.{IsAnswerRead, UnpacksAsIterated, keys_of, character_texts, items_or, items_of, iterated};
@@ -15,11 +15,11 @@ use tm_values::{
     find_namespace,
 };
 
-/// What `for` goes over: a list's items, shared and not copied; a text's characters, which aren't
-/// safe; the keys of a map, keyword map, module or namespace, in their order; the names of a loop's
-/// or a macro's attributes; nothing of undefined. UndefinedError where the value is undefined and
-/// the behaviour refuses that; InvalidOperation for other values, and for a namespace whose record
-/// isn't there, or OutOfMemory.
+/// The items that `for` iterates over: the items of a list, shared and not copied; the characters
+/// of a text, not marked safe; the keys of a map, keyword map, module or namespace, in order; the
+/// attribute names of a loop or a macro; and none for undefined. UndefinedError if the value is
+/// undefined and the behaviour refuses that. InvalidOperation for other values, and for a namespace
+/// that has no record. OutOfMemory if memory runs out.
 pub fn iterate<R: Records>(
     alloc: Global,
     value: &Value,
@@ -33,9 +33,10 @@ pub fn iterate<R: Records>(
     items(alloc, value, records)
 }
 
-/// What unpacks into `count` targets: the items that `for` goes over, but no text's and none of
-/// undefined. CannotUnpack for other values, and where the items aren't exactly so many;
-/// InvalidOperation for a namespace whose record isn't there, or OutOfMemory.
+/// The items that are unpacked into `count` targets: those that `for` iterates over, except that
+/// texts and undefined have none. CannotUnpack for other values, and if there aren't exactly
+/// `count` items. InvalidOperation for a namespace that has no record. OutOfMemory if memory runs
+/// out.
 pub fn unpack<R: Records>(
     alloc: Global,
     value: &Value,
@@ -49,9 +50,9 @@ pub fn unpack<R: Records>(
     exactly(alloc, items, count)
 }
 
-/// The items that `for` goes over, but no text's and none of undefined; a list's are shared and not
-/// copied. InvalidOperation for other values, and for a namespace whose record isn't there, or
-/// OutOfMemory.
+/// The items that `for` iterates over, except that texts and undefined have none. Those of a list
+/// are shared and not copied. InvalidOperation for other values, and for a namespace that has no
+/// record. OutOfMemory if memory runs out.
 pub fn collection<R: Records>(
     alloc: Global,
     value: &Value,
@@ -63,8 +64,8 @@ pub fn collection<R: Records>(
     items_or(alloc, value, records, ErrorKind::InvalidOperation)
 }
 
-/// The items that `for` goes over, and none of undefined. InvalidOperation for other values, and
-/// for a namespace whose record isn't there, or OutOfMemory.
+/// The items that `for` iterates over, except that undefined has none. InvalidOperation for other
+/// values, and for a namespace that has no record. OutOfMemory if memory runs out.
 pub(crate) fn items<R: Records>(
     alloc: Global,
     value: &Value,
@@ -80,7 +81,7 @@ pub(crate) fn items<R: Records>(
     }
 }
 
-// The items of all kinds but texts and undefined; other values are refused by this kind.
+// The items of all kinds except texts and undefined. Other values are refused with `refusal`.
 fn items_or<R: Records>(
     alloc: Global,
     value: &Value,
@@ -116,7 +117,7 @@ fn exactly(alloc: Global, items: Rc<Vec<Value>>, count: usize) -> Result<Rc<Vec<
     }
 }
 
-// The characters as texts of their own.
+// Each character as a text of its own.
 fn characters(alloc: Global, content: &str) -> Result<Rc<Vec<Value>>, Error>
     ensures { IsAnswerRead result (λ items. items.value.items)
         (Ok (character_texts (chars content.now))) }
@@ -174,7 +175,7 @@ fn wrong_number(alloc: Global) -> Error
     )
 }
 
-/// What unpacks is what `for` goes over.
+/// Unpacking yields the items that `for` iterates over.
 pub fn unpack_law()
     ensures { UnpacksAsIterated }
 {}

@@ -1,5 +1,5 @@
-//! Values whose namespaces are maps. What is left is in a list, so that no value's depth takes more
-//! of the machine's stack.
+//! Replaces the namespaces in a value by maps. A work list holds what is left, so that a deep value
+//! needs no deep stack.
 ghost use Rattle.std.specs.Prelude.{◌≡◌, ◌+◌, ◌<◌, ◌≤◌, ◌++◌, ◌∷◌, [], false, length, IfErr, IfOk, Ok, OnOk};
 ghost use Rattle.tm_definitions.specs.Mapped.{mapped_within, namespace_mapped, with_maps};
 ghost use Rattle.tm_operations.specs.Begun.{AllAscend, Ascends, comes_to, items_left, left_in, left_in_all};
@@ -13,44 +13,44 @@ ghost use Rattle.tm_values.specs.Val.{pairs_of, vals_of};
 use std::alloc::Global;
 use tm_values::{Error, ErrorKind, Node, Records, SharedText, Value, ValueMap, find_namespace};
 
-/// What pairs become.
+/// The kind of value that the pairs become.
 #[derive(Drop)]
 pub enum Kind {
     /// A map.
     Map,
     /// A keyword map.
     Keywords,
-    /// A module that wrote this text.
+    /// A module, with the text that it wrote.
     Module(SharedText),
 }
 
-/// A list of which an item is being made.
+/// A list whose next item is in progress.
 #[derive(Drop)]
 pub struct BegunList<'a> {
-    /// How deep namespaces may lie in it.
+    /// How deeply namespaces in it are entered.
     pub levels: usize,
     /// The items after that one.
     pub rest: &'a [Value],
-    /// What the items before it are.
+    /// The finished items before that one.
     pub done: Vec<Value>,
 }
 
-/// A map of which a value is being made.
+/// A map whose next value is in progress.
 #[derive(Drop)]
 pub struct BegunMap<'a> {
-    /// What it becomes.
+    /// The kind of value that it becomes.
     pub kind: Kind,
-    /// How deep namespaces may lie in it.
+    /// How deeply namespaces in it are entered.
     pub levels: usize,
     /// The key of that value.
     pub key: Value,
-    /// The pairs after that key's.
+    /// The pairs after that key.
     pub rest: &'a [(Value, Value)],
-    /// What the pairs before it are.
+    /// The finished pairs before that key.
     pub done: Vec<(Value, Value)>,
 }
 
-/// A value of which a part is being made.
+/// A value with a part in progress.
 #[derive(Drop)]
 pub enum Begun<'a> {
     /// A list.
@@ -59,17 +59,17 @@ pub enum Begun<'a> {
     Map(BegunMap<'a>),
 }
 
-/// What comes next.
+/// The next step.
 #[derive(Drop)]
 pub enum Ahead<'a> {
-    /// This part, in which namespaces may lie so deep.
+    /// Convert this part, in which namespaces are entered to the given depth.
     Part(&'a Value, usize),
-    /// What the part that was begun last goes on with.
+    /// Continue the innermost value in progress with this finished part.
     Made(Value),
 }
 
-/// The value with its namespaces as maps, at any depth but in keys. InvalidOperation where a
-/// namespace has no record or holds itself; OutOfMemory.
+/// The value with its namespaces replaced by maps, at any depth except in keys. InvalidOperation if
+/// a namespace has no record or contains itself. OutOfMemory if memory runs out.
 pub fn with_maps<R: Records>(alloc: Global, value: &Value, records: &R) -> Result<Value, Error>
     ensures { IsAnswer result (with_maps (R.records records.now) value.now) }
 {
@@ -86,7 +86,7 @@ pub fn with_maps<R: Records>(alloc: Global, value: &Value, records: &R) -> Resul
     }
 }
 
-// Begins a part, or makes it where it holds no namespace.
+// Begins a part, or returns it finished if it contains no namespace.
 fn enter<'a, R: Records>(
     alloc: Global,
     part: &'a Value,
@@ -124,7 +124,7 @@ fn enter<'a, R: Records>(
     }
 }
 
-// Begins the map that stands for a namespace.
+// Begins the map of a namespace.
 fn enter_namespace<'a, R: Records>(
     alloc: Global,
     state: u64,
@@ -152,7 +152,7 @@ fn enter_namespace<'a, R: Records>(
     all_pairs(alloc, Kind::Map, levels - 1, entries.pairs(), begun)
 }
 
-// Begins the map of these pairs, whose keys ascend.
+// Begins the map of these pairs, whose keys are ascending.
 fn all_pairs<'a>(
     alloc: Global,
     kind: Kind,
@@ -171,7 +171,7 @@ fn all_pairs<'a>(
     next_pair(alloc, kind, levels, pairs, Vec::new(alloc), begun)
 }
 
-// Goes on with what was begun last and was put aside, of which a part is made.
+// Continues the innermost value in progress with a finished part.
 fn resume<'a>(
     alloc: Global,
     outer: Begun<'a>,
@@ -210,7 +210,7 @@ fn resume<'a>(
     }
 }
 
-// Puts a list aside for its next item, or makes it where there is none.
+// Pushes a list with its next item in progress, or finishes the list if no item is left.
 fn next_item<'a>(
     alloc: Global,
     levels: usize,
@@ -232,7 +232,7 @@ fn next_item<'a>(
     Ok(Ahead::Part(item, levels))
 }
 
-// Puts a map aside for its next value, or makes it where there is none.
+// Pushes a map with its next value in progress, or finishes the map if no pair is left.
 fn next_pair<'a>(
     alloc: Global,
     kind: Kind,
@@ -264,7 +264,7 @@ fn next_pair<'a>(
     Ok(next)
 }
 
-// The value of a pair comes next.
+// The next step is the value of the pair.
 fn value_of<'a>(pair: &'a (Value, Value), levels: usize) -> Ahead<'a>
     ensures part { (r : RecordData) → part_next r result ≡ mapped_within r levels pair.now.1 }
     ensures left { (r : RecordData) →
@@ -273,7 +273,7 @@ fn value_of<'a>(pair: &'a (Value, Value), levels: usize) -> Ahead<'a>
     Ahead::Part(&pair.1, levels)
 }
 
-// What these pairs become. Fails by OutOfMemory alone.
+// The value of this kind with these pairs. OutOfMemory is the only error.
 fn made_of(alloc: Global, kind: Kind, entries: ValueMap) -> Result<Value, Error>
     ensures { OkOrOutOfMemory result (λ v. v ≡ made_of kind (pairs_of entries)) }
 {

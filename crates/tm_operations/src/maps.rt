@@ -1,4 +1,4 @@
-//! `dict` and `namespace`: a map and keywords.
+//! `dict` and `namespace`: a map, with keyword arguments added.
 ghost use Rattle.std.specs.Prelude.{◌≡◌, ◌++◌, ◌∷◌, [], OnOk, IfErr};
 ghost use Rattle.std.specs.Option.{option_copied};
 ghost use Rattle.tm_definitions.specs.Iteration.{IsAnswerRead};
@@ -8,10 +8,11 @@ ghost use Rattle.tm_values.specs.Answer.{IsAnswer, OkOrOutOfMemory};
 use std::alloc::Global;
 use tm_values::{Error, ErrorKind, Node, Records, Value, ValueMap, find_namespace};
 
-/// The map that `dict` gives: that of the plain argument, with the keywords put into it. A keyword
-/// map is keywords where it stands last. Undefined, none and no plain argument are the empty map,
-/// a module and a namespace their own. InvalidOperation for a plain argument of another kind and a
-/// namespace whose record isn't there; TooManyArguments for a second plain one, or OutOfMemory.
+/// The map that `dict` returns: that of the plain argument, with the keyword arguments added. A
+/// keyword map as the last argument holds the keyword arguments. Undefined, none and a missing
+/// plain argument mean the empty map; a module and a namespace mean their own pairs.
+/// InvalidOperation for a plain argument of another kind and for a namespace that has no record.
+/// TooManyArguments for a second plain argument. OutOfMemory if memory runs out.
 pub fn dict<R: Records>(alloc: Global, arguments: &[Value], records: &R) -> Result<ValueMap, Error>
     ensures { IsAnswer result (dict_of (R.records records.now) arguments.now) }
 {
@@ -26,8 +27,8 @@ pub fn dict<R: Records>(alloc: Global, arguments: &[Value], records: &R) -> Resu
     ValueMap::from_pairs(pairs)
 }
 
-/// What a new namespace begins with: the pairs of the map that `dict` gives whose keys are texts.
-/// Errors as of `dict`.
+/// The initial content of a new namespace: the pairs of the map that `dict` returns whose keys are
+/// texts. The errors are those of `dict`.
 pub fn namespace<R: Records>(
     alloc: Global,
     arguments: &[Value],
@@ -40,7 +41,7 @@ pub fn namespace<R: Records>(
     ValueMap::from_pairs(pairs)
 }
 
-// The arguments before a keyword map that stands last, and its pairs.
+// The plain arguments, and the pairs of a keyword map at the end.
 fn split_keywords(arguments: &[Value]) -> (&[Value], &[(Value, Value)])
     ensures plain { result.0.now ≡ plain_of arguments.now }
     ensures keywords { result.1.now ≡ keywords_of arguments.now }
@@ -54,7 +55,7 @@ fn split_keywords(arguments: &[Value]) -> (&[Value], &[(Value, Value)])
     }
 }
 
-// The pairs of a map, a module or a namespace; none where there is no value.
+// The pairs of a map, a module or a namespace; none if there is no argument.
 fn base<'a, R: Records>(
     alloc: Global,
     argument: Option<&'a Value>,
@@ -77,7 +78,7 @@ fn base<'a, R: Records>(
     }
 }
 
-/// Puts a second owner of each pair after those that are there. Fails by OutOfMemory alone.
+/// Appends a second owner of each pair to `out`. OutOfMemory is the only error.
 pub(crate) fn share_pairs(
     pairs: &[(Value, Value)],
     out: &mut Vec<(Value, Value)>,
@@ -116,7 +117,7 @@ fn too_many(alloc: Global) -> Error
     )
 }
 
-/// The refusal of what is no map.
+/// The error for a value that isn't a map.
 #[cold]
 #[inline(never)]
 pub(crate) fn not_a_map(alloc: Global) -> Error
@@ -129,7 +130,7 @@ pub(crate) fn not_a_map(alloc: Global) -> Error
     )
 }
 
-/// The law of `dict`: a map stays as it is, and the keywords are put into it.
+/// The law of `dict`: the map stays as it is, and the keyword arguments are added to it.
 pub fn dict_law()
     ensures { IsMapWithKeywords }
 {}

@@ -17,10 +17,10 @@ use tm_values::{
     Value, check_defined, find_loop, find_namespace,
 };
 
-/// The attribute `value.name`: of a map, keyword map, module or namespace the value at the text, of
-/// a loop or a macro what it tells of itself; undefined where there is none. UndefinedError where
-/// the value is undefined and the behaviour refuses that; InvalidOperation for a loop or a
-/// namespace whose record isn't there, or OutOfMemory.
+/// The attribute `value.name`: the value at that key of a map, keyword map, module or namespace, or
+/// what a loop or a macro says about itself. Undefined if there is no such attribute.
+/// UndefinedError if the value is undefined and the behaviour refuses that. InvalidOperation for a
+/// loop or a namespace that has no record. OutOfMemory if memory runs out.
 pub fn attribute<R: Records>(
     alloc: Global,
     value: &Value,
@@ -45,10 +45,10 @@ pub fn attribute<R: Records>(
     }
 }
 
-/// The item `value[key]`: of a map, keyword map, module or namespace the value at the key; of a
-/// list or a text, by a whole number counted from either end, the item or the character, which
-/// isn't safe; of a loop or a macro what it tells of itself by a text. Undefined where there is
-/// none. Errors as of an attribute.
+/// The item `value[key]`: the value at that key of a map, keyword map, module or namespace; the
+/// item or character at that index of a list or a text, where a negative index counts from the end,
+/// and a character isn't marked safe; or, for a text as key, what a loop or a macro says about
+/// itself. Undefined if there is no such item. The errors are those of `attribute`.
 pub fn item<R: Records>(
     alloc: Global,
     value: &Value,
@@ -78,8 +78,8 @@ pub fn item<R: Records>(
     }
 }
 
-/// The number of the namespace whose attributes may be set: InvalidOperation for every value but a
-/// namespace of this state, or OutOfMemory.
+/// The number of a namespace whose attributes may be set. InvalidOperation for every value except a
+/// namespace of this state. OutOfMemory if memory runs out.
 pub fn check_settable<R: Records>(alloc: Global, value: &Value, records: &R) -> Result<usize, Error>
     ensures { IsAnswer result (settable (R.records records.now) value.now) }
 {
@@ -118,7 +118,7 @@ fn no_record(alloc: Global) -> Error
     )
 }
 
-// A second owner of what was found, or undefined.
+// A second owner of the value, or undefined if there is none.
 fn shared(found: Option<&Value>) -> Result<Value, Error>
     ensures { IsAnswer result (Ok (or_undefined (option_map (λ v. v.now) found.entry))) }
 {
@@ -128,7 +128,7 @@ fn shared(found: Option<&Value>) -> Result<Value, Error>
     }
 }
 
-// An attribute or an item of an undefined value, where it may be asked for.
+// An attribute or an item of an undefined value, if the behaviour allows it.
 fn undefined_member(value: &Value, behavior: UndefinedBehavior) -> Result<Value, Error>
     ensures { result ≡ member_of_undefined behavior value.now }
 {
@@ -150,7 +150,7 @@ fn macro_member(alloc: Global, declared: &MacroValue, name: &str) -> Result<Valu
     }
 }
 
-// The list of these texts, which aren't safe.
+// The list of these texts, not marked safe.
 fn text_list(alloc: Global, texts: &[RcStr]) -> Result<Value, Error>
     ensures { IsAnswer result (Ok (list (vals_of (text_values (each rc_str_bytes texts.now))))) }
 {
@@ -179,7 +179,7 @@ fn loop_member<R: Records>(
     }
 }
 
-// The attribute of a loop of this name, where there is one.
+// The attribute of a loop with this name, if there is one.
 fn loop_attribute(name: &str) -> Option<LoopAttribute>
     ensures { result ≡ loop_attribute_named name.now }
 {
@@ -210,7 +210,7 @@ fn loop_attribute(name: &str) -> Option<LoopAttribute>
     }
 }
 
-// What a loop at an item tells of itself.
+// The value of a loop's attribute, for a loop at an item.
 fn loop_value<R: Records>(
     records: &R,
     index: usize,

@@ -1,4 +1,4 @@
-//! The names that loops and macros have for what they tell of themselves.
+//! The names of the attributes of loops and macros.
 
 /// The attributes of a loop.
 pub const LOOP_NAMES: [&str; 11] = [

@@ -1,4 +1,4 @@
-//! `range`: numbers by steps.
+//! `range`: numbers from a start to a stop by a step.
 ghost use Rattle.std.specs.Prelude.{◌≡◌, ◌≢◌, ◌≤◌, ◌∷◌, [], Ok, pos};
 ghost use Rattle.std.specs.Option.{option_copied};
 ghost use Rattle.tm_definitions.specs.Ranges.{bound_in, required_in, later_in, ranged, number_list, numbers_from, range_of, AreStepped};
@@ -11,15 +11,15 @@ use std::alloc::Global;
 use std::rc::Rc;
 use tm_values::{Error, ErrorKind, Node, Parts, Value, Writable};
 
-// The most numbers that a range has.
+// The maximal length of a range.
 const MOST: u64 = 100_000;
 
-/// The list that `range` gives: the numbers from the first argument on that stand before the
-/// second one, by steps of the third one, 1 where it is absent; where the second one is absent,
-/// from 0 to the first one. An argument is a whole number of 64 bits; a second or third one that
-/// is none or undefined is absent. MissingArgument without arguments; InvalidOperation for other
-/// values, a step 0 and more than 100000 numbers; TooManyArguments for a fourth argument, or
-/// OutOfMemory.
+/// The list that `range` returns. With one argument, it counts from 0 up to that; otherwise from
+/// the first argument up to the second, by steps of the third, or of 1 if there is none. The stop
+/// isn't included. An argument is a whole number of 64 bits; a second or third argument that is
+/// none or undefined counts as absent. MissingArgument without arguments. TooManyArguments for a
+/// fourth argument. InvalidOperation for other values, for a step of 0 and for more than 100000
+/// numbers. OutOfMemory if memory runs out.
 pub fn range(alloc: Global, arguments: &[Value]) -> Result<Value, Error>
     ensures { IsAnswer result (range_of arguments.now) }
 {
@@ -63,7 +63,7 @@ fn later(alloc: Global, argument: Option<&Value>) -> Result<Option<i64>, Error>
     }
 }
 
-// The whole number of 64 bits, where the value is one.
+// The whole number of 64 bits, if the value is one.
 fn bound(value: &Value) -> Option<i64>
     ensures { result ≡ bound_in value.now }
 {
@@ -86,7 +86,7 @@ fn numbers(alloc: Global, start: i64, stop: i64, step: i64) -> Result<Value, Err
     list_from(alloc, start, step, count)
 }
 
-// How many of the start and the numbers by steps after it stand before the stop.
+// How many numbers there are from the start, by steps, before the stop.
 fn count_before(start: i64, stop: i64, step: i64) -> u64
     requires { step ≢ pos 0 }
     ensures { result ≡ count_before step start stop }
@@ -99,7 +99,7 @@ fn count_before(start: i64, stop: i64, step: i64) -> u64
     }
 }
 
-// How far `to` is above `from`. The difference needs more than 64 bits.
+// The distance from `from` up to `to`. The difference needs more than 64 bits.
 fn distance(from: i64, to: i64) -> u64
     ensures { result ≡ distance from to }
 {
@@ -110,7 +110,7 @@ fn distance(from: i64, to: i64) -> u64
     }
 }
 
-// The list of so many numbers from the start on, each of 64 bits.
+// The list of `count` numbers from the start on, each of 64 bits.
 fn list_from(alloc: Global, start: i64, step: i64, count: u64) -> Result<Value, Error>
     requires served { count ≤ 100000 }
     requires in_range { AreIn64Bits (numbers_from start step count) }
@@ -120,7 +120,7 @@ fn list_from(alloc: Global, start: i64, step: i64, count: u64) -> Result<Value, 
     for place in 0..count {
         items.push_reserved(Value::number(number_at(start, step, place)));
     }
-    // JSON has every number of 64 bits, so no item has to be asked.
+    // JSON has every number of 64 bits, so the items need no check.
     let writable = Writable {
         in_print: true,
         in_json: true,
@@ -131,7 +131,7 @@ fn list_from(alloc: Global, start: i64, step: i64, count: u64) -> Result<Value, 
     })
 }
 
-// The number after so many steps.
+// The number after `place` steps.
 fn number_at(start: i64, step: i64, place: u64) -> i128
     requires { place ≤ 100000 }
     ensures { result ≡ step_to start step place }
@@ -199,8 +199,8 @@ fn too_long(alloc: Global) -> Error
     )
 }
 
-/// The law of `range`: the number k is the start and k steps, each stands before the stop, and none
-/// of these is left out.
+/// The law of `range`: number k is the start plus k steps; each is before the stop; and none of
+/// them is left out.
 pub fn range_law()
     ensures stepped { AreStepped }
     ensures before { StandBefore }

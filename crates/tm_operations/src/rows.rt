@@ -1,5 +1,5 @@
-//! Worked calls, of `range`, `dict` and `namespace`, values with their namespaces as maps, and the order of values
-//! that no template makes.
+//! Worked examples: calls of `range`, `dict` and `namespace`, values with their namespaces replaced
+//! by maps, and the order of values that no template can create.
 ghost use Rattle.std.specs.Prelude.{[], ◌∷◌, pos, negsuc, true, Some, None, codes};
 ghost use Rattle.tm_operations.specs.Rows.{RangeIs, RangeFails, DictIs, DictFails, NamespaceIs, numbers, letter, a_is, b_is, map_of};
 ghost use Rattle.tm_operations.specs.Rows.{keywords_given, macro_at, IsBelow, MapsAre, MapsFail};
@@ -7,7 +7,7 @@ ghost use Rattle.tm_values.specs.Val.{none, boolean, number, list, exports, func
 ghost use Rattle.tm_values.specs.declared.error.ErrorKind.TheVariants.{InvalidOperation, MissingArgument, TooManyArguments};
 
 /// `range(4)`, `range(0, 4, 1)`, `range(5, 0, -2)`, `range(2, none)`, `range(2, 0)`, and ranges at
-/// the ends of the numbers of 64 bits.
+/// the limits of 64-bit numbers.
 pub fn range_rows()
     ensures one { RangeIs (numbers (4 ∷ [])) (pos 0 ∷ pos 1 ∷ pos 2 ∷ pos 3 ∷ []) }
     ensures three { RangeIs (numbers (0 ∷ 4 ∷ 1 ∷ [])) (pos 0 ∷ pos 1 ∷ pos 2 ∷ pos 3 ∷ []) }
@@ -22,7 +22,7 @@ pub fn range_rows()
 {}
 
 /// `range()`, `range("a")`, `range(true)`, a number of more than 64 bits, `range(1, 2, 0)`,
-/// `range(100001)`, and four arguments of which the last or the first one is a text.
+/// `range(100001)`, and four arguments with a text as the last or the first one.
 pub fn range_faults()
     ensures missing { RangeFails [] MissingArgument }
     ensures text { RangeFails (letter ∷ []) InvalidOperation }
@@ -37,7 +37,7 @@ pub fn range_faults()
     ensures first_text { RangeFails (letter ∷ numbers (1 ∷ 1 ∷ 1 ∷ [])) InvalidOperation }
 {}
 
-/// `dict()`, `dict({"a": 1}, a=2, b=3)`, and what isn't taken: `dict(1)`, `dict({}, {})`,
+/// `dict()`, `dict({"a": 1}, a=2, b=3)`, and refused calls: `dict(1)`, `dict({}, {})`,
 /// `dict(1, {})`, and a keyword map before another argument.
 pub fn dict_rows()
     ensures nothing { DictIs [] [] }
@@ -59,8 +59,9 @@ pub fn namespace_rows()
     ensures no_text { NamespaceIs (map_of ((number (pos 1), number (pos 2)) ∷ []) ∷ []) [] }
 {}
 
-/// `[namespace(a=1)]`, a namespace in another one, in a map with another one as its key, and in a module; a loop
-/// stays. A namespace that holds itself, isn't there, or is another state's has no map.
+/// `[namespace(a=1)]`, and a namespace in another one, in a map whose key is a namespace, and in a
+/// module; a loop stays. A namespace that contains itself, has no record, or belongs to another
+/// state has no map.
 pub fn mapped_rows()
     ensures list { MapsAre ((a_is 1 ∷ []) ∷ []) (list (vals_of (namespace 0 0 ∷ [])))
         (list (vals_of (map_of (a_is 1 ∷ []) ∷ []))) }
@@ -79,7 +80,7 @@ pub fn mapped_rows()
     ensures other { MapsFail ([] ∷ []) (namespace 1 0) }
 {}
 
-/// Keyword maps, modules, functions, macros, loops and namespaces ascend so.
+/// The order of keyword maps, modules, functions, macros, loops and namespaces.
 pub fn order_rows()
     ensures keywords { IsBelow (map_of (a_is 1 ∷ [])) (keywords_given []) }
     ensures module { IsBelow (keywords_given []) (exports (pairs_of []) (codes "m")) }

@@ -11,11 +11,11 @@ use tm_values::{
     Error, ErrorKind, Node, SharedText, UndefinedBehavior, UndefinedUse, Value, check_defined,
 };
 
-/// The slice `value[start:stop:step]`: of a list its items, of a text its characters, which aren't
-/// safe, and of undefined and none the empty list. Parts are whole numbers, or none where they are
-/// missing; negative bounds count from the end. UndefinedError where the value is undefined and the
-/// behaviour refuses that; InvalidOperation for other parts, a step 0 and other values, or
-/// OutOfMemory.
+/// The slice `value[start:stop:step]`: a list of items, or a text of characters, not marked safe.
+/// The slice of undefined or none is the empty list. The bounds and the step are whole numbers, or
+/// none if they are missing; negative bounds count from the end. UndefinedError if the value is
+/// undefined and the behaviour refuses that. InvalidOperation for other bounds or steps, for a step
+/// of 0 and for other values. OutOfMemory if memory runs out.
 pub fn slice(
     alloc: Global,
     value: &Value,
@@ -56,7 +56,7 @@ fn bound(part: &Value) -> Option<Option<i128>>
     }
 }
 
-// A step is 1 where it is missing, and never 0.
+// The step, which is 1 if it is missing, and never 0.
 fn step_of(part: &Value) -> Option<i128>
     ensures step { result ≡ step_in part.now }
     ensures nonzero { OnSome result (step_in part.now ≢ Some (pos 0)) }
@@ -102,7 +102,7 @@ fn cut_list(
     pick_items(alloc, items, Places::of(items.len(), start, stop, step))
 }
 
-// The items at the places.
+// The items at these indices.
 fn pick_items(alloc: Global, items: &[Value], mut places: Places) -> Result<Value, Error>
     requires { All (λ p. p < length items.now) places }
     ensures { IsAnswer result (list_at items.now places) }

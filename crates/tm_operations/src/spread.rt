@@ -1,4 +1,4 @@
-//! What `*` and `**` give to a call.
+//! The arguments that `*` and `**` add to a call.
 ghost use Rattle.std.specs.Prelude.{◌≡◌, ◌++◌, Ok, IfErr, OnOk};
 ghost use Rattle.tm_definitions.specs.Iteration.{IsAnswerRead, items_of};
 ghost use Rattle.tm_definitions.specs.Spread.{items_of_all, merged, pairs_in, spread_items, spread_pairs};
@@ -13,9 +13,9 @@ use tm_values::{
     find_namespace,
 };
 
-/// The items of values that stand after `*` in a call, one after the other: those that `for` goes
-/// over, and none of undefined. InvalidOperation for values without items and for a namespace
-/// whose record isn't there, or OutOfMemory.
+/// The items of the values after `*` in a call, concatenated: those that `for` iterates over,
+/// except that undefined has none. InvalidOperation for values without items and for a namespace
+/// that has no record. OutOfMemory if memory runs out.
 pub fn spread_items<R: Records>(
     alloc: Global,
     values: &[Value],
@@ -32,7 +32,7 @@ pub fn spread_items<R: Records>(
     Ok(all)
 }
 
-// Adds the items of a value to those that are there.
+// Appends the items of a value.
 fn add_items<R: Records>(
     alloc: Global,
     value: &Value,
@@ -48,7 +48,7 @@ fn add_items<R: Records>(
     share_values(found.as_slice(), all)
 }
 
-// Puts a second owner of each value after those that are there.
+// Appends a second owner of each value.
 fn share_values(values: &[Value], all: &mut Vec<Value>) -> Result<(), Error>
     ensures { AddsValues result (Ok values.now) all.old.items all.new.items }
 {
@@ -59,10 +59,10 @@ fn share_values(values: &[Value], all: &mut Vec<Value>) -> Result<(), Error>
     Ok(())
 }
 
-/// The map of what stands after `**` in a call, and of keywords: the pairs of maps, keyword maps,
-/// modules and namespaces; of equal keys the last value counts. UndefinedError where a value is
-/// undefined and the behaviour refuses that; InvalidOperation for other values and for a namespace
-/// whose record isn't there, or OutOfMemory.
+/// The map of the values after `**` in a call and of keyword arguments: the pairs of maps, keyword
+/// maps, modules and namespaces. Of equal keys the last value counts. UndefinedError if a value is
+/// undefined and the behaviour refuses that. InvalidOperation for other values and for a namespace
+/// that has no record. OutOfMemory if memory runs out.
 pub fn merge_maps<R: Records>(
     alloc: Global,
     values: &[Value],
@@ -78,7 +78,7 @@ pub fn merge_maps<R: Records>(
     ValueMap::from_pairs(pairs)
 }
 
-// Adds the pairs of a value to those that are there.
+// Appends the pairs of a value.
 fn add_pairs<R: Records>(
     alloc: Global,
     value: &Value,

@@ -26,7 +26,7 @@ pub record Bounded (S : Type 0) : Type 0 where
   pub left : ℕ
   pub failures : ℕ
 
--- one more, but never more than a u64 holds
+-- one more, but at most the largest u64
 abbrev pub saturating_increment : ℕ → ℕ
 saturating_increment n = min (n + 1) (2 ^ 64 - 1)
 
@@ -43,11 +43,11 @@ failure_count (Ok zero) n = saturating_increment n
 failure_count (Ok (suc taken)) n = n
 failure_count (Err e) n = saturating_increment n
 
--- what is left of a limit after a write: less by what it took
+-- the limit after a write: less by what was accepted
 abbrev pub left_after : {E : Type 0} → Result ℕ E → ℕ → ℕ
 left_after (Ok taken) left = left - taken
 left_after (Err e) left = left
 
--- known bytes grow by a beginning of the text
+-- a beginning of the text is appended to known bytes
 abbrev pub AppendsBeginning : Option (List ℕ) → Option (List ℕ) → List ℕ → Type 0
 AppendsBeginning old new text = (n : ℕ) × Appends old new (take n text)

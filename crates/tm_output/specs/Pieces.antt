@@ -1,4 +1,4 @@
--- What a writer holds after a text and then another, and after a part of one.
+-- The content of a writer after two texts, and after a part of one.
 use Rattle.std.proofs.Common.{◌≡◌, ◌<◌, ◌+◌, ◌-◌, min, ℕ, zero, suc, List, [], ◌++◌, length, take, drop, Option, Some, None, Result, Ok}
 use Rattle.std.proofs.Common.{refl, sym, ◌∙◌, ap, subst, arith, append_assoc, length-drop}
 use Rattle.std.proofs.Math.Seq.{take-add, take-length, take-append_seam, take-append-add}
@@ -6,7 +6,7 @@ use Rattle.std.proofs.lemmas.List.{append-nil, take-append-le, take_min}
 use Rattle.std.specs.Io.KnownBytes.{Appends}
 use Rattle.tm_output.specs.Counts.{AppendsBeginning, failure_count}
 
--- one text and then another are the joined text
+-- writing one text and then another writes the concatenated text
 pub appends_then :
     (a b c : Option (List ℕ)) (x y : List ℕ)
     → Appends a b x → Appends b c y → Appends a c (x ++ y)
@@ -16,16 +16,16 @@ appends_then (Some s) (Some t) None x y first second = absurd second
 appends_then (Some s) (Some t) (Some u) x y first second =
     second ∙ (ap (λ w. w ++ y) first ∙ append_assoc s x y)
 
--- the same text, spelled another way
+-- the same, for an equal text
 appends_as : (a b : Option (List ℕ)) (x y : List ℕ) → x ≡ y → Appends a b x → Appends a b y
 appends_as a b x y same written = subst (λ w. Appends a b w) same written
 
--- no text is written where nothing changes
+-- the empty text changes nothing
 pub appends_nothing : (a : Option (List ℕ)) → Appends a a []
 appends_nothing None = tt
 appends_nothing (Some s) = sym (append-nil s)
 
--- nothing is a beginning of any text
+-- the empty text is a beginning of any text
 pub beginning_nothing : (a : Option (List ℕ)) (x : List ℕ) → AppendsBeginning a a x
 beginning_nothing a x = (0, appends_nothing a)
 
@@ -35,7 +35,7 @@ pub appends_beginning :
 appends_beginning a b x y written =
     (length x, appends_as a b x (take (length x) (x ++ y)) (sym (take-append_seam x y)) written)
 
--- a beginning of a text is one of a longer text
+-- a beginning of a text is also one of a longer text
 pub beginning_longer :
     (a b : Option (List ℕ)) (x y : List ℕ)
     → AppendsBeginning a b x → AppendsBeginning a b (x ++ y)
@@ -45,7 +45,7 @@ beginning_longer a b x y (n, written) = (
       (sym (take_min n x) ∙ sym (take-append-le (min n (length x)) x y (omega arith))) written,
 )
 
--- a text and then a beginning of another are a beginning of the joined text
+-- a text and then a beginning of another are a beginning of the concatenated text
 pub appends_then_beginning :
     (a b c : Option (List ℕ)) (x y : List ℕ)
     → Appends a b x → AppendsBeginning b c y → AppendsBeginning a c (x ++ y)
@@ -62,7 +62,7 @@ pub appends_then_beginning_longer :
 appends_then_beginning_longer a b c x y z first second =
     appends_then_beginning a b c x (y ++ z) first (beginning_longer b c y z second)
 
--- the rest of a text, as code cuts it off
+-- the rest of a text, as the code cuts it
 abbrev pub rest_from : ℕ → List ℕ → List ℕ
 rest_from k text = take (length text - k) (drop k text)
 
@@ -70,7 +70,7 @@ cut_rest : (k : ℕ) (text : List ℕ) → rest_from k text ≡ drop k text
 cut_rest k text =
     subst (λ m. take m (drop k text) ≡ drop k text) (length-drop k text) (take-length (drop k text))
 
--- a beginning of a text, and then a piece of its rest
+-- a beginning of a text, and then a piece of the rest
 pub appends_piece :
     (a b c : Option (List ℕ)) (k n : ℕ) (text : List ℕ)
     → Appends a b (take k text) → Appends b c (take n (rest_from k text))
@@ -83,7 +83,7 @@ appends_piece a b c k n text first second =
     appends_as a c (front ++ piece) (take (k + n) text) (sym (take-add k n text))
     (appends_then a b c front piece first third)
 
--- a write that took some bytes is no fault
+-- a write that accepted some bytes doesn't count as a failure
 pub taken_no_fault :
     {E : Type 0} (r : Result ℕ E) (n m : ℕ) → r ≡ Ok n → 0 < n → failure_count r m ≡ m
 taken_no_fault r zero m is some = absurd (omega arith)

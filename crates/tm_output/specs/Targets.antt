@@ -3,30 +3,30 @@ use Rattle.std.specs.Prelude.{◌≡◌, ℕ, List, [], ◌++◌, take, Result, 
 use Rattle.std.specs.Io.KnownBytes.{Appends}
 use Rattle.tm_output.specs.Counts.{AppendsBeginning, NoFailure, OneFailure, Told}
 
--- a target took the whole text where it answered Ok, and a beginning of it where it failed
+-- a target took the whole text if the result is Ok, and a beginning of it if it failed
 abbrev pub Takes :
     {T U E : Type 0} → (T → List ℕ → T → Type 0) → (T → List ℕ → T → Type 0)
     → Result U E → T → List ℕ → T → Type 0
 Takes took stopped r old text new =
     MatchResult r (λ _. took old text new) (λ _. stopped old text new)
 
--- what every target keeps: no text changes nothing, texts one after the other are the joined text,
--- and a beginning of a text is one of any longer text
+-- the laws of every target: the empty text changes nothing, writing two texts writes the
+-- concatenated text, and a beginning of a text is also one of a longer text
 pub record Laws {T : Type 0} (took stopped : T → List ℕ → T → Type 0) : Type 0 where
   pub nothing : (a : T) → took a [] a
   pub then_took : (a b c : T) (s t : List ℕ) → took a s b → took b t c → took a (s ++ t) c
   pub then_stopped : (a b c : T) (s t : List ℕ) → took a s b → stopped b t c → stopped a (s ++ t) c
   pub longer : (a b : T) (s t : List ℕ) → stopped a s b → stopped a (s ++ t) b
 
--- the bytes of a string grow by the text
+-- the text is appended to the bytes of a string
 abbrev pub Grows : List ℕ → List ℕ → List ℕ → Type 0
 Grows old text new = new ≡ old ++ text
 
--- the bytes of a string grow by a beginning of the text
+-- a beginning of the text is appended to the bytes of a string
 abbrev pub GrowsInPart : List ℕ → List ℕ → List ℕ → Type 0
 GrowsInPart old text new = (n : ℕ) × (new ≡ old ++ take n text)
 
--- the same of a string, before and after, seen by its bytes
+-- the same for a string before and after, by its bytes
 abbrev pub StringGrows : {S : Type 0} → (S → List ℕ) → S → List ℕ → S → Type 0
 StringGrows bytes old text new = Grows (bytes old) text (bytes new)
 

@@ -1,4 +1,4 @@
-//! Where text goes: writers whose failures are counted, and whatever takes a text piece by piece.
+//! Outputs: writers whose failures are counted, and targets that take a text piece by piece.
 #![tactic(auto)]
 
 mod limited;

@@ -1,4 +1,4 @@
-//! A sink with an end.
+//! A sink with a limit.
 ghost use Rattle.std.specs.Prelude.{◌≡◌, ◌<◌, ◌≤◌, length, IsErr, IfOk};
 ghost use Rattle.std.specs.Io.{WritesAtMost};
 ghost use Rattle.std.specs.Io.KnownBytes.{WriteAppends};
@@ -9,8 +9,8 @@ use std::cmp::min;
 use std::io;
 use std::marker::Model;
 
-/// A sink that passes on so many bytes to another one, and fails from there on. What it is given
-/// beyond them is not written.
+/// A sink that passes a limited number of bytes on to another one, and then fails. Bytes beyond the
+/// limit aren't written.
 #[derive(Drop)]
 pub struct Limited<S: Sink + Drop> {
     inner: S,
@@ -31,7 +31,7 @@ impl<S: Sink + Drop> Model for Limited<S> {
 }
 
 impl<S: Sink + Drop> Limited<S> {
-    /// This sink, for so many bytes more.
+    /// A sink that accepts up to `limit` bytes for `inner`.
     pub fn new(inner: S, limit: usize) -> Limited<S>
         ensures { result ≡ record { sink = inner; left = limit; failures = 0 } }
     {
@@ -42,14 +42,14 @@ impl<S: Sink + Drop> Limited<S> {
         }
     }
 
-    /// The sink.
+    /// The inner sink.
     pub fn inner(&self) -> &S
         ensures { result.now ≡ self.now.sink }
     {
         &self.inner
     }
 
-    /// The sink, without its limit.
+    /// The inner sink, without the limit.
     pub fn into_inner(self) -> S
         ensures { result ≡ self.sink }
     {
@@ -57,22 +57,22 @@ impl<S: Sink + Drop> Limited<S> {
         inner
     }
 
-    /// How many bytes it still takes.
+    /// The number of bytes that it still accepts.
     pub fn left(&self) -> usize
         ensures { result ≡ self.now.left }
     {
         self.left
     }
 
-    /// How many calls failed or took nothing; it stays at the greatest u64.
+    /// The number of calls that failed or accepted no bytes; it saturates at the largest u64.
     pub fn failures(&self) -> u64
         ensures { result ≡ self.now.failures }
     {
         self.failures
     }
 
-    /// Gives the sink the bytes that fit, of which there is one at least, and says how many it
-    /// took; the sink's error where that fails.
+    /// Passes on the bytes that fit, of which there is at least one, and returns how many the inner
+    /// sink accepted; or the inner sink's error.
     fn pass(&mut self, bytes: &[u8]) -> io::Result<usize>
         requires some { 0 < length bytes.now }
         requires room { 0 < self.old.left }
@@ -101,8 +101,8 @@ impl<S: Sink + Drop> Sink for Limited<S> {
       failures = limited.failures;
     } };
 
-    /// Takes what the sink takes of the bytes that fit; StorageFull where no byte is left, and the
-    /// sink's error where it fails.
+    /// Passes on the bytes that fit, and returns how many the inner sink accepted. StorageFull if
+    /// no byte is left; the inner sink's error if it fails.
     fn write(&mut self, bytes: &[u8]) -> io::Result<usize>
         requires { 0 < length bytes.now }
         ensures bound { WritesAtMost result bytes.now }

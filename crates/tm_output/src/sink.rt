@@ -1,4 +1,4 @@
-//! Writers whose written bytes are known and whose failures are counted.
+//! Writers that know what was written to them, and count their failures.
 ghost use Rattle.std.specs.Prelude.{◌≡◌, ◌<◌, ℕ, List, [], length, Option, None, Ok, IsOk, OnOk, OnErr};
 ghost use Rattle.std.specs.Io.{WritesAtMost};
 ghost use Rattle.std.specs.Io.KnownBytes.{Keeps, WriteAppends, Appends};
@@ -9,13 +9,14 @@ use std::io::{self, Write};
 use std::marker::Model;
 use tm_values::Error;
 
-/// A writer that tells its bytes, and how many of its calls failed or took nothing.
+/// A writer that knows the bytes written to it, and counts the calls that failed or accepted no
+/// bytes.
 pub trait Sink {
     // The bytes that it was given so far, if they are known, and how many of its calls failed or took nothing.
     ghost told: { Self → Told };
 
-    /// Takes a beginning of the bytes, of which there is one at least, and says how long it is; the
-    /// writer's error where it fails.
+    /// Writes a beginning of the bytes, of which there is at least one, and returns its length; or
+    /// the writer's error.
     fn write(&mut self, bytes: &[u8]) -> io::Result<usize>
         requires { 0 < length bytes.now }
         ensures bound { WritesAtMost result bytes.now }
@@ -24,7 +25,7 @@ pub trait Sink {
             ≡ failure_count result (told self.old).failures };
 }
 
-/// Any writer, with a count of its calls that failed or took nothing.
+/// Any writer, with a count of the calls that failed or accepted no bytes.
 #[derive(Drop)]
 pub struct Counted<W: Write + Drop> {
     inner: W,
@@ -40,7 +41,7 @@ impl<W: Write + Drop> Model for Counted<W> {
 }
 
 impl<W: Write + Drop> Counted<W> {
-    /// This writer, with no failures.
+    /// Wraps a writer, with no failures.
     pub fn new(inner: W) -> Counted<W>
         ensures { result ≡ record { writer = inner; failures = 0 } }
     {
@@ -54,7 +55,7 @@ impl<W: Write + Drop> Counted<W> {
         &self.inner
     }
 
-    /// The writer, without its count.
+    /// The writer, without the count.
     pub fn into_inner(self) -> W
         ensures { result ≡ self.writer }
     {
@@ -62,8 +63,8 @@ impl<W: Write + Drop> Counted<W> {
         inner
     }
 
-    /// Passes on what the writer holds back; the writer's error where it can't, which is no write
-    /// that failed.
+    /// Flushes the writer. Returns the writer's error if that fails; it doesn't count as a failed
+    /// write.
     pub fn flush(&mut self) -> io::Result<()>
         ensures bytes { Keeps (W.contents self.old.writer) (W.contents self.new.writer) }
         ensures count { self.new.failures ≡ self.old.failures }
@@ -71,7 +72,7 @@ impl<W: Write + Drop> Counted<W> {
         self.inner.flush()
     }
 
-    /// How many calls failed or took nothing; it stays at the greatest u64.
+    /// The number of calls that failed or accepted no bytes; it saturates at the largest u64.
     pub fn failures(&self) -> u64
         ensures { result ≡ self.now.failures }
     {
@@ -92,14 +93,14 @@ impl<W: Write + Drop> Sink for Counted<W> {
     }
 }
 
-/// A writer that takes all and keeps nothing.
+/// A writer that accepts everything and keeps nothing.
 #[derive(Clone, Copy, Debug)]
 pub struct NullWriter;
 
 impl Sink for NullWriter {
     ghost told = { λ _. untold };
 
-    /// Takes all of the bytes.
+    /// Accepts all of the bytes.
     fn write(&mut self, bytes: &[u8]) -> io::Result<usize>
         requires { 0 < length bytes.now }
         ensures bound { WritesAtMost result bytes.now }
@@ -112,7 +113,7 @@ impl Sink for NullWriter {
 }
 
 impl NullWriter {
-    /// Takes all of a text.
+    /// Accepts all of the text.
     pub fn write_str(&mut self, text: &str) -> Result<(), Error>
         ensures { result ≡ Ok tt }
     {
@@ -121,8 +122,8 @@ impl NullWriter {
     }
 }
 
-/// Writes a whole text, each byte once. Fails where the writer does, or takes nothing; no error of its is
-/// handed on, which is faster.
+/// Writes a whole text, each byte once. TargetFailed if the writer fails or accepts no bytes. The
+/// writer's error isn't returned, which is faster.
 #[inline(always)]
 pub fn put_text<W: Sink>(sink: &mut W, text: &[u8]) -> Result<(), TargetFailed>
     ensures written { OnOk result
@@ -147,8 +148,8 @@ pub fn put_text<W: Sink>(sink: &mut W, text: &[u8]) -> Result<(), TargetFailed>
     Ok(())
 }
 
-/// Writes a whole text, each byte once; any error of the writer, or WriteZero where it takes
-/// nothing, ends it.
+/// Writes a whole text, each byte once. Returns the writer's error if it fails, or WriteZero if it
+/// accepts no bytes.
 pub fn write_text<W: Sink>(sink: &mut W, text: &[u8]) -> Result<(), io::Error>
     ensures written { OnOk result
         (Appends (W.told sink.old).bytes (W.told sink.new).bytes text.now) }

@@ -1,4 +1,4 @@
-//! Whatever takes a text piece by piece.
+//! Targets that take a text piece by piece.
 ghost use Rattle.std.specs.Prelude.{ℕ, List, string_bytes};
 ghost use Rattle.tm_output.specs.Targets.{Takes, Laws, Grows, GrowsInPart, IsToldWhole, IsToldInPart};
 ghost use Rattle.tm_output.specs.Laws.{string_laws, writer_laws};
@@ -6,20 +6,20 @@ ghost use Rattle.tm_output.specs.Laws.{string_laws, writer_laws};
 use crate::sink::{Sink, put_text};
 use tm_values::SharedText;
 
-/// That a target failed. Only one who holds the target knows why: a `String` found no memory, a
-/// writer failed or took nothing.
+/// A target failed. The owner of the target knows the reason: memory ran out for a `String`, or a
+/// writer failed or accepted no bytes.
 #[derive(Clone, Copy, Debug, PartialEq, Eq)]
 pub struct TargetFailed;
 
-/// Whatever takes a text piece by piece: a `String`, a shared text, a writer.
+/// A target that takes a text piece by piece: a `String`, a shared text, or a writer.
 pub trait Target {
-    // What the target is after it took the whole text.
+    // The target before and after it took the whole text.
     ghost took: { Self → List ℕ → Self → Type 0 };
 
-    // What it is after it took a beginning of the text and then failed.
+    // The target before and after it took a beginning of the text and failed.
     ghost stopped: { Self → List ℕ → Self → Type 0 };
 
-    /// Takes the text after what it took before; where it fails, it took a beginning.
+    /// Appends the text. If that fails, a beginning of the text was appended.
     fn take_text(&mut self, text: &str) -> Result<(), TargetFailed>
         ensures { Takes took stopped result self.old text.now self.new };
 
@@ -31,7 +31,7 @@ impl Target for String {
 
     ghost stopped = { λ old text new. GrowsInPart (string_bytes old) text (string_bytes new) };
 
-    /// Fails where there is no memory.
+    /// TargetFailed if memory runs out.
     fn take_text(&mut self, text: &str) -> Result<(), TargetFailed> {
         self.push_str(text).map_err(|_| TargetFailed)
     }
@@ -44,7 +44,7 @@ impl Target for SharedText {
 
     ghost stopped = { λ old text new. GrowsInPart old text new };
 
-    /// Fails where there is no memory.
+    /// TargetFailed if memory runs out.
     fn take_text(&mut self, text: &str) -> Result<(), TargetFailed> {
         self.append(text).map_err(|_| TargetFailed)
     }
@@ -59,7 +59,7 @@ impl<S: Sink> Target for S {
     ghost stopped = { λ old text new.
         IsToldInPart (S.told old) text (S.told new) };
 
-    /// Fails where the writer does, or takes nothing; a text without bytes makes no call.
+    /// TargetFailed if the writer fails or accepts no bytes. An empty text makes no call.
     fn take_text(&mut self, text: &str) -> Result<(), TargetFailed> {
         put_text(self, text.as_bytes())
     }

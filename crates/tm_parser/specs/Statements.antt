@@ -38,19 +38,21 @@ abbrev pub is_word : List ℕ → Token → Option (Unit {0})
 is_word word (tokens.Name name) = if pointwise nat_eq name word then Some tt else None
 is_word word _ = None
 
--- What may stand inside one more tag, or in one more part of it; of statements, whether a loop is around them.
+-- What is allowed inside one more tag, or one more part of it. The argument of a rule for
+-- statements says whether they are inside a loop.
 pub record Inner : Type 1 where
   pub body : Bool → Rule (List Stmt)
-  -- what stands after the body of an `if`
+  -- the rest of an `if` after its body
   pub rest : Bool → Rule (Option (List Stmt))
-  -- an else part or none, up to this end tag
+  -- an optional else part, up to this end tag
   pub else_or_end : Tag → Bool → Rule (Option (List Stmt))
-  -- what a loop goes over, the condition of an item, whether it can be called, and the end of its tag
+  -- the iterable of a loop, its condition, whether it can be called, and the end of its tag
   pub loop_head : Rule LoopHead
-  -- the parameters of a macro or of a call's body after their opening bracket, and their end
+  -- the parameters of a macro or of a call's body after their opening bracket, and the closing
+  -- bracket
   pub parameters : Rule (List Parameter)
 
--- Whether a tag begins a statement. The others continue one or end it.
+-- Whether a tag begins a statement. The other tags continue or end one.
 abbrev pub begins_statement : Tag → Bool
 begins_statement tags.Elif = false
 begins_statement tags.Else = false
@@ -65,7 +67,7 @@ begins_statement tags.Endmacro = false
 begins_statement tags.Endcall = false
 begins_statement _ = true
 
--- what a statement begins with
+-- the start of a statement
 abbrev pub a_start : Token → Option Start
 a_start (tokens.Raw text) = Some (starts.Raw text)
 a_start (tokens.Sign sign.VariableStart) = Some starts.Emit
@@ -81,7 +83,7 @@ lone t = do
   word ← token (is_tag t)
   block_end
 
--- the same name once more, or none
+-- the same name again, or nothing
 abbrev pub same_name : List ℕ → Rule (Unit {0})
 same_name name = branch (first a_name) (λ other. provided (pointwise nat_eq other name) (pure tt)) (pure tt)
 
@@ -89,7 +91,7 @@ abbrev pub is_plain : Argument → Bool
 is_plain (plain x) = true
 is_plain (spread x) = false
 
--- the value of the one argument by its place, where there is exactly one
+-- the value of the single positional argument, if there is exactly one
 abbrev pub only_one : {n : _} → Row_of-Argument n → Option Expr
 only_one no_argument = None
 only_one (argument (plain x) no_argument) = Some x
@@ -100,7 +102,7 @@ abbrev pub are_unnamed : {n : _} → Row_of-Keyword n → Bool
 are_unnamed no_keyword = true
 are_unnamed (keyword_and k named) = false
 
--- what the innermost loop is called with: the one argument of a call of `loop`, which has no name
+-- the argument of a call of the innermost loop: the single positional argument of a call of `loop`
 unfoldable pub loop_argument : Expr → Option Expr
 loop_argument (Call' f _ given _ named) = if pointwise nat_eq f (codes "loop") && are_unnamed named then only_one given else None
 loop_argument _ = None
@@ -109,7 +111,7 @@ abbrev pub call_or_emit : Option Expr → Expr → Stmt
 call_or_emit (Some called_with) x = stmts.EmitLoop called_with
 call_or_emit None x = stmts.EmitExpr x
 
--- the statement that emits an expression: a call of the innermost loop where it is one
+-- the statement that emits an expression, as a call of the innermost loop if it is one
 abbrev pub emit_value : Expr → Stmt
 emit_value x = call_or_emit (loop_argument x) x
 
@@ -120,7 +122,7 @@ are_none (argument a given) = false
 abbrev pub is_nothing : {n m : _} → Row_of-Argument n → Row_of-Keyword m → Bool
 is_nothing given named = are_none given && are_unnamed named
 
--- the call of `super` with nothing
+-- the call of `super` without arguments
 unfoldable pub calls_super : Expr → Bool
 calls_super (Call' f _ given _ named) = pointwise nat_eq f (codes "super") && is_nothing given named
 calls_super _ = false
@@ -129,7 +131,7 @@ abbrev pub super_or_emit : Bool → Expr → Stmt
 super_or_emit true x = stmts.EmitSuper
 super_or_emit false x = emit_value x
 
--- The statement that emits an expression: a block writes in place.
+-- The statement that emits an expression. A block writes in place.
 abbrev pub emit_statement : Expr → Stmt
 emit_statement (SelfBlock name) = stmts.EmitBlock name
 emit_statement x = super_or_emit (calls_super x) x
@@ -169,23 +171,23 @@ body_after t end looping = do
   close ← block_end
   ended_body t end looping
 
--- what stands after `else`, up to this end tag
+-- the rest after `else`, up to this end tag
 unfoldable pub else_tag : Inner → Tag → Bool → Rule (Option (List Stmt))
 else_tag t end looping = do
   body ← body_after t end looping
   pure (Some body)
 
--- an else part or none, up to this end tag
+-- an optional else part, up to this end tag
 unfoldable pub else_or_end : Inner → Tag → Bool → Rule (Option (List Stmt))
 else_or_end t end looping = branch (first (is_tag tags.Else)) (λ _. else_tag t end looping) (do
   last ← lone end
   pure None)
 
--- what stands after the body of an `if`, up to its end tag
+-- the rest of an `if` after its body, up to its end tag
 unfoldable pub rest : Inside → Inner → Bool → Rule (Option (List Stmt))
 rest i t looping = branch (first (is_tag tags.Elif)) (λ _. elif_tag i t looping) (else_or_end t tags.Endif looping)
 
--- A loop after its head: its else part stands outside of it.
+-- A loop after its head. Its else part isn't inside the loop.
 unfoldable pub for_body : Inner → Bool → AssignmentTarget → LoopHead → Rule Stmt
 for_body t looping to over = do
   body ← t.body true
@@ -206,27 +208,28 @@ for_tag i t looping = do
   over ← t.loop_head
   for_body t looping to over
 
--- a statement of one word that stands nowhere but inside a loop
+-- a statement of one word that is allowed only inside a loop
 unfoldable pub jump : Bool → Stmt → Rule Stmt
 jump looping s = provided looping (do
   last ← block_end
   pure s)
 
--- this end tag, which may say the name again
+-- this end tag, which may repeat the name
 abbrev pub named_end : Tag → List ℕ → Rule (Unit {0})
 named_end end name = do
   word ← token (is_tag end)
   again ← same_name name
   block_end
 
--- The body of a block or a macro of this name, up to its end tag. The loops around it aren't around its body.
+-- The body of a block or a macro with this name, up to its end tag. It isn't inside the loops
+-- around it.
 unfoldable pub named_body : Inner → Tag → List ℕ → Rule (List Stmt)
 named_body t end name = do
   body ← t.body false
   last ← named_end end name
   pure body
 
--- the word of a block that another template has to replace, or none
+-- the optional word of a block that another template has to replace
 abbrev pub requirement : Rule Bool
 requirement = branch (first (is_word (codes "required"))) (λ _. pure true) (pure false)
 
@@ -257,33 +260,34 @@ bare i = do
   x ← expr i
   branch (first (is sign.BlockEnd)) (λ _. pure x) (bare_tuple i x)
 
--- what stands after what a loop goes over
+-- what ends an iterable
 abbrev pub ends_iterated : Token → Option (Unit {0})
 ends_iterated (tokens.Sign sign.If) = Some tt
 ends_iterated (tokens.Sign sign.BlockEnd) = Some tt
 ends_iterated _ = None
 
--- a comma with another item after it
+-- a comma followed by another item
 abbrev pub iterated_comma : Look Token (Unit {0})
 iterated_comma = not_before (is sign.Comma) ends_iterated
 
 unfoldable pub more_iterated : Inside → List Expr → Rule (List Expr)
 more_iterated i xs = many_from iterated_comma (λ _. whole i) xs
 
--- a tuple without brackets after its first item, with a comma after the last one or none
+-- a tuple without brackets after its first item, with an optional comma at the end
 unfoldable pub iterated_tuple : Inside → Expr → Rule Expr
 iterated_tuple i x = do
   xs ← more_iterated i (x ∷ [])
   comma ← branch (first (is sign.Comma)) pure (pure tt)
   pure (exprs.Tuple xs)
 
--- What a loop goes over: a value or a tuple without brackets, after which an `if` is the loop's.
+-- The iterable of a loop: a value or a tuple without brackets. An `if` after it belongs to the
+-- loop.
 unfoldable pub iterated : Inside → Rule Expr
 iterated i = do
   x ← whole i
   ahead is_comma (iterated_tuple i x) (pure x)
 
--- the condition of a loop's item, after which no other one may stand
+-- the condition of a loop, which another condition can't follow
 unfoldable pub loop_condition : Inside → Rule (Option Expr)
 loop_condition i = branch (first (is sign.If))
     (λ _. do
@@ -291,11 +295,11 @@ loop_condition i = branch (first (is sign.If))
       pure (Some condition))
     (pure None)
 
--- the word of a loop that can be called, or none
+-- the optional word of a loop that can be called
 abbrev pub recursion : Rule Bool
 recursion = branch (first (is_word (codes "recursive"))) (λ _. pure true) (pure false)
 
--- what a loop goes over, the condition of an item, whether it can be called, and the end of the tag
+-- the iterable of a loop, its condition, whether it can be called, and the end of its tag
 unfoldable pub loop_head : Inside → Rule LoopHead
 loop_head i = do
   over ← iterated i
@@ -304,23 +308,23 @@ loop_head i = do
   close ← block_end
   pure (record { iterable = over; condition = condition; recursive = recursive })
 
--- what stands after the `=` of a `set`
+-- the rest of a `set` after its `=`
 unfoldable pub set_value : Inside → AssignmentTarget → Rule Stmt
 set_value i to = do
   x ← bare i
   pure (stmts.Set to x)
 
--- filters after these, each after a bar
+-- the other filters, each after a bar
 unfoldable pub more_filters : Inside → List Step → Rule (List Step)
 more_filters i xs = many_from (first (is sign.Bar)) (λ _. i.filter) xs
 
--- what a body after its tag writes is filtered and used
+-- a body whose text is filtered and used
 unfoldable pub captured : Inner → Tag → Bool → CaptureUse → List Step → Rule Stmt
 captured t end looping becomes filters = do
   body ← body_after t end looping
   pure (stmts.CaptureBlock becomes filters body)
 
--- what stands after the target of a `set` without `=`
+-- the rest of a `set` without `=`, after its target
 unfoldable pub set_block : Inside → Inner → Bool → AssignmentTarget → Rule Stmt
 set_block i t looping to = do
   filters ← more_filters i []
@@ -356,7 +360,7 @@ autoescape_tag i t looping = do
   body ← body_after t tags.Endautoescape looping
   pure (stmts.AutoEscape x body)
 
--- the default of a parameter, or none
+-- the default of a parameter, if there is one
 unfoldable pub default_value : Inside → Rule (Option Expr)
 default_value i = branch (first (is sign.Assign))
     (λ _. do
@@ -370,7 +374,8 @@ parameter i = do
   default ← default_value i
   pure (record { name = name; default = default })
 
--- Parameters, with commas between them and after the last one a comma or none, and their end; no name is that of two.
+-- Parameters, separated by commas, with an optional comma at the end, and the closing bracket.
+-- Their names must differ.
 unfoldable pub parameters : Inside → Rule (List Parameter)
 parameters i = do
   room ← i.room
@@ -392,7 +397,7 @@ calls (Apply' applications.Method name _ given _ named) = true
 calls (Called _ given _ named) = true
 calls _ = false
 
--- whether the last of these steps is a call, or this where there is none
+-- whether the last step is a call, or b if there are no steps
 abbrev pub last_calls : {n : _} → Bool → Row_of-Step n → Bool
 last_calls b no_step = b
 last_calls b (more_steps s ss) = last_calls (calls s) ss
@@ -415,7 +420,8 @@ abbrev pub have_no_default : List Parameter → Bool
 have_no_default [] = true
 have_no_default (p ∷ ps) = is_none p.default && have_no_default ps
 
--- the parameters of a call's body: none where no bracket opens, and else such as a macro's, without any default
+-- the parameters of a call's body: none without an opening bracket, and otherwise like those of a
+-- macro, but without defaults
 unfoldable pub call_parameters : Inner → Rule (List Parameter)
 call_parameters t = branch (first (is sign.OpenRound))
     (λ _. do
@@ -423,16 +429,18 @@ call_parameters t = branch (first (is sign.OpenRound))
       provided (have_no_default ps) (pure ps))
     (pure [])
 
--- the call of a method of `self` with nothing
+-- a call of a method of `self` without arguments
 abbrev pub method_of_self : List ℕ → Expr
 method_of_self name = exprs.Chain (exprs.Var (codes "self")) (steps.Apply applications.Method name [] [] ∷ [])
 
--- What a call with a body calls: a block is a method of `self`, since it is passed this.
+-- The callee of a call with a body. A block becomes a method of `self`, since it gets `caller` as
+-- an argument.
 abbrev pub with_caller : Expr → Expr
 with_caller (SelfBlock name) = method_of_self name
 with_caller x = x
 
--- What stands after the expression of a call's tag, which is a call. The loops around the tag aren't around its body.
+-- The rest of a call tag after its expression, which must be a call. The body isn't inside the
+-- loops around the tag.
 unfoldable pub call_block : Inner → List Parameter → Expr → Rule Stmt
 call_block t ps x = provided (is_call x) (do
   body ← body_after t tags.Endcall false
@@ -444,7 +452,7 @@ call_tag i t = do
   x ← i.expr
   call_block t ps x
 
--- the words of a template that may be missing, or none
+-- the optional words `ignore missing`
 abbrev pub may_be_missing : Rule Bool
 may_be_missing = branch (first (is_word (codes "ignore")))
     (λ _. do
@@ -467,7 +475,7 @@ import_tag i = do
   last ← block_end
   pure (stmts.Import template to)
 
--- the name that an imported one is given to: that after `as`, or the same
+-- the name that an imported name is bound to: the one after `as`, or the same name
 abbrev pub given_name : List ℕ → Rule (List ℕ)
 given_name name = branch (first (is_word (codes "as"))) (λ _. token a_name) (pure name)
 
@@ -477,7 +485,8 @@ imported = do
   to ← given_name name
   pure (record { name = name; target = to })
 
--- one imported name or more, with commas between them and after the last one a comma or none, and the end of the tag
+-- one or more imported names, separated by commas, with an optional comma at the end, and the end
+-- of the tag
 unfoldable pub imports : Rule (List Imported)
 imports = do
   one ← one_more imported []
@@ -493,7 +502,7 @@ from_tag i = do
   xs ← imports
   pure (stmts.FromImport template xs)
 
--- the rest of a statement after its tag; a tag that begins none has no rest
+-- the rest of a statement after its tag; a tag that doesn't begin a statement has none
 abbrev pub tag_statement : Inside → Inner → Bool → Tag → Rule Stmt
 tag_statement i t looping tags.If = if_tag i t looping
 tag_statement i t looping tags.For = for_tag i t looping
@@ -519,14 +528,14 @@ statement i t looping (starts.Raw text) = pure (stmts.EmitRaw text)
 statement i t looping starts.Emit = emission i
 statement i t looping (starts.Tag g) = tag_statement i t looping g
 
--- statements after these ones, as long as one begins
+-- statements after these, as long as one begins
 abbrev pub more_statements : Inside → Inner → Bool → List Stmt → Rule (List Stmt)
 more_statements i t looping xs = many_from (first a_start) (statement i t looping) xs
 
 unfoldable pub body : Inside → Inner → Bool → Rule (List Stmt)
 body i t looping = more_statements i t looping []
 
--- what may stand inside n nestings more
+-- what is allowed within n more levels of nesting
 unfoldable pub inner : ℕ → Inner
 inner zero = record {
   body = λ looping. nothing;

@@ -13,7 +13,8 @@ use tm_items::{Boxed, Items};
 use tm_syntax::{Assignment, Expr, Sign};
 use tm_values::Error;
 
-// Each function reads one rule, with `depth` nestings to go. SyntaxError where no tokens spell it.
+// Each function parses one rule, with `depth` levels of nesting left. SyntaxError if the tokens
+// don't match the rule.
 
 /// An expression or a tuple without brackets, and the end of the tag.
 #[tactic(auto, unfolding(crate::specs::Statements::bare))]
@@ -43,7 +44,7 @@ fn bare_tuple(
     boxed(alloc, Expr::Tuple(items))
 }
 
-/// More expressions after others, and the end of the tag.
+/// Expressions up to the end of the tag, pushed on the others.
 #[tactic(auto, unfolding(tm_expressions::specs::Grammar::items))]
 fn bare_items(
     cursor: &mut Cursor<'_>,
@@ -64,7 +65,7 @@ fn bare_items(
     Ok(items)
 }
 
-/// More expressions, each after a comma.
+/// The other expressions, each after a comma.
 #[tactic(auto, using(tm_expressions::proofs::Loops::commas))]
 fn more_bare_items(
     cursor: &mut Cursor<'_>,
@@ -82,7 +83,7 @@ fn more_bare_items(
     Ok(items)
 }
 
-/// An expression, at the end of others.
+/// An expression, pushed on the others.
 fn one_bare_item(
     cursor: &mut Cursor<'_>,
     alloc: Global,
@@ -118,7 +119,7 @@ pub fn assignments(
     Ok(assignments)
 }
 
-/// More assignments, each after a comma.
+/// The other assignments, each after a comma.
 #[tactic(auto, using(tm_expressions::proofs::Loops::commas))]
 fn more_assignments(
     cursor: &mut Cursor<'_>,
@@ -136,7 +137,7 @@ fn more_assignments(
     Ok(assignments)
 }
 
-/// An assignment, at the end of others.
+/// An assignment, pushed on the others.
 fn one_assignment(
     cursor: &mut Cursor<'_>,
     alloc: Global,
@@ -150,7 +151,7 @@ fn one_assignment(
     with_one(assignments, assignment)
 }
 
-/// A target, and what is given to it.
+/// A target and its value.
 #[tactic(auto, unfolding(crate::specs::Statements::assignment))]
 fn assignment(cursor: &mut Cursor<'_>, alloc: Global, depth: u8) -> Result<Assignment, Error>
     ensures { Parses result cursor.new ((assignment (inside depth)).reads cursor.old) }

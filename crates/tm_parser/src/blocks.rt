@@ -8,7 +8,7 @@ use crate::distinct::are_distinct;
 use std::alloc::{AllocError, Global};
 use tm_syntax::Stmt;
 
-/// Whether no name is that of two blocks in the statements; AllocError when out of memory.
+/// Whether all blocks in the statements have different names. AllocError if memory runs out.
 pub fn has_distinct_blocks(alloc: Global, statements: &[Stmt]) -> Result<bool, AllocError>
     ensures { IfOk result (λ distinct. distinct ≡ spec.are_distinct (block_names statements.now)) }
 {
@@ -17,7 +17,7 @@ pub fn has_distinct_blocks(alloc: Global, statements: &[Stmt]) -> Result<bool, A
     are_distinct(alloc, &names)
 }
 
-/// Adds the names of all blocks in the statements.
+/// Pushes the names of all blocks in the statements.
 #[cycle(names)]
 fn add_names<'t>(names: &mut Vec<&'t str>, statements: &'t [Stmt]) -> Result<(), AllocError>
     ensures { OnOk result
@@ -29,7 +29,7 @@ fn add_names<'t>(names: &mut Vec<&'t str>, statements: &'t [Stmt]) -> Result<(),
     Ok(())
 }
 
-/// Adds the name of a block, and those of all blocks in a statement.
+/// Pushes the names of all blocks in a statement, and its own name if it is a block.
 #[cycle(names)]
 #[tactic(auto, using(crate::proofs::Names::forms))]
 fn add_names_of<'t>(names: &mut Vec<&'t str>, statement: &'t Stmt) -> Result<(), AllocError>

@@ -1,4 +1,4 @@
-//! Whether names stand once.
+//! Names that must differ.
 ghost use Rattle.std.specs.Prelude.{◌≡◌, IfOk};
 ghost use Rattle.tm_parser.specs.Distinct as spec;
 ghost use Rattle.tm_parser.specs.Distinct.{texts};
@@ -6,7 +6,7 @@ ghost use Rattle.tm_parser.specs.Distinct.{texts};
 use std::alloc::{AllocError, Global};
 use std::collections::BTreeSet;
 
-/// Whether no name stands twice; AllocError when out of memory.
+/// Whether all names are different. AllocError if memory runs out.
 pub fn are_distinct(alloc: Global, names: &[&str]) -> Result<bool, AllocError>
     ensures { IfOk result (λ distinct. distinct ≡ spec.are_distinct (texts names.now)) }
 {

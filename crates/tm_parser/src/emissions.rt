@@ -1,4 +1,4 @@
-//! What is emitted in place, and what is a call.
+//! Emissions, and expressions that are calls.
 ghost use Rattle.std.specs.Prelude.{◌≡◌, ◌++◌, [], ◌∷◌, false, is_some, MatchResult};
 ghost use Rattle.tm_parser.specs.Statements as spec;
 ghost use Rattle.tm_parser.specs.Statements.{body};
@@ -12,7 +12,7 @@ use tm_items::{Boxed, Items};
 use tm_syntax::{Application, Argument, Expr, Keyword, Step, Stmt};
 use tm_values::Error;
 
-/// Adds a statement that emits a value. OutOfMemory when out of memory.
+/// Pushes a statement that emits a value. OutOfMemory if memory runs out.
 #[inline(always)]
 pub(crate) fn add_emission(body: &mut Items<Stmt>, value: Boxed<Expr>) -> Result<(), Error>
     ensures { MatchResult result
@@ -25,7 +25,7 @@ pub(crate) fn add_emission(body: &mut Items<Stmt>, value: Boxed<Expr>) -> Result
     add_one(body, Stmt::EmitExpr(value))
 }
 
-/// Whether an expression is the call of a name or of a block: what may be emitted in place.
+/// Whether an expression is a call of a name or of a block, which may write in place.
 #[inline(always)]
 #[tactic(auto, unfolding(crate::specs::Statements::loop_argument, crate::specs::Statements::calls_super))]
 fn is_call_of_name(expr: &Expr) -> bool
@@ -37,8 +37,8 @@ fn is_call_of_name(expr: &Expr) -> bool
     }
 }
 
-/// The statement that emits a value: a block, `super()` and `loop(..)` write in place. OutOfMemory
-/// where the name of a block can have no second owner.
+/// The statement that emits a value. A block, `super()` and `loop(..)` write in place. OutOfMemory
+/// if the name of a block can't have a second owner.
 #[inline(never)]
 #[tactic(auto, unfolding(crate::specs::Statements::calls_super))]
 pub(crate) fn emit_statement(value: Boxed<Expr>) -> Result<Stmt, Error>
@@ -55,7 +55,7 @@ pub(crate) fn emit_statement(value: Boxed<Expr>) -> Result<Stmt, Error>
     Ok(emit_value(value))
 }
 
-/// Whether an expression is the call of `super` with nothing.
+/// Whether an expression is a call of `super` without arguments.
 #[tactic(auto, unfolding(crate::specs::Statements::calls_super))]
 fn is_call_of_super(expr: &Expr) -> bool
     ensures { result ≡ spec.calls_super expr.now }
@@ -68,7 +68,7 @@ fn is_call_of_super(expr: &Expr) -> bool
     }
 }
 
-/// Whether a call is passed nothing.
+/// Whether a call has no arguments.
 #[tactic(auto, using(crate::proofs::Calls::nothing_passed))]
 fn is_nothing(given: &[Argument], named: &[Keyword]) -> bool
     ensures { result ≡ spec.is_nothing (row_of_arguments given.now) (row_of_keywords named.now) }
@@ -76,7 +76,7 @@ fn is_nothing(given: &[Argument], named: &[Keyword]) -> bool
     given.is_empty() && named.is_empty()
 }
 
-/// The statement that emits a value: a call of the innermost loop where it is one.
+/// The statement that emits a value, as a call of the innermost loop if it is one.
 #[tactic(auto, unfolding(crate::specs::Statements::loop_argument))]
 fn emit_value(value: Boxed<Expr>) -> Stmt
     ensures { result ≡ spec.emit_value value }
@@ -96,7 +96,7 @@ fn emit_value(value: Boxed<Expr>) -> Stmt
     Stmt::EmitLoop(value)
 }
 
-/// Whether an expression is the call of `loop` with one argument, by its place.
+/// Whether an expression is a call of `loop` with one positional argument.
 #[tactic(auto, unfolding(crate::specs::Statements::loop_argument))]
 fn is_call_of_loop(expr: &Expr) -> bool
     ensures { result ≡ is_some (spec.loop_argument expr.now) }
@@ -115,7 +115,7 @@ fn is_call_of_loop(expr: &Expr) -> bool
     }
 }
 
-/// Whether these arguments are one value.
+/// Whether the arguments are a single value.
 fn is_one_value(given: &[Argument]) -> bool
     ensures { result ≡ is_some (spec.only_one (row_of_arguments given.now)) }
 {
@@ -125,7 +125,7 @@ fn is_one_value(given: &[Argument]) -> bool
     is_plain(&given[0])
 }
 
-/// Whether an argument is a value.
+/// Whether an argument is a value, not spread.
 fn is_plain(argument: &Argument) -> bool
     ensures { result ≡ spec.is_plain argument.now }
 {
@@ -135,7 +135,7 @@ fn is_plain(argument: &Argument) -> bool
     }
 }
 
-/// Whether an expression is the call of a name, of a block, of a method or of a value.
+/// Whether an expression is a call of a name, a block, a method or a value.
 pub fn is_call(expr: &Expr) -> bool
     ensures { result ≡ spec.is_call expr.now }
 {
@@ -152,7 +152,7 @@ pub fn is_call(expr: &Expr) -> bool
     }
 }
 
-/// Whether the last of steps is a call; false where there is none.
+/// Whether the last step is a call; false if there are no steps.
 fn ends_in_call(steps: &[Step]) -> bool
     ensures { result ≡ spec.last_calls false (row_of_steps steps.now) }
 {
@@ -163,7 +163,7 @@ fn ends_in_call(steps: &[Step]) -> bool
     last
 }
 
-/// Whether a step is the call of a method or of a value.
+/// Whether a step is a call of a method or of a value.
 fn calls(step: &Step) -> bool
     ensures { result ≡ spec.calls step.now }
 {

@@ -10,7 +10,7 @@ use tm_items::Items;
 use tm_syntax::{Sign, Step};
 use tm_values::Error;
 
-/// More filters after others, each after a bar and inside one nesting more.
+/// The other filters, each after a bar and one nesting level deeper.
 #[tactic(auto, using(crate::proofs::Loops::bars))]
 #[inline(never)]
 pub fn more_filters(
@@ -28,7 +28,7 @@ pub fn more_filters(
     Ok(filters)
 }
 
-/// A filter inside one nesting more, at the end of others.
+/// A filter one nesting level deeper, pushed on the others.
 #[tactic(auto, using(crate::proofs::Nesting::filters))]
 #[inline(never)]
 pub fn one_filter(

@@ -1,4 +1,4 @@
-//! Templates that are included, and what is imported from them.
+//! Includes and imports.
 ghost use Rattle.std.specs.Prelude.{◌≡◌, [], MatchResult};
 ghost use Rattle.tm_expressions.specs.Parses.{Adds, Parses};
 ghost use Rattle.tm_expressions.specs.Grammar.{inside, more_items};
@@ -15,7 +15,8 @@ use tm_items::Items;
 use tm_syntax::{Imported, Name, Sign, Stmt};
 use tm_values::Error;
 
-// Each function reads one rule, with `depth` nestings to go. SyntaxError where no tokens spell it.
+// Each function parses one rule, with `depth` levels of nesting left. SyntaxError if the tokens
+// don't match the rule.
 
 /// The template of an `include`, whether it may be missing, and the end of the tag.
 #[tactic(auto, unfolding(crate::specs::Statements::include_tag))]
@@ -35,7 +36,7 @@ pub fn include_tag(
     add_one(body, Stmt::Include(template, missing))
 }
 
-/// The words of a template that may be missing, if they stand there.
+/// The words `ignore missing`, if they are there.
 fn may_be_missing(cursor: &mut Cursor<'_>) -> Result<bool, Error>
     ensures { Parses result cursor.new (may_be_missing.reads cursor.old) }
 {
@@ -83,7 +84,7 @@ pub fn from_tag(
     add_one(body, Stmt::FromImport(template, imports))
 }
 
-/// One imported name or more, and the end of the tag.
+/// One or more imported names, and the end of the tag.
 #[tactic(auto, unfolding(crate::specs::Statements::imports))]
 fn imports(cursor: &mut Cursor<'_>, alloc: Global) -> Result<Items<Imported>, Error>
     ensures { Parses result cursor.new (imports.reads cursor.old) }
@@ -95,7 +96,7 @@ fn imports(cursor: &mut Cursor<'_>, alloc: Global) -> Result<Items<Imported>, Er
     Ok(imports)
 }
 
-/// More imported names, each after a comma.
+/// The other imported names, each after a comma.
 #[tactic(auto, using(tm_expressions::proofs::Loops::commas))]
 fn more_imports(cursor: &mut Cursor<'_>, first: Items<Imported>) -> Result<Items<Imported>, Error>
     ensures { Parses result cursor.new
@@ -108,7 +109,7 @@ fn more_imports(cursor: &mut Cursor<'_>, first: Items<Imported>) -> Result<Items
     Ok(imports)
 }
 
-/// An imported name, at the end of others.
+/// An imported name, pushed on the others.
 fn one_import(cursor: &mut Cursor<'_>, imports: Items<Imported>) -> Result<Items<Imported>, Error>
     ensures { Parses result cursor.new ((one_more imported imports).reads cursor.old) }
 {
@@ -116,7 +117,7 @@ fn one_import(cursor: &mut Cursor<'_>, imports: Items<Imported>) -> Result<Items
     with_one(imports, imported)
 }
 
-/// A name that a template leaves, and the name that it is given to.
+/// A name in the template, and the name that it is bound to.
 #[tactic(auto, unfolding(crate::specs::Statements::imported))]
 fn imported(cursor: &mut Cursor<'_>) -> Result<Imported, Error>
     ensures { Parses result cursor.new (imported.reads cursor.old) }
@@ -126,8 +127,8 @@ fn imported(cursor: &mut Cursor<'_>) -> Result<Imported, Error>
     Ok(Imported { name, target })
 }
 
-/// The name that an imported one is given to: that after `as`, or the same. OutOfMemory where
-/// it can have no second owner.
+/// The name that an imported name is bound to: the one after `as`, or the same name. OutOfMemory if
+/// it can't have a second owner.
 fn given_name(cursor: &mut Cursor<'_>, name: &Name) -> Result<Name, Error>
     ensures { Parses result cursor.new ((given_name name.now).reads cursor.old) }
 {

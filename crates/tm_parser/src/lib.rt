@@ -1,4 +1,4 @@
-//! From the tokens of a template or an expression to its tree.
+//! Parsing the tokens of a template or an expression into a tree.
 #![tactic(auto)]
 
 mod assignments;

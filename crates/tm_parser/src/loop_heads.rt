@@ -1,4 +1,4 @@
-//! What a loop goes over, and how.
+//! The heads of loops.
 ghost use Rattle.std.specs.Prelude.{◌≡◌, is_some};
 ghost use Rattle.tm_expressions.specs.Parses.{Parses, TakesSign};
 ghost use Rattle.tm_expressions.specs.Grammar.{inside, whole};
@@ -14,21 +14,22 @@ use tm_items::{Boxed, Items};
 use tm_syntax::{Expr, Sign, Token};
 use tm_values::Error;
 
-/// What a loop goes over, and how.
+/// The head of a loop, after `in`.
 #[derive(Drop)]
 pub struct LoopHead {
-    /// What is iterated.
+    /// The value that is iterated over.
     pub iterable: Boxed<Expr>,
-    /// The condition of an item that is taken.
+    /// The condition that selects items.
     pub condition: Option<Boxed<Expr>>,
     /// Whether the loop can be called.
     pub recursive: bool,
 }
 
-// Each function reads one rule, with `depth` nestings to go. SyntaxError where no tokens spell it.
+// Each function parses one rule, with `depth` levels of nesting left. SyntaxError if the tokens
+// don't match the rule.
 
-/// What a loop goes over, the condition of an item, whether it can be called, and the end of
-/// its tag, inside one nesting more.
+/// The iterable of a loop, its condition, whether it can be called, and the end of its tag, one
+/// nesting level deeper.
 #[tactic(auto, using(crate::proofs::Nesting::loops))]
 #[inline(never)]
 pub fn inner_loop_head(cursor: &mut Cursor<'_>, alloc: Global, depth: u8) -> Result<LoopHead, Error>
@@ -40,8 +41,7 @@ pub fn inner_loop_head(cursor: &mut Cursor<'_>, alloc: Global, depth: u8) -> Res
     loop_head(cursor, alloc, depth - 1)
 }
 
-/// What a loop goes over, the condition of an item, whether it can be called, and the end of
-/// its tag.
+/// The iterable of a loop, its condition, whether it can be called, and the end of its tag.
 #[tactic(auto, unfolding(crate::specs::Statements::loop_head))]
 fn loop_head(cursor: &mut Cursor<'_>, alloc: Global, depth: u8) -> Result<LoopHead, Error>
     ensures { Parses result cursor.new ((loop_head (inside depth)).reads cursor.old) }
@@ -57,7 +57,7 @@ fn loop_head(cursor: &mut Cursor<'_>, alloc: Global, depth: u8) -> Result<LoopHe
     })
 }
 
-/// The condition of a loop's item, if it stands there.
+/// The condition of a loop, if there is one.
 #[tactic(auto, unfolding(crate::specs::Statements::loop_condition))]
 fn loop_condition(
     cursor: &mut Cursor<'_>,
@@ -72,7 +72,7 @@ fn loop_condition(
     Ok(None)
 }
 
-/// A value or a tuple without brackets, after which an `if` is the loop's.
+/// A value or a tuple without brackets. An `if` after it belongs to the loop.
 #[tactic(auto, unfolding(crate::specs::Statements::iterated))]
 fn iterated(cursor: &mut Cursor<'_>, alloc: Global, depth: u8) -> Result<Boxed<Expr>, Error>
     ensures { Parses result cursor.new ((iterated (inside depth)).reads cursor.old) }
@@ -84,7 +84,7 @@ fn iterated(cursor: &mut Cursor<'_>, alloc: Global, depth: u8) -> Result<Boxed<E
     iterated_tuple(cursor, alloc, depth, first)
 }
 
-/// A tuple without brackets after its first item, with a comma after the last one or none.
+/// A tuple without brackets after its first item, with an optional comma at the end.
 #[tactic(auto, unfolding(crate::specs::Statements::iterated_tuple))]
 fn iterated_tuple(
     cursor: &mut Cursor<'_>,
@@ -100,7 +100,7 @@ fn iterated_tuple(
     boxed(alloc, Expr::Tuple(items))
 }
 
-/// More values, each after a comma.
+/// The other values, each after a comma.
 #[tactic(auto, using(crate::proofs::Loops::iterations))]
 fn more_iterated(
     cursor: &mut Cursor<'_>,
@@ -117,7 +117,7 @@ fn more_iterated(
     Ok(items)
 }
 
-/// A value, at the end of others.
+/// A value, pushed on the others.
 fn one_iterated(
     cursor: &mut Cursor<'_>,
     alloc: Global,
@@ -131,7 +131,7 @@ fn one_iterated(
     with_one(items, value.into_inner())
 }
 
-/// Takes a comma, unless what ends what a loop goes over stands after it.
+/// Takes a comma, unless the end of the iterable follows it.
 fn take_iterated_comma(cursor: &mut Cursor<'_>) -> bool
     ensures { TakesSign result cursor.old cursor.new (iterated_comma.sees cursor.old) }
 {
@@ -144,7 +144,7 @@ fn take_iterated_comma(cursor: &mut Cursor<'_>) -> bool
     }
 }
 
-/// Whether what stands after what a loop goes over stands first.
+/// Whether the next token ends the iterable.
 fn ends_iterated(rest: &[Token]) -> bool
     ensures { result ≡ is_some (first_sees ends_iterated rest.now) }
 {

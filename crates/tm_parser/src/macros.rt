@@ -1,4 +1,4 @@
-//! Blocks, macros and calls with a body: bodies around which is no loop, and parameters.
+//! Blocks, macros and calls with a body, which aren't inside the loops around them, and parameters.
 ghost use Rattle.std.specs.Prelude.{◌≡◌, [], ◌∷◌, false, IfOk, MatchResult};
 ghost use Rattle.tm_expressions.specs.Parses.{Adds, Parses};
 ghost use Rattle.tm_parser.specs.Distinct as spec;
@@ -21,7 +21,8 @@ use tm_items::{Boxed, Items};
 use tm_syntax::{Application, CallBlock, Expr, Macro, Name, Parameter, Sign, Step, Stmt, Tag};
 use tm_values::Error;
 
-// Each function reads one rule, with `depth` nestings to go. SyntaxError where no tokens spell it.
+// Each function parses one rule, with `depth` levels of nesting left. SyntaxError if the tokens
+// don't match the rule.
 
 /// A block's name, whether another template has to replace it, and its body, up to its end tag.
 #[cycle(statements)]
@@ -69,7 +70,7 @@ pub fn macro_tag(
     add_one(body, statement)
 }
 
-/// The body of a block or a macro of this name, up to its end tag.
+/// The body of a block or a macro with this name, up to its end tag.
 #[cycle(statements)]
 #[tactic(auto, unfolding(crate::specs::Statements::named_body))]
 fn named_body(
@@ -86,7 +87,7 @@ fn named_body(
     Ok(body)
 }
 
-/// Takes this end tag, which may say the name again.
+/// Takes this end tag, which may repeat the name.
 fn expect_named_end(cursor: &mut Cursor<'_>, end: Tag, name: &Name) -> Result<(), Error>
     ensures { Parses result cursor.new ((named_end end name.now).reads cursor.old) }
 {
@@ -113,7 +114,7 @@ pub fn call_tag(
     call_block(cursor, alloc, depth, parameters, call, body)
 }
 
-/// What stands after the expression of a call's tag. SyntaxError also where that is no call.
+/// The rest of a call tag after its expression. SyntaxError, also if the expression isn't a call.
 #[cycle(statements)]
 #[tactic(auto, unfolding(crate::specs::Statements::call_block))]
 fn call_block(
@@ -140,8 +141,8 @@ fn call_block(
     add_one(body, statement)
 }
 
-/// The parameters of a call's body, none where no bracket opens. SyntaxError also where one has
-/// a default.
+/// The parameters of a call's body; none without an opening bracket. SyntaxError, also if a
+/// parameter has a default.
 #[tactic(auto, unfolding(crate::specs::Statements::call_parameters))]
 #[inline(never)]
 fn call_parameters(
@@ -161,7 +162,7 @@ fn call_parameters(
     Ok(parameters)
 }
 
-/// Parameters after their opening bracket, inside one nesting more.
+/// Parameters after their opening bracket, one nesting level deeper.
 #[tactic(auto, using(crate::proofs::Nesting::macros))]
 #[inline(never)]
 fn inner_parameters(
@@ -177,7 +178,7 @@ fn inner_parameters(
     parameters(cursor, alloc, depth - 1)
 }
 
-/// Parameters after their opening bracket, and their end; no name is that of two.
+/// Parameters after their opening bracket, and the closing bracket. Their names must differ.
 #[tactic(auto, unfolding(crate::specs::Statements::parameters))]
 fn parameters(cursor: &mut Cursor<'_>, alloc: Global, depth: u8) -> Result<Items<Parameter>, Error>
     ensures { Parses result cursor.new ((parameters (inside depth)).reads cursor.old) }
@@ -190,7 +191,7 @@ fn parameters(cursor: &mut Cursor<'_>, alloc: Global, depth: u8) -> Result<Items
     Ok(parameters)
 }
 
-/// Parameters, and the end of their brackets.
+/// Parameters, and the closing bracket.
 #[tactic(auto, unfolding(tm_expressions::specs::Grammar::items))]
 fn listed_parameters(
     cursor: &mut Cursor<'_>,
@@ -211,7 +212,7 @@ fn listed_parameters(
     Ok(parameters)
 }
 
-/// More parameters, each after a comma.
+/// The other parameters, each after a comma.
 #[tactic(auto, using(tm_expressions::proofs::Loops::commas))]
 fn more_parameters(
     cursor: &mut Cursor<'_>,
@@ -229,7 +230,7 @@ fn more_parameters(
     Ok(parameters)
 }
 
-/// A parameter, at the end of others.
+/// A parameter, pushed on the others.
 fn one_parameter(
     cursor: &mut Cursor<'_>,
     alloc: Global,
@@ -243,7 +244,7 @@ fn one_parameter(
     with_one(parameters, parameter)
 }
 
-/// A parameter's name, and its default or none.
+/// The name of a parameter, and its default, if any.
 #[tactic(auto, unfolding(crate::specs::Statements::parameter))]
 fn parameter(cursor: &mut Cursor<'_>, alloc: Global, depth: u8) -> Result<Parameter, Error>
     ensures { Parses result cursor.new ((parameter (inside depth)).reads cursor.old) }
@@ -253,7 +254,7 @@ fn parameter(cursor: &mut Cursor<'_>, alloc: Global, depth: u8) -> Result<Parame
     Ok(Parameter { name, default })
 }
 
-/// The default of a parameter, if it stands there.
+/// The default of a parameter, if there is one.
 #[tactic(auto, unfolding(crate::specs::Statements::default_value))]
 fn default_value(
     cursor: &mut Cursor<'_>,
@@ -268,8 +269,8 @@ fn default_value(
     Ok(None)
 }
 
-/// What a call with a body calls: a block is a method of `self`, since it is passed this.
-/// OutOfMemory when out of memory.
+/// The callee of a call with a body. A block becomes a method of `self`, since it gets `caller` as
+/// an argument. OutOfMemory if memory runs out.
 fn with_caller(alloc: Global, call: Boxed<Expr>) -> Result<Boxed<Expr>, Error>
     ensures { MatchResult result
         (λ made. made ≡ statements.with_caller call)
@@ -282,7 +283,7 @@ fn with_caller(alloc: Global, call: Boxed<Expr>) -> Result<Boxed<Expr>, Error>
     Ok(call)
 }
 
-/// The call of a method of `self` with nothing. OutOfMemory when out of memory.
+/// A call of a method of `self` without arguments. OutOfMemory if memory runs out.
 fn method_of_self(alloc: Global, name: Name) -> Result<Boxed<Expr>, Error>
     ensures { MatchResult result
         (λ made. made ≡ statements.method_of_self name)
@@ -299,7 +300,7 @@ fn method_of_self(alloc: Global, name: Name) -> Result<Boxed<Expr>, Error>
     boxed(alloc, Expr::Chain(on, steps))
 }
 
-/// Whether none of the parameters has a default.
+/// Whether no parameter has a default.
 fn have_no_default(parameters: &[Parameter]) -> bool
     ensures { result ≡ statements.have_no_default parameters.now }
 {
@@ -311,7 +312,7 @@ fn have_no_default(parameters: &[Parameter]) -> bool
     true
 }
 
-/// Whether no name is that of two parameters; AllocError when out of memory.
+/// Whether all parameters have different names. AllocError if memory runs out.
 fn has_distinct_names(alloc: Global, parameters: &[Parameter]) -> Result<bool, AllocError>
     ensures { IfOk result
         (λ distinct. distinct ≡ spec.are_distinct (parameter_names parameters.now)) }

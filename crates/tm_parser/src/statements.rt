@@ -21,11 +21,12 @@ use tm_items::Items;
 use tm_syntax::{AssignmentTarget, CaptureUse, ForLoop, Sign, Step, Stmt, Tag};
 use tm_values::Error;
 
-// Each function reads one rule, with `depth` nestings to go, and where `looping` with a loop around
-// it. SyntaxError where no tokens spell it. A statement is large, so it goes to the end of `body` at
-// once. What reads no statements inside is a call of its own: those inside stand on its frame else.
+// Each function parses one rule, with `depth` levels of nesting left, and inside a loop if
+// `looping`. SyntaxError if the tokens don't match the rule. A statement is large, so it is pushed
+// on `body` at once. Functions that parse no nested statements aren't inlined, so that their locals
+// take no room in the frames of those that do.
 
-/// Statements inside one nesting more.
+/// Statements one nesting level deeper.
 #[cycle(statements)]
 #[tactic(auto, using(crate::proofs::Nesting::statements))]
 pub fn inner_body(
@@ -42,7 +43,7 @@ pub fn inner_body(
     body(cursor, alloc, depth - 1, looping)
 }
 
-/// What stands after the body of an `if`, inside one nesting more.
+/// The rest of an `if` after its body, one nesting level deeper.
 #[cycle(statements)]
 #[tactic(auto, using(crate::proofs::Nesting::statements))]
 fn inner_rest(
@@ -59,7 +60,7 @@ fn inner_rest(
     rest(cursor, alloc, depth - 1, looping)
 }
 
-/// An else part or none, up to this end tag, inside one nesting more.
+/// An optional else part, up to this end tag, one nesting level deeper.
 #[cycle(statements)]
 #[tactic(auto, using(crate::proofs::Nesting::statements))]
 fn inner_else_or_end(
@@ -95,8 +96,8 @@ pub fn body(
     Ok(body)
 }
 
-/// The statement after its start, at the end of others. Most are raw texts and emissions: they
-/// go to their place at once, since a statement is large.
+/// A statement after its start, pushed on `body`. Most are raw texts and emissions, which are
+/// pushed directly, since a statement is large.
 #[cycle(statements)]
 #[inline(always)]
 fn one_statement(
@@ -118,7 +119,7 @@ fn one_statement(
     }
 }
 
-/// An emission, at the end of others.
+/// An emission, pushed on `body`.
 #[inline(always)]
 #[tactic(auto, unfolding(crate::specs::Statements::emission))]
 fn emission(
@@ -135,7 +136,7 @@ fn emission(
     add_emission(body, value)
 }
 
-/// The statement after its tag, at the end of others.
+/// A statement after its tag, pushed on `body`.
 #[cycle(statements)]
 #[inline(never)]
 fn tag_statement(
@@ -171,7 +172,7 @@ fn tag_statement(
     }
 }
 
-/// The condition of an `if`, its body, and all up to its end tag.
+/// The condition of an `if`, its body, and the rest up to its end tag.
 #[cycle(statements)]
 #[tactic(auto, unfolding(crate::specs::Statements::if_tag))]
 #[inline(never)]
@@ -192,7 +193,7 @@ fn if_tag(
     add_one(body, Stmt::If(condition, inner, other))
 }
 
-/// What stands after the body of an `if`, up to its end tag: the else part, or none.
+/// The rest of an `if` after its body, up to its end tag: an optional else part.
 #[cycle(statements)]
 #[tactic(auto, unfolding(crate::specs::Statements::rest))]
 fn rest(
@@ -210,7 +211,7 @@ fn rest(
     else_or_end(cursor, alloc, depth, Tag::Endif, looping)
 }
 
-/// An else part that is one `if`.
+/// An else part that is an `elif`.
 #[cycle(statements)]
 #[tactic(auto, unfolding(crate::specs::Statements::elif_tag))]
 fn elif_tag(
@@ -230,7 +231,7 @@ fn elif_tag(
     Ok(Some(part))
 }
 
-/// An else part or none, and this end tag.
+/// An optional else part, and this end tag.
 #[cycle(statements)]
 #[tactic(auto, unfolding(crate::specs::Statements::else_or_end))]
 fn else_or_end(
@@ -298,8 +299,7 @@ fn ended_body(
     Ok(body)
 }
 
-/// The target of a `for`, what it goes over, its condition, whether it can be called, its body,
-/// and all up to its end tag.
+/// The target of a `for`, its head, its body, and the rest up to its end tag.
 #[cycle(statements)]
 #[tactic(auto, unfolding(crate::specs::Statements::for_tag))]
 #[inline(never)]
@@ -319,8 +319,7 @@ fn for_tag(
     for_body(cursor, alloc, depth, looping, target, head, body)
 }
 
-/// The body of a `for`, and all up to its end tag. Around its else part is no other loop than
-/// around it.
+/// The body of a `for`, and the rest up to its end tag. The else part isn't inside the loop.
 #[cycle(statements)]
 #[tactic(auto, unfolding(crate::specs::Statements::for_body))]
 fn for_body(
@@ -368,7 +367,7 @@ fn continue_tag(cursor: &mut Cursor<'_>, looping: bool, body: &mut Items<Stmt>) 
     add_one(body, Stmt::Continue)
 }
 
-/// The end of a tag of one word, whose statement stands nowhere but inside a loop.
+/// The end of a tag of one word that is allowed only inside a loop.
 fn jump(cursor: &mut Cursor<'_>, looping: bool) -> Result<(), Error>
     ensures { Parses result cursor.new ((provided looping block_end).reads cursor.old) }
 {
@@ -445,7 +444,7 @@ fn set_block(
     )
 }
 
-/// The end of a tag and a body whose text is filtered and used, up to this end tag.
+/// The end of a tag, a body whose text is filtered and used, and this end tag.
 #[cycle(statements)]
 #[tactic(auto, unfolding(crate::specs::Statements::captured))]
 #[inline(always)]
@@ -515,7 +514,7 @@ fn with_tag(
     add_one(body, Stmt::With(given, inner))
 }
 
-/// What an `autoescape` escapes as, and its body, up to its end tag.
+/// The escape of an `autoescape` and its body, up to its end tag.
 #[cycle(statements)]
 #[tactic(auto, unfolding(crate::specs::Statements::autoescape_tag))]
 #[inline(never)]

@@ -1,4 +1,4 @@
-//! What statements take from the tokens beside expressions: starts, tags and words.
+//! The parts of statements that aren't expressions: starts, tags and words.
 ghost use Rattle.std.specs.Prelude.{◌≡◌, ◌∷◌, [], MatchResult};
 ghost use Rattle.tm_expressions.specs.Parses.{Parses, TakesFirst, TakesSign};
 ghost use Rattle.tm_parser.specs.Statements as statements;
@@ -10,10 +10,10 @@ use tm_expressions::{Cursor, refusal};
 use tm_syntax::{Name, RawText, Sign, Tag, Token};
 use tm_values::{Error, ErrorKind};
 
-/// What a statement begins with.
+/// The start of a statement.
 #[derive(Drop)]
 pub enum Start {
-    /// A raw text, which is all of it.
+    /// A raw text, which is a whole statement.
     Raw(RawText),
     /// The start of an emission.
     Emit,
@@ -21,7 +21,7 @@ pub enum Start {
     Tag(Tag),
 }
 
-/// Whether the tag begins a statement. The others continue one or end it.
+/// Whether the tag begins a statement. The other tags continue or end one.
 fn begins_statement(tag: Tag) -> bool
     ensures { result ≡ statements.begins_statement tag }
 {
@@ -41,7 +41,7 @@ fn begins_statement(tag: Tag) -> bool
     }
 }
 
-/// Takes what a statement begins with. OutOfMemory where a raw text can have no second owner.
+/// Takes the start of a statement. OutOfMemory if a raw text can't have a second owner.
 pub fn take_start(cursor: &mut Cursor<'_>) -> Result<Option<Start>, Error>
     ensures { MatchResult result
         (λ start. TakesFirst start cursor.old cursor.new (first_sees a_start cursor.old))
@@ -61,7 +61,7 @@ pub fn take_start(cursor: &mut Cursor<'_>) -> Result<Option<Start>, Error>
     Ok(Some(start))
 }
 
-/// Takes this tag.
+/// Takes this tag, if it comes next.
 pub fn take_tag(cursor: &mut Cursor<'_>, tag: Tag) -> bool
     ensures { TakesSign result cursor.old cursor.new (first_sees (is_tag tag) cursor.old) }
 {
@@ -74,7 +74,7 @@ pub fn take_tag(cursor: &mut Cursor<'_>, tag: Tag) -> bool
     }
 }
 
-/// Takes the name that is this word.
+/// Takes the name that is this word, if it comes next.
 pub fn take_word(cursor: &mut Cursor<'_>, word: &str) -> bool
     ensures { TakesSign result cursor.old cursor.new (first_sees (is_word word.now) cursor.old) }
 {
@@ -87,7 +87,7 @@ pub fn take_word(cursor: &mut Cursor<'_>, word: &str) -> bool
     }
 }
 
-/// Takes this tag, which has to stand first.
+/// Takes this tag, which must come next.
 pub fn expect_tag(cursor: &mut Cursor<'_>, tag: Tag) -> Result<(), Error>
     ensures { Parses result cursor.new ((token (is_tag tag)).reads cursor.old) }
 {
@@ -98,7 +98,7 @@ pub fn expect_tag(cursor: &mut Cursor<'_>, tag: Tag) -> Result<(), Error>
     }
 }
 
-/// Takes this tag with nothing but its word, which has to stand first.
+/// Takes this tag, which must come next and consist of its word only.
 pub fn expect_lone(cursor: &mut Cursor<'_>, tag: Tag) -> Result<(), Error>
     ensures { Parses result cursor.new ((lone tag).reads cursor.old) }
 {
@@ -106,7 +106,7 @@ pub fn expect_lone(cursor: &mut Cursor<'_>, tag: Tag) -> Result<(), Error>
     cursor.expect(Sign::BlockEnd)
 }
 
-/// Takes the name that is this word, which has to stand first.
+/// Takes the name that is this word, which must come next.
 pub fn expect_word(cursor: &mut Cursor<'_>, word: &str) -> Result<(), Error>
     ensures { Parses result cursor.new ((token (is_word word.now)).reads cursor.old) }
 {
@@ -117,7 +117,7 @@ pub fn expect_word(cursor: &mut Cursor<'_>, word: &str) -> Result<(), Error>
     }
 }
 
-/// Takes a name, if one stands first: it has to be this one.
+/// Takes a name if one comes next; it must be this one.
 pub fn expect_same(cursor: &mut Cursor<'_>, name: &Name) -> Result<(), Error>
     ensures { Parses result cursor.new ((same_name name.now).reads cursor.old) }
 {

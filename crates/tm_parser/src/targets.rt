@@ -1,4 +1,4 @@
-//! What assignments and loops give values to.
+//! The targets of assignments and loops.
 ghost use Rattle.std.specs.Prelude.{◌≡◌, [], IfSome, MatchResult, None, Some, is_some};
 ghost use Rattle.tm_expressions.specs.Parses.{Parses, TakesFirst, TakesSign};
 ghost use Rattle.tm_values.specs.Answer.{Refused};
@@ -17,9 +17,10 @@ use tm_items::{Boxed, Items};
 use tm_syntax::{AssignmentTarget, Expr, Name, Sign, Step, Token};
 use tm_values::Error;
 
-// Each function reads one rule, with `depth` nestings to go. SyntaxError where no tokens spell it.
+// Each function parses one rule, with `depth` levels of nesting left. SyntaxError if the tokens
+// don't match the rule.
 
-/// A target inside one nesting more.
+/// A target one nesting level deeper.
 #[cycle(targets)]
 #[tactic(auto, using(crate::proofs::Nesting::targets))]
 #[inline(never)]
@@ -36,7 +37,7 @@ pub fn inner_target(
     target(cursor, alloc, depth - 1)
 }
 
-/// One target, or several between commas.
+/// One target, or several separated by commas.
 #[cycle(targets)]
 #[tactic(auto, unfolding(tm_expressions::specs::Grammar::target))]
 #[inline(never)]
@@ -50,7 +51,7 @@ pub fn target(cursor: &mut Cursor<'_>, alloc: Global, depth: u8) -> Result<Assig
     several(cursor, alloc, depth, first)
 }
 
-/// Several targets after the first one, with a comma after the last one or none.
+/// Several targets after the first one, with an optional comma at the end.
 #[cycle(targets)]
 #[tactic(auto, unfolding(tm_expressions::specs::Grammar::several))]
 fn several(
@@ -67,7 +68,7 @@ fn several(
     Ok(AssignmentTarget::Unpack(targets))
 }
 
-/// More targets, each after a comma.
+/// The other targets, each after a comma.
 #[cycle(targets)]
 #[tactic(auto, using(crate::proofs::Loops::target_commas))]
 fn more_targets(
@@ -85,7 +86,7 @@ fn more_targets(
     Ok(targets)
 }
 
-/// A target, at the end of others.
+/// A target, pushed on the others.
 #[cycle(targets)]
 fn one_target(
     cursor: &mut Cursor<'_>,
@@ -100,7 +101,7 @@ fn one_target(
     with_one(targets, target)
 }
 
-/// A target with no comma outside brackets.
+/// A target without commas outside of brackets.
 #[cycle(targets)]
 #[tactic(auto, unfolding(tm_expressions::specs::Grammar::single))]
 fn single(cursor: &mut Cursor<'_>, alloc: Global, depth: u8) -> Result<AssignmentTarget, Error>
@@ -135,7 +136,7 @@ fn target_steps(cursor: &mut Cursor<'_>, alloc: Global, depth: u8) -> Result<Ite
     Ok(steps)
 }
 
-/// Takes what goes on with a target.
+/// Takes a sign that continues a target.
 fn take_target_link(cursor: &mut Cursor<'_>) -> Option<Link>
     ensures first { TakesFirst result cursor.old cursor.new (first_sees a_target_link cursor.old) }
     ensures operator { IfSome result (λ link. role_of link ≡ None) }
@@ -152,7 +153,7 @@ fn take_target_link(cursor: &mut Cursor<'_>) -> Option<Link>
     }
 }
 
-/// Takes a comma, unless what ends a target stands after it.
+/// Takes a comma, unless the end of the target follows it.
 fn take_target_comma(cursor: &mut Cursor<'_>) -> bool
     ensures { TakesSign result cursor.old cursor.new (target_comma.sees cursor.old) }
 {
@@ -165,7 +166,7 @@ fn take_target_comma(cursor: &mut Cursor<'_>) -> bool
     }
 }
 
-/// Whether what stands after a target stands first.
+/// Whether the next token ends a target.
 fn ends_target(rest: &[Token]) -> bool
     ensures { result ≡ is_some (first_sees ends_target rest.now) }
 {
@@ -178,7 +179,7 @@ fn ends_target(rest: &[Token]) -> bool
     }
 }
 
-/// How a sign goes on with a target, which a bar ends.
+/// How a sign continues a target. A bar ends one.
 fn target_link(sign: Sign) -> Option<Link>
     ensures at { result ≡ tokens.target_link sign }
     ensures operator { IfSome result (λ link. role_of link ≡ None) }
@@ -192,7 +193,7 @@ fn target_link(sign: Sign) -> Option<Link>
     }
 }
 
-/// What a value and its steps are as a target. SyntaxError where they are none, OutOfMemory.
+/// A value and its steps as a target. SyntaxError if they aren't one; OutOfMemory.
 #[tactic(auto, using(crate::proofs::Nesting::members))]
 fn target_of(
     alloc: Global,
@@ -213,7 +214,7 @@ fn target_of(
     Ok(AssignmentTarget::Attribute(chained(alloc, value, steps)?, name))
 }
 
-/// What a value is as a target. SyntaxError where it is none; OutOfMemory.
+/// A value as a target. SyntaxError if it isn't one; OutOfMemory.
 fn lone_target(value: &Expr) -> Result<AssignmentTarget, Error>
     ensures { MatchResult result
         (λ target. grammar.lone_target value.now ≡ Some target)
@@ -233,7 +234,7 @@ fn lone_target(value: &Expr) -> Result<AssignmentTarget, Error>
     }
 }
 
-/// The name of an attribute; none of another step.
+/// The name of an attribute; None for another step.
 fn attribute_name(step: Step) -> Option<Name>
     ensures { result ≡ grammar.attribute_name step }
 {

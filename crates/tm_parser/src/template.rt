@@ -15,8 +15,7 @@ use tm_values::Error;
 /// How many brackets, prefixes, else parts and tags may be open at once.
 const NESTINGS: u8 = 150;
 
-/// The tree of the template that the tokens spell. SyntaxError where they spell none; OutOfMemory for want
-/// of memory.
+/// Parses the tokens of a template. SyntaxError if they aren't one. OutOfMemory if memory runs out.
 pub fn parse_tokens(alloc: Global, tokens: &[Token]) -> Result<Tree, Error>
     ensures found { IfOk result (SpellsTemplate tokens.now) }
     ensures refused { IfErr result (λ e. Refused e (SpellsNoTemplate tokens.now)) }
@@ -32,8 +31,8 @@ pub fn parse_tokens(alloc: Global, tokens: &[Token]) -> Result<Tree, Error>
     Ok(Tree::Statements(statements))
 }
 
-/// The tree of the expression that the tokens spell. SyntaxError where they spell none; OutOfMemory for want
-/// of memory.
+/// Parses the tokens of an expression. SyntaxError if they aren't one. OutOfMemory if memory runs
+/// out.
 pub fn parse_expr_tokens(alloc: Global, tokens: &[Token]) -> Result<Tree, Error>
     ensures found { IfOk result (SpellsExpression tokens.now) }
     ensures refused { IfErr result (λ e. Refused e (SpellsNoExpression tokens.now)) }
@@ -47,13 +46,13 @@ pub fn parse_expr_tokens(alloc: Global, tokens: &[Token]) -> Result<Tree, Error>
     }
 }
 
-/// Tokens spell at most one template's tree.
+/// Tokens have at most one tree as a template.
 pub fn one_tree()
     ensures { (tokens : List Token) (a b : Tree) →
         SpellsTemplate tokens a → SpellsTemplate tokens b → a ≡ b }
 {}
 
-/// Tokens spell at most one expression's tree.
+/// Tokens have at most one tree as an expression.
 pub fn one_expr()
     ensures { (tokens : List Token) (a b : Tree) →
         SpellsExpression tokens a → SpellsExpression tokens b → a ≡ b }

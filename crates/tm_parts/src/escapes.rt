@@ -1,10 +1,10 @@
-//! What `autoescape` sets.
+//! The escapes that `autoescape` sets.
 ghost use Rattle.std.specs.Prelude.{◌≡◌};
 ghost use Rattle.tm_meaning.specs.World as spec;
 
 use tm_values::{AutoEscape, Error, ErrorKind, Value};
 
-/// The escape of a name; InvalidOperation where there is none of it.
+/// The escape of that name. InvalidOperation if there is none.
 fn named(name: &str) -> Result<AutoEscape, Error>
     ensures { result ≡ spec.escape_named name.now }
 {
@@ -16,7 +16,7 @@ fn named(name: &str) -> Result<AutoEscape, Error>
     }
 }
 
-/// The escape at a run's start, or Html where there was none.
+/// The escape at a run's start, or Html if there was none.
 fn switched_on(first: AutoEscape) -> AutoEscape
     ensures { result ≡ spec.switched_on first }
 {
@@ -26,9 +26,9 @@ fn switched_on(first: AutoEscape) -> AutoEscape
     }
 }
 
-/// The escape that a value of `autoescape` stands for, in a run that began with `first`: a text
-/// names it, what equals true switches it on, and all else switches it off. InvalidOperation where
-/// a text names none.
+/// The escape that a value of `autoescape` selects, in a run that began with `first`. A text names
+/// it; a value equal to true switches it on; any other value switches it off. InvalidOperation if
+/// no escape has that name.
 pub fn escape_for(first: AutoEscape, value: &Value) -> Result<AutoEscape, Error>
     ensures { result ≡ spec.escape_for first value.now }
 {

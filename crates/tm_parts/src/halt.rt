@@ -4,11 +4,11 @@ use tm_values::{Error, ErrorKind};
 /// Why a run stops before its end.
 #[derive(Drop)]
 pub enum Halt {
-    /// The writer failed, or took nothing.
+    /// The writer failed, or accepted no bytes.
     Writer,
-    /// The stream can't go on: no compiler wrote it.
+    /// The stream got stuck: the compiler didn't write it.
     Stuck,
-    /// A fault, or out of memory.
+    /// A fault, or memory ran out.
     Fault(Error),
 }
 
@@ -29,7 +29,7 @@ impl From<Halt> for Error {
 
     ghost from_gives = { λ halt error. error ≡ error_of halt };
 
-    /// What a caller gets: WriteFailure without a cause, BadStream, or the fault itself.
+    /// The error for the caller: WriteFailure without a cause, BadStream, or the fault itself.
     fn from(halt: Halt) -> Error {
         match halt {
             Halt::Writer => Error::from(ErrorKind::WriteFailure),

@@ -1,4 +1,5 @@
-//! Parts of a machine: its operands and operators, where its text goes and how it is escaped, and why it may stop.
+//! Parts of the machine: the operand stack and the operators, the output and its escapes, and the
+//! reasons why a run stops.
 #![tactic(auto)]
 
 mod escapes;

@@ -1,4 +1,4 @@
-//! What operators give.
+//! The operators.
 ghost use Rattle.std.specs.Prelude.{◌≡◌, IfErr, IfOk, IfSome, [], ◌∷◌};
 ghost use Rattle.tm_parts.specs.Operate.{Calculates};
 ghost use Rattle.tm_values.specs.Val.{number};
@@ -17,7 +17,7 @@ use tm_printing::concatenate_to;
 use tm_syntax::{BinaryOperator, UnaryOperator};
 use tm_values::{Error, Node, Records, UndefinedBehavior, Value};
 
-/// What a prefix operator gives of a value, or why it gives nothing.
+/// The result of a prefix operator, or its error.
 pub fn unary(
     alloc: Global,
     operator: UnaryOperator,
@@ -32,7 +32,7 @@ pub fn unary(
     }
 }
 
-/// What an operator gives of two values, or why it gives nothing. The left one is used up.
+/// The result of a binary operator, or its error. Takes the left value.
 pub fn binary<R: Records>(
     alloc: Global,
     operator: BinaryOperator,
@@ -71,7 +71,7 @@ pub fn binary<R: Records>(
     Ok(Value::boolean(compare(comparison, &left, right, undefined)?))
 }
 
-/// What an operator gives of two numbers, where it needs no more than them.
+/// The result of an operator on two numbers, if it depends on nothing else.
 #[inline(always)]
 pub(crate) fn binary_at_once(operator: BinaryOperator, left: &Value, right: &Value) -> Option<Value>
     ensures { IfSome result (λ v. Calculates operator left.now right.now v) }
@@ -107,7 +107,8 @@ fn of_numbers(operator: BinaryOperator, left: i128, right: i128) -> Option<Value
     Some(Value::boolean(comparison.is_met(left.cmp(&right))))
 }
 
-/// Keys, each with the value after it; a last key without one is dropped. Fails by OutOfMemory alone.
+/// Keys, each with the value after it. A last key without a value is dropped. OutOfMemory is the
+/// only error.
 pub fn paired(alloc: Global, values: Vec<Value>) -> Result<Vec<(Value, Value)>, Error>
     ensures ok { IfOk result (λ pairs. pairs.items ≡ instructions.paired values.items) }
     ensures kind { IfErr result (λ e. e ≡ OutOfMemory ∷ []) }

@@ -1,4 +1,4 @@
-//! Output: captures that take a text before the writer does.
+//! Output: captures that receive text before the writer does.
 ghost use Rattle.std.specs.Prelude.{◌≡◌, ◌≢◌, ◌⊎◌, ◌↔◌, ℕ, Bool, IsTrue, [], ◌∷◌, length, take, None, Err, IsOk, IsSome, OnOk};
 ghost use Rattle.std.specs.Prelude.{OnErr, IfErr};
 ghost use Rattle.std.specs.Prelude.{MatchOption, not, string_bytes};
@@ -25,7 +25,7 @@ use tm_printing::{Unwritten, emit, emit_at_once};
 use tm_syntax::CaptureMode;
 use tm_values::{AutoEscape, Error, ErrorKind, Records, Value};
 
-/// A text that waits for its capture's end, and what becomes of it there.
+/// The text of an open capture, and what happens to it at the end.
 #[derive(Drop)]
 struct Capture {
     mode: CaptureMode,
@@ -42,13 +42,14 @@ impl Model for Capture {
     ghost view = { λ capture. record { heard = is_heard capture.mode; text = string_bytes capture.text } };
 }
 
-/// The open captures, and texts whose room the next ones take. A contract sees the open ones, innermost first.
+/// The open captures, and buffers that new captures reuse. A contract sees the open captures,
+/// innermost first.
 pub struct Captures {
     open: Vec<Capture>,
     spare: Vec<String>,
 }
 
-// By hand: one call for each owner, in place of a drop of each part.
+// By hand: one call for each owner, instead of a drop of each part.
 impl Drop for Captures {
     fn drop(self) {
         let Captures {
@@ -83,14 +84,14 @@ impl Captures {
         *self.open.allocator()
     }
 
-    /// How many captures are open.
+    /// The number of open captures.
     pub fn depth(&self) -> usize
         ensures { result ≡ length self.now }
     {
         self.open.len()
     }
 
-    /// Whether none is open.
+    /// Whether no capture is open.
     #[inline(always)]
     pub fn is_empty(&self) -> bool
         ensures { IsTrue result ↔ (self.now ≡ []) }
@@ -98,7 +99,7 @@ impl Captures {
         self.open.is_empty()
     }
 
-    /// Whether the innermost capture takes what is written; so it is where none is open.
+    /// Whether the innermost capture receives what is written; true if none is open.
     pub fn is_heard(&self) -> bool
         ensures { result ≡ first_heard self.now }
     {
@@ -108,8 +109,7 @@ impl Captures {
         }
     }
 
-    /// Opens a capture without text; where there is no memory, OutOfMemory, and all stays as it
-    /// was.
+    /// Opens an empty capture. OutOfMemory if memory runs out; then nothing changes.
     pub fn begin(&mut self, alloc: Global, mode: CaptureMode) -> Result<(), Error>
         ensures ok { OnOk result (self.new ≡ new_capture (is_heard mode) ∷ self.old) }
         ensures kind { IfErr result (λ e. e ≡ OutOfMemory ∷ []) }
@@ -120,7 +120,7 @@ impl Captures {
         Ok(())
     }
 
-    /// A text without bytes, in a room that was handed back where one is left.
+    /// An empty text, in a returned buffer if there is one.
     fn room(&mut self, alloc: Global) -> String
         ensures empty { string_bytes result ≡ [] }
         ensures same { self.new ≡ self.old }
@@ -134,16 +134,16 @@ impl Captures {
         }
     }
 
-    /// Takes back the room of a closed capture's text, for the next one.
+    /// Takes back the buffer of a closed capture, for the next one.
     pub fn keep_room(&mut self, text: String)
         ensures { self.new ≡ self.old }
     {
-        // Where no memory is left for it, it is dropped.
+        // If memory runs out, the buffer is dropped.
         let _kept = self.spare.push(text).is_ok();
     }
 
-    /// Closes the innermost capture and gives its text, and what becomes of that, where one is
-    /// open.
+    /// Closes the innermost capture, and returns its text and what happens to it. None if no
+    /// capture is open.
     pub fn end(&mut self) -> Option<(CaptureMode, String)>
         ensures { MatchOption result ((self.old ≡ []) × (self.new ≡ []))
             (λ ended. self.old ≡
@@ -153,9 +153,9 @@ impl Captures {
         Some((mode, text))
     }
 
-    /// Puts a text into the innermost capture, and writes it where none is open. `Writer` where the
-    /// writer fails or takes nothing, OutOfMemory where a capture finds no memory; then the
-    /// captures stay as they were.
+    /// Appends a text to the innermost capture, or writes it if none is open. `Writer` if the
+    /// writer fails or accepts no bytes. OutOfMemory if memory runs out for a capture; then the
+    /// captures are unchanged.
     pub fn write_str<W: Sink>(&mut self, writer: &mut W, text: &str) -> Result<(), Halt>
         ensures captured { OnOk result (self.new ≡ put_in self.old text.now) }
         ensures written { OnOk result (Appends (W.told writer.old).bytes (W.told writer.new).bytes
@@ -186,11 +186,11 @@ impl Captures {
 }
 
 impl Captures {
-    /// Puts what is emitted for a value into the innermost capture, and writes it where none is
-    /// open, piece by piece; what `check_emission` refuses is emitted in no form. `Writer` where
-    /// the writer fails or takes nothing, OutOfMemory where a capture or a list of what is left to
-    /// write finds no memory; then a beginning of it was put, and the other captures stay as they
-    /// were.
+    /// Emits a value to the innermost capture, or to the writer if none is open, piece by piece.
+    /// Call `check_emission` first: the output for a value that it refuses is meaningless. `Writer`
+    /// if the writer fails or accepts no bytes. OutOfMemory if memory runs out for a capture or for
+    /// the work list; then a beginning of the text was emitted, and the other captures are
+    /// unchanged.
     pub fn emit<R: Records, W: Sink>(
         &mut self,
         writer: &mut W,
@@ -229,8 +229,8 @@ impl Captures {
 }
 
 impl Captures {
-    /// Puts a text into the innermost capture, where one is open and there is memory. Else all stays as it was, and the
-    /// answer is false.
+    /// Appends a text to the innermost capture, if one is open and there is memory. Otherwise
+    /// returns false and changes nothing.
     #[inline(always)]
     pub fn put_at_once(&mut self, text: &str) -> bool
         ensures { OrStays result self.old self.new
@@ -243,9 +243,9 @@ impl Captures {
         self.open[count - 1].text.push_str(text).is_ok()
     }
 
-    /// Puts what is emitted for a number or a text into the innermost capture, where one is open, under an escape that
-    /// refuses neither; of other values and escapes it puts nothing and answers none. TargetFailed where there is no
-    /// memory; then a beginning of it was put.
+    /// Emits a number or a text to the innermost capture, if one is open, under an escape that
+    /// never refuses it. For other values and escapes it emits nothing and returns None.
+    /// TargetFailed if memory runs out; then a beginning of the text was emitted.
     #[inline(always)]
     pub fn emit_at_once(
         &mut self,
@@ -264,7 +264,7 @@ impl Captures {
     }
 }
 
-/// A captured text as a value, safe where there is an escape. Fails by OutOfMemory alone.
+/// A captured text as a value, marked safe if there is an escape. OutOfMemory is the only error.
 pub fn captured_value(alloc: Global, content: &str, escape: AutoEscape) -> Result<Value, Error>
     ensures { OkOrOutOfMemory result (λ v. v ≡ text content.now (is_escaping escape)) }
 {
@@ -276,7 +276,7 @@ pub fn captured_value(alloc: Global, content: &str, escape: AutoEscape) -> Resul
     }
 }
 
-/// A writer, and the captures open above it.
+/// A writer, and the captures that are open on top of it.
 #[derive(Drop)]
 pub struct Output<W: Sink> {
     writer: W,
@@ -292,7 +292,7 @@ impl<W: Sink> Model for Output<W> {
 }
 
 impl<W: Sink> Output<W> {
-    /// This writer, with no capture open.
+    /// Output to this writer, with no capture open.
     pub fn new(alloc: Global, writer: W) -> Output<W>
         ensures { result ≡ record { writer = writer; captures = [] } }
     {
@@ -302,8 +302,8 @@ impl<W: Sink> Output<W> {
         }
     }
 
-    /// Puts a text into the innermost capture, and writes it where none is open; WriteFailure where
-    /// the writer fails or takes nothing, OutOfMemory where a capture finds no memory.
+    /// Appends a text to the innermost capture, or writes it if none is open. WriteFailure if the
+    /// writer fails or accepts no bytes. OutOfMemory if memory runs out for a capture.
     pub fn write_str(&mut self, text: &str) -> Result<(), Error>
         ensures captured { OnOk result (self.new.captures ≡ put_in self.old.captures text.now) }
         ensures written { OnOk result (Appends
@@ -325,8 +325,8 @@ impl<W: Sink> Output<W> {
         Ok(self.captures.write_str(&mut self.writer, text)?)
     }
 
-    /// Opens a capture, which takes what is written from here on. Where there is no memory, OutOfMemory, and all stays
-    /// as it was.
+    /// Opens a capture, which receives what is written from here on. OutOfMemory if memory runs
+    /// out; then nothing changes.
     pub fn begin_capture(&mut self, mode: CaptureMode) -> Result<(), Error>
         ensures ok { OnOk result (self.new ≡ record self.old
             { captures = new_capture (is_heard mode) ∷ self.old.captures }) }
@@ -337,8 +337,9 @@ impl<W: Sink> Output<W> {
         self.captures.begin(alloc, mode)
     }
 
-    /// Closes the innermost capture and gives its text, safe where there is an escape; undefined where its text was
-    /// dropped, and where none is open. OutOfMemory where there is no memory for the value; then the text is lost.
+    /// Closes the innermost capture and returns its text, marked safe if there is an escape.
+    /// Undefined if the capture dropped its text, or none is open. OutOfMemory if memory runs out
+    /// for the value; then the text is lost.
     pub fn end_capture(&mut self, escape: AutoEscape) -> Result<Value, Error>
         ensures value { OkOrOutOfMemory result
             (λ v. v ≡ ended_value escape self.old.captures) }
@@ -380,25 +381,25 @@ impl<W: Sink> Output<W> {
     }
 }
 
-/// A writer, and the error that it failed with, which an `Error` has no place for.
+/// A writer, and the error that it failed with, since an `Error` can't hold one.
 #[derive(Drop)]
 pub struct WriteWrapper<W: Sink> {
     /// The writer.
     pub w: W,
-    /// Its last error that was not taken out yet.
+    /// Its last error that wasn't taken yet.
     pub err: Option<io::Error>,
 }
 
 impl<W: Sink> WriteWrapper<W> {
-    /// This writer, with no error.
+    /// Wraps a writer, with no error.
     pub fn new(w: W) -> WriteWrapper<W>
         ensures { result ≡ record { w = w; err = None } }
     {
         WriteWrapper { w, err: None }
     }
 
-    /// Writes a text; WriteFailure where the writer fails or takes nothing, and its error is kept
-    /// in `err`.
+    /// Writes a text. WriteFailure if the writer fails or accepts no bytes; then its error is
+    /// stored in `err`.
     pub fn write_str(&mut self, text: &str) -> Result<(), Error>
         ensures written { OnOk result
             (Appends (W.told self.old.w).bytes (W.told self.new.w).bytes text.now) }
@@ -419,8 +420,8 @@ impl<W: Sink> WriteWrapper<W> {
         }
     }
 
-    /// Takes out what `err` holds: WriteFailure without a cause where it held an error, and else
-    /// the error that was given.
+    /// Takes the error in `err`. Returns WriteFailure without a cause if there was one, and
+    /// otherwise `original`.
     pub fn take_err(&mut self, original: Error) -> Error
         ensures writer { self.new.w ≡ self.old.w }
         ensures emptied { self.new.err ≡ None }

@@ -12,7 +12,7 @@ use std::marker::Model;
 use tm_syntax::BinaryOperator;
 use tm_values::{Error, ErrorKind, Node, Value};
 
-/// Operands. A contract sees a list, the topmost first.
+/// The operands. A contract sees a list, the topmost first.
 #[derive(Drop)]
 pub struct Stack {
     values: Vec<Value>,
@@ -31,7 +31,7 @@ impl Model for Stack {
     ghost view = { λ s. reverse s.values.items };
 }
 
-/// What a map has at a name, where it has it and a second owner can be counted.
+/// The member of a map at a name, if there is one and its owners can be counted.
 #[inline(always)]
 fn member_at_once(value: &Value, name: &str) -> Option<Value>
     ensures { IfSome result (λ v. Has value.now name.now v) }
@@ -43,7 +43,7 @@ fn member_at_once(value: &Value, name: &str) -> Option<Value>
 }
 
 impl Stack {
-    /// No operands.
+    /// An empty stack.
     pub fn new(alloc: Global) -> Stack
         ensures { result ≡ [] }
     {
@@ -52,34 +52,34 @@ impl Stack {
         }
     }
 
-    /// Values as operands, the last of them topmost.
+    /// The values as operands, the last one topmost.
     pub fn of(values: Vec<Value>) -> Stack
         ensures { result ≡ onto values.items [] }
     {
         Stack { values }
     }
 
-    /// The operands, in whose room there may be others.
+    /// The operands, as a vector whose capacity can be reused.
     pub fn into_values(self) -> Vec<Value> {
         let Stack { values } = self;
         values
     }
 
-    /// How many operands there are.
+    /// The number of operands.
     pub fn len(&self) -> usize
         ensures { result ≡ length self.now }
     {
         self.values.len()
     }
 
-    /// Whether there are no operands.
+    /// Whether the stack is empty.
     pub fn is_empty(&self) -> bool
         ensures { IsTrue result ↔ (self.now ≡ []) }
     {
         self.values.is_empty()
     }
 
-    /// Puts a value on top. Where there is no memory, OutOfMemory, and the stack stays as it was.
+    /// Pushes a value. OutOfMemory if memory runs out; then nothing changes.
     pub fn push(&mut self, value: Value) -> Result<(), Error>
         ensures ok { OnOk result (self.new ≡ value ∷ self.old) }
         ensures kind { IfErr result (λ e. e ≡ ErrorKind.OutOfMemory ∷ []) }
@@ -89,7 +89,7 @@ impl Stack {
         Ok(())
     }
 
-    /// Puts values on top, the first of them topmost. Fails by OutOfMemory alone.
+    /// Pushes a second owner of each value, the first one topmost. OutOfMemory is the only error.
     pub fn push_each(&mut self, values: &[Value]) -> Result<(), Error>
         ensures ok { OnOk result (self.new ≡ values.now ++ self.old) }
         ensures kind { IfErr result (λ e. e ≡ ErrorKind.OutOfMemory ∷ []) }
@@ -102,7 +102,7 @@ impl Stack {
         Ok(())
     }
 
-    /// Puts values on top, the last of them topmost. Fails by OutOfMemory alone.
+    /// Pushes values, the last one topmost. OutOfMemory is the only error.
     pub fn append(&mut self, values: Vec<Value>) -> Result<(), Error>
         ensures ok { OnOk result (self.new ≡ onto values.items self.old) }
         ensures kind { IfErr result (λ e. e ≡ ErrorKind.OutOfMemory ∷ []) }
@@ -113,8 +113,8 @@ impl Stack {
         Ok(())
     }
 
-    /// Puts a second owner of a value on top, where there is room. Else all stays as it was, and the answer is
-    /// false.
+    /// Pushes a second owner of a value, if there is capacity. Otherwise returns false and changes
+    /// nothing.
     #[inline(always)]
     pub fn push_shared(&mut self, value: &Value) -> bool
         ensures { OrStays result self.old self.new (self.new ≡ value.now ∷ self.old) }
@@ -135,8 +135,8 @@ impl Stack {
         }
     }
 
-    /// Puts what an operator gives of the two topmost values in their place, where both are numbers and it needs
-    /// no more than them. Else all stays as it was, and the answer is false.
+    /// Replaces the two topmost values by the result of an operator, if both are numbers and it
+    /// depends on nothing else. Otherwise returns false and changes nothing.
     #[inline(always)]
     pub fn operate(&mut self, operator: BinaryOperator) -> bool
         ensures { OrStays result self.old self.new (Operates operator self.old self.new) }
@@ -146,7 +146,7 @@ impl Stack {
         }
         let right = self.values.take_last();
         let left = self.values.take_last();
-        // There is room where they were taken from.
+        // The pops left room for it.
         match binary_at_once(operator, &left, &right) {
             Some(given) => {
                 self.values.push_reserved(given);
@@ -160,8 +160,8 @@ impl Stack {
         }
     }
 
-    /// Puts what the map on top has at a name in its place, where it has it. Else all stays as it was, and the
-    /// answer is false.
+    /// Replaces the map on top by its member at a name, if there is one. Otherwise returns false
+    /// and changes nothing.
     #[inline(never)]
     pub fn replace_by_member(&mut self, name: &str) -> bool
         ensures { OrStays result self.old self.new (TakesMember name.now self.old self.new) }
@@ -182,7 +182,7 @@ impl Stack {
         }
     }
 
-    /// Takes the truth value on top, where one is. Else all stays as it was.
+    /// Pops the truth value on top. None if there is none; then nothing changes.
     #[inline(always)]
     pub fn take_boolean(&mut self) -> Option<bool>
         ensures { MatchOption result (self.new ≡ self.old)
@@ -201,8 +201,8 @@ impl Stack {
         }
     }
 
-    /// Puts whether the topmost value is undefined in its place, where there is one. Else all stays as it was, and
-    /// the answer is false.
+    /// Replaces the topmost value by whether it is undefined. If the stack is empty, returns false
+    /// and changes nothing.
     #[inline(always)]
     pub fn test_undefined(&mut self) -> bool
         ensures { OrStays result self.old self.new (TestsUndefined self.old self.new) }
@@ -211,14 +211,14 @@ impl Stack {
             return false;
         }
         let top = self.values.take_last();
-        // There is room where it was taken from.
+        // The pop left room for it.
         self.values
             .push_reserved(Value::boolean(top.is_undefined()));
         true
     }
 
-    /// Puts a second owner of the topmost value on top, where there is one and room for it. Else all stays as it
-    /// was, and the answer is false.
+    /// Pushes a second owner of the topmost value, if there is one and there is capacity. Otherwise
+    /// returns false and changes nothing.
     #[inline(always)]
     pub fn double_top(&mut self) -> bool
         ensures { OrStays result self.old self.new (Doubles self.old self.new) }
@@ -238,7 +238,7 @@ impl Stack {
         }
     }
 
-    /// Drops the topmost value, where there is one.
+    /// Drops the topmost value, if there is one.
     #[inline(always)]
     pub fn drop_top(&mut self)
         ensures { self.new ≡ drop 1 self.old }
@@ -248,7 +248,7 @@ impl Stack {
         }
     }
 
-    /// Takes the topmost value, where there is one.
+    /// Pops the topmost value, if there is one.
     pub fn pop(&mut self) -> Option<Value>
         ensures { MatchOption result ((self.old ≡ []) × (self.new ≡ []))
             (λ v. self.old ≡ v ∷ self.new) }
@@ -256,14 +256,15 @@ impl Stack {
         self.values.pop()
     }
 
-    /// The topmost value, where there is one.
+    /// The topmost value, if there is one.
     pub fn peek(&self) -> Option<&Value>
         ensures { MatchOption result (self.now ≡ []) (λ v. (rest : _) × (self.now ≡ v.now ∷ rest)) }
     {
         self.values.last()
     }
 
-    /// Puts a value in place of the topmost, which it gives back, where there is one.
+    /// Replaces the topmost value and returns the old one. None if the stack is empty; then nothing
+    /// changes.
     pub fn replace(&mut self, value: Value) -> Option<Value>
         ensures { MatchOption result ((self.old ≡ []) × (self.new ≡ []))
             (λ v. (rest : List Val) × (self.old ≡ v ∷ rest) × (self.new ≡ value ∷ rest)) }
@@ -274,7 +275,7 @@ impl Stack {
         Some(replaced)
     }
 
-    /// The topmost so many values, the lowest first, where there are so many.
+    /// The `count` topmost values, the lowest first. None if there are fewer.
     pub fn args(&self, count: usize) -> Option<&[Value]>
         ensures { MatchOption result (taken count [] self.now ≡ None)
             (λ args. taken count [] self.now ≡ Some (args.now, drop count self.now)) }
@@ -286,8 +287,8 @@ impl Stack {
         Some(&self.values[held - count..])
     }
 
-    /// Takes the topmost so many values, the lowest first, where there are so many, and else none.
-    /// Fails by OutOfMemory alone; then the stack stays as it was.
+    /// Pops the `count` topmost values, the lowest first. None if there are fewer. OutOfMemory is
+    /// the only error; then nothing changes.
     pub fn take(&mut self, count: usize) -> Result<Option<Vec<Value>>, Error>
         ensures taken { MatchResult result
             (λ values. MatchOption values (taken count [] self.old ≡ None)
@@ -303,7 +304,8 @@ impl Stack {
         Ok(Some(self.values.split_off(held - count)?))
     }
 
-    /// Puts a value in the place of the topmost so many, or of all where there are fewer. Fails by OutOfMemory alone.
+    /// Replaces the `count` topmost values, or all if there are fewer, by a value. OutOfMemory is
+    /// the only error.
     #[inline(always)]
     pub fn replace_topmost(&mut self, count: usize, value: Value) -> Result<(), Error>
         ensures ok { OnOk result (self.new ≡ value ∷ drop count self.old) }
@@ -311,7 +313,7 @@ impl Stack {
     {
         if count == 1 && !self.values.is_empty() {
             let _replaced = self.values.take_last();
-            // There is room where it was taken from.
+            // The pop left room for it.
             self.values.push_reserved(value);
             return Ok(());
         }
@@ -319,7 +321,7 @@ impl Stack {
         self.push(value)
     }
 
-    /// Drops the topmost so many values, or all where there are fewer.
+    /// Drops the `count` topmost values, or all if there are fewer.
     pub fn remove(&mut self, count: usize)
         ensures { self.new ≡ drop count self.old }
     {

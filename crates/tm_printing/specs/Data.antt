@@ -1,4 +1,4 @@
--- What is left of a list or a map, as it is written as JSON.
+-- What is left of a list or a map, written as JSON.
 use Rattle.std.specs.Prelude.{◌≡◌, ℕ, ◌≤◌, ◌*◌, true, List, [], ◌∷◌, ◌++◌, Some, None, Ok}
 use Rattle.serde_json.specs.Data as json
 use Rattle.serde_json.specs.Written.{compact_text, items_text, members_text}
@@ -39,7 +39,7 @@ IsNextJsonLighter x (next.Value before step) = IsLighter (Ok (Some step)) x
 IsNextJsonLighter x (next.Keyed before key step) = IsLighter (Ok (Some step)) x
 IsNextJsonLighter x (next.End closing) = IsLighter (Ok None) x
 
--- of a value without parts; what has parts is opened, where it is there
+-- for a value without parts; other values are opened, if they have a record
 abbrev pub leaf_json : Val → List ℕ
 leaf_json (list vs) = []
 leaf_json (map ps) = []

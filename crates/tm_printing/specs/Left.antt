@@ -1,4 +1,4 @@
--- What is left to write of lists and maps that are being written, and how much that is.
+-- What is left to write of the open lists and maps, and its weight.
 use Rattle.std.specs.Prelude.{◌≡◌, ℕ, zero, suc, ◌+◌, ◌*◌, ◌<◌, ◌≤◌, List, [], ◌∷◌, ◌++◌, take, Option, None, Some, Result, Ok, Err}
 use Rattle.tm_output.specs.declared.target.TargetFailed.{TargetFailed}
 use Rattle.tm_values.specs.Records.{RecordData}
@@ -9,19 +9,20 @@ use Rattle.tm_printing.specs.declared.rest.NextValue.{NextValue}
 use Rattle.tm_printing.specs.declared.rest.Unwritten.{Unwritten}
 use Rattle.tm_printing.specs.declared.rest.Unwritten.TheVariants as unwritten
 
--- of a value in which namespaces are entered so many levels deep, and of what is left of one
+-- the text of a value in which namespaces are entered to the given depth, and that of what is left
+-- of one
 abbrev pub ValueText : Type 0
 ValueText = RecordData → ℕ → Val → List ℕ
 
 abbrev pub RestText : Type 0
 RestText = RecordData → Rest → List ℕ
 
--- of all that are open; the innermost stands last
+-- the text of everything that is open; the innermost comes last in the list
 abbrev pub left_text : (Rest → List ℕ) → List Rest → List ℕ
 left_text text [] = []
 left_text text (x ∷ xs) = left_text text xs ++ text x
 
--- a target took the whole text, or a beginning of it: where it failed, and where there was no memory
+-- a target took the whole text, or a beginning of it if it failed or memory ran out
 abbrev pub Writes :
     {T U : Type 0} → (T → List ℕ → T → Type 0) → (T → List ℕ → T → Type 0)
     → Result U Unwritten → T → List ℕ → T → Type 0
@@ -29,7 +30,7 @@ Writes took stopped (Ok u) old text new = took old text new
 Writes took stopped (Err unwritten.Target) old text new = stopped old text new
 Writes took stopped (Err unwritten.Memory) old text new = (n : ℕ) × took old (take n text) new
 
--- what stands before the first part of a value was written, or all of a value without parts
+-- the text before the first part of a value was written, or all of a value without parts
 abbrev pub Begins :
     {T : Type 0} → (T → List ℕ → T → Type 0) → (T → List ℕ → T → Type 0)
     → Result (Option Rest) TargetFailed → T → List ℕ → (Rest → List ℕ) → T → Type 0
@@ -38,7 +39,7 @@ Begins took stopped (Ok (Some x)) old text after new =
     (before : List ℕ) × (took old before new × (text ≡ before ++ after x))
 Begins took stopped (Err e) old text after new = stopped old text new
 
--- what stands before the next value was written, or all that was left
+-- the text before the next value was written, or everything that was left
 abbrev pub Advances :
     {T : Type 0} → (T → List ℕ → T → Type 0) → (T → List ℕ → T → Type 0)
     → Result (Option NextValue) TargetFailed → T → List ℕ
@@ -49,7 +50,7 @@ Advances took stopped (Ok (Some step)) old text value after new =
     × (text ≡ before ++ (value step.levels step.value.now ++ after step.after)))
 Advances took stopped (Err e) old text value after new = stopped old text new
 
--- ---- how much it is: a level outweighs what any one namespace holds
+-- ---- the weight: a level outweighs the content of any one namespace
 
 -- more than twice the size of each of these maps
 abbrev pub all_sizes : List (List (Val × Val)) → ℕ

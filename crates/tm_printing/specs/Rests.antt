@@ -1,4 +1,4 @@
--- What is left of a list or a map, as it is printed.
+-- What is left of a list or a map, as printed text.
 use Rattle.std.specs.Prelude.{◌≡◌, ℕ, ◌≤◌, ◌*◌, true, List, [], ◌++◌, Some, None, Ok, codes}
 use Rattle.tm_values.specs.Records.{RecordData}
 use Rattle.tm_values.specs.Val.{Val, list, map, keywords}
@@ -27,7 +27,7 @@ IsNext x (next.Value before step) = (r : RecordData)
     ≡ before.now ++ (inner r (namespace_text r step.levels) step.value.now ++ printed_rest r step.after)
 IsNext x (next.End closing) = (r : RecordData) → printed_rest r x ≡ closing.now
 
--- of a value without parts; what has parts is opened, where it is there
+-- for a value without parts; other values are opened, if they have a record
 abbrev pub leaf_text : RecordData → Val → List ℕ
 leaf_text r (list vs) = []
 leaf_text r (map ps) = []

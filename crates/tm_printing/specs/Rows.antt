@@ -1,4 +1,4 @@
--- Worked values that no template makes, and what they are written as.
+-- Worked values that no template can create, and their output.
 use Rattle.std.specs.Prelude.{◌≡◌, ℕ, false, List, [], None, Ok, codes}
 use Rattle.tm_values.specs.Answer.{Answer, refused}
 use Rattle.tm_values.specs.Records.{no_records}
@@ -21,11 +21,11 @@ macro_m = macro (record {
   caller = false;
 })
 
--- what is emitted under an escape, or what refuses to be
+-- the text emitted under an escape, or the error
 abbrev pub emitted : AutoEscape → Val → Answer (List ℕ)
 emitted e v = map_ok (λ _. emitted_text e no_records v) (emission_verdict e no_records v)
 
--- plainly, in HTML and as JSON
+-- as plain text, as HTML and as JSON
 abbrev pub WrittenAs : Val → Answer (List ℕ) → Answer (List ℕ) → Answer (List ℕ) → Type 0
 WrittenAs v plain html json = (text_answer no_records v ≡ plain)
     × (emitted escape.Html v ≡ html) × (emitted escape.Json v ≡ json)
@@ -33,7 +33,7 @@ WrittenAs v plain html json = (text_answer no_records v ≡ plain)
 abbrev pub Thrice : Val → List ℕ → List ℕ → List ℕ → Type 0
 Thrice v plain html json = WrittenAs v (Ok plain) (Ok html) (Ok json)
 
--- plainly and in HTML, and BadSerialization as JSON
+-- as plain text and as HTML, and BadSerialization as JSON
 abbrev pub NotInJson : Val → List ℕ → List ℕ → Type 0
 NotInJson v plain html = WrittenAs v (Ok plain) (Ok html) (refused BadSerialization)
 

@@ -1,4 +1,4 @@
--- What is left to check of a value, and what is known of the namespaces that were met.
+-- What is left to check of a value, and what is known about the namespaces that were reached.
 use Rattle.std.specs.Prelude.{◌≡◌, ℕ, suc, ◌+◌, ◌≤◌, Bool, true, false, cond, List, [], ◌∷◌, length, slice_index_or, Some, Result, Ok, Err}
 use Rattle.tm_values.specs.Answer.{is_memory_alone}
 use Rattle.tm_values.specs.Records.{RecordData, namespace_at}
@@ -14,14 +14,14 @@ use Rattle.tm_printing.specs.declared.check.Unchecked.TheVariants as unchecked
 use Rattle.tm_printing.specs.declared.check.Mark.{Mark}
 use Rattle.tm_printing.specs.declared.check.Mark.TheVariants as mark
 
--- the verdict of a part of the value, by those of the namespaces
+-- the verdict of a part of the value, given those of the namespaces
 abbrev pub Part : Type 0
 Part = NamespaceVerdicts → Verdict
 
 abbrev pub nothing : Part
 nothing inside = fine
 
--- of one of what is left; the end of a namespace stands for the namespace
+-- for an entry of the work list; the end of a namespace counts as the namespace
 abbrev pub part_of : OutputFormat → RecordData → Unchecked → Part
 part_of form r (unchecked.Items items) inside = items_verdict form r inside (vals_of items.now)
 part_of form r (unchecked.Pairs pairs) inside = pairs_verdict form r inside (pairs_of pairs.now)
@@ -32,23 +32,23 @@ abbrev pub is_end : Unchecked → Bool
 is_end (unchecked.End n) = true
 is_end x = false
 
--- ---- namespaces that were met
+-- ---- namespaces that were reached
 
 -- these numbers
 abbrev pub among : List ℕ → Way
 among [] = nowhere
 among (n ∷ ns) = through n (among ns)
 
--- the namespaces of these numbers are fine, whatever is said of others
+-- the namespaces with these numbers are fine, whatever the verdicts of others
 abbrev pub AllFine : RecordData → List ℕ → NamespaceVerdicts → Type 0
 AllFine r ns inside = (n : ℕ) → among ns n ≡ true → inside r.state n ≡ fine
 
--- what a namespace holds is fine wherever these namespaces are
+-- the content of a namespace is fine if these namespaces are
 abbrev pub HoldsFine : OutputFormat → RecordData → List ℕ → ℕ → Type 0
 HoldsFine form r ns n = (ps : List (Val × Val)) × ((namespace_at r r.state n ≡ Some ps)
     × ((inside : NamespaceVerdicts) → AllFine r ns inside → pairs_verdict form r inside (pairs_of ps) ≡ fine))
 
--- found fine one after the other, the last one first
+-- they were found fine one after the other, the last one first
 abbrev pub Settled : OutputFormat → RecordData → List ℕ → Type 0
 Settled form r [] = Unit
 Settled form r (n ∷ ns) = (among ns n ≡ false) × (HoldsFine form r ns n × Settled form r ns)
@@ -61,7 +61,7 @@ opens around (unchecked.Pairs pairs ∷ xs) = opens around xs
 opens around (unchecked.Value value ∷ xs) = opens around xs
 opens around (unchecked.End n ∷ xs) = opens (n ∷ around) xs
 
--- no open one is found fine already, and none is opened within itself
+-- no open namespace was found fine already, and none is opened inside itself
 abbrev pub AllNew : List ℕ → List ℕ → Type 0
 AllNew fines [] = Unit
 AllNew fines (n ∷ around) = (among fines n ≡ false) × ((among around n ≡ false) × AllNew fines around)
@@ -72,21 +72,21 @@ mark_at marks n = slice_index_or marks n mark.Unmet
 abbrev pub mark_of : List ℕ → List ℕ → ℕ → Mark
 mark_of fines around n = cond (among fines n) mark.Fine (cond (among around n) mark.Open mark.Unmet)
 
--- the mark of one namespace is replaced
+-- one namespace's mark is replaced
 pub record IsMarked (m : Mark) (n : ℕ) (old new : List Mark) : Type 0 where
   pub here : mark_at new n ≡ m
   pub elsewhere : (k : ℕ) → (n ≡ k → ⊥) → mark_at new k ≡ mark_at old k
 
--- a namespace is there, and wasn't met
+-- a namespace has a record, and wasn't reached yet
 pub record IsUnmet (r : RecordData) (s n : ℕ) (ps : List (Val × Val)) (marks : List Mark) : Type 0 where
   pub there : namespace_at r s n ≡ Some ps
   pub mark : mark_at marks n ≡ mark.Unmet
 
--- ---- what is left
+-- ---- the work list
 
--- Of the whole, and of each namespace that is open: what was looked at of it is fine wherever the
--- namespaces found fine are, so what is left of it has its verdict. The innermost stands last, and
--- `top` after the list; `later` is what is left of the one around, which is looked at last.
+-- For the whole value and each open namespace: the part that was checked is fine if the namespaces
+-- found fine are, so what is left has the verdict of the whole. The innermost comes last in the
+-- list, and `top` after the list; `later` is what is left of the one around, which is checked last.
 abbrev pub Remains : OutputFormat → RecordData → List ℕ → Part → Part → Part → List Unchecked → Type 0
 Remains form r fines top whole later [] =
     (inside : NamespaceVerdicts) → AllFine r fines inside → and_then (top inside) (later inside) ≡ whole inside
@@ -101,7 +101,7 @@ Remains form r fines top whole later (unchecked.End n ∷ xs) =
     × ((ps : List (Val × Val)) × ((namespace_at r r.state n ≡ Some ps)
     × Remains form r fines top (λ inside. pairs_verdict form r inside (pairs_of ps)) nothing xs))
 
--- a number for each namespace that wasn't met yet
+-- a number for each namespace that hasn't been reached yet
 abbrev pub if_unmet : Mark → ℕ → ℕ
 if_unmet mark.Unmet n = n
 if_unmet mark.Open n = 0
@@ -114,8 +114,8 @@ unmet size (ps ∷ nss) marks = if_unmet (marks 0) (size ps) + unmet size nss (�
 abbrev pub one_each : List (Val × Val) → ℕ
 one_each ps = 1
 
--- A value of which this part and that list are left to check, where namespaces are marked so. Those
--- open, those found fine and those that weren't met are all.
+-- A value of which this part and that list are left to check, with these marks of namespaces. Each
+-- namespace is open, found fine, or not reached yet.
 pub record Stands (form : OutputFormat) (r : RecordData) (v : Val) (top : Part) (left : List Unchecked) (marks : List Mark) : Type 0 where
   pub fines : List ℕ
   pub settled : Settled form r fines
@@ -124,7 +124,7 @@ pub record Stands (form : OutputFormat) (r : RecordData) (v : Val) (top : Part) 
   pub counted : unmet one_each r.namespaces (mark_at marks) + (length fines + length (opens [] left)) ≡ length r.namespaces
   pub rest : Remains form r fines top (λ inside. verdict form r inside v) nothing left
 
--- The part was looked at, and what is left of the whole is in the list; or the whole is refused.
+-- The part was checked, and what is left of the whole is in the list; or the whole is refused.
 abbrev pub Goes : {U : Type 0} → OutputFormat → RecordData → Result U (List ErrorKind) → Part
     → List Unchecked → List Mark → List Unchecked → List Mark → Type 0
 Goes form r (Ok u) part left marks new_left new_marks =
@@ -133,7 +133,7 @@ Goes form r (Err chain) part left marks new_left new_marks = is_memory_alone cha
     → (v : Val) → Stands form r v part left marks
     → verdict_within form r (length r.namespaces) nowhere v ≡ Err chain
 
--- ---- how much is left
+-- ---- the weight of what is left
 
 abbrev pub one_weight : Unchecked → ℕ
 one_weight (unchecked.Items items) = vals_size (vals_of items.now) + 1
@@ -145,22 +145,22 @@ abbrev pub unchecked_weight : List Unchecked → ℕ
 unchecked_weight [] = 0
 unchecked_weight (x ∷ xs) = one_weight x + unchecked_weight xs
 
--- of a namespace, with its end
+-- the weight of a namespace, including its end
 abbrev pub held_weight : List (Val × Val) → ℕ
 held_weight ps = pairs_size (pairs_of ps) + 2
 
--- Each namespace counts until it is met.
+-- A namespace counts until it is reached.
 abbrev pub to_check : RecordData → List Unchecked → List Mark → ℕ
 to_check r left marks = unchecked_weight left + unmet held_weight r.namespaces (mark_at marks)
 
 -- ---- one value
 
--- the parts of a value, which is no namespace, weigh no more than it
+-- the parts of a value that isn't a namespace weigh no more than the value
 abbrev pub IsParts : OutputFormat → Val → Unchecked → Type 0
 IsParts form v x = ((r : RecordData) (inside : NamespaceVerdicts) → verdict form r inside v ≡ part_of form r x inside)
     × ((is_end x ≡ false) × (one_weight x ≤ val_size v))
 
--- of a value without parts; parts are looked at one by one
+-- for a value without parts; parts are checked one by one
 abbrev pub leaf_verdict : OutputFormat → RecordData → Val → Verdict
 leaf_verdict form r (number z) = in_json form (if_holds (fits_json z) no_json)
 leaf_verdict form r (function n) = in_json form no_json

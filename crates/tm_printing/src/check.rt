@@ -1,4 +1,4 @@
-//! Whether a value can be printed or written as JSON. Nothing is written here.
+//! Checks whether a value can be printed or written as JSON, without writing it.
 ghost use Rattle.std.specs.Prelude.{◌≡◌, ℕ, ◌+◌, ◌≤◌, ◌<◌, ◌++◌, ◌∷◌, [], length, IfErr, MatchOption, OnOk};
 ghost use Rattle.tm_values.specs.Answer.{IsAnswer};
 ghost use Rattle.tm_values.specs.Writable.{fits_json};
@@ -14,9 +14,9 @@ use std::alloc::Global;
 use tm_definitions::OutputFormat;
 use tm_values::{Error, ErrorKind, Node, Records, Value, ValueMap, find_loop, find_namespace};
 
-/// Whether the value can be printed: InvalidOperation where a loop or a namespace in it has no
-/// record, or a namespace holds itself. OutOfMemory where no memory is found for what is left to
-/// check, or for what is known of namespaces.
+/// Checks whether the value can be printed. InvalidOperation if a loop or a namespace in it has no
+/// record, or a namespace contains itself. OutOfMemory if memory runs out for the work list or for
+/// the marks of namespaces.
 #[inline(always)]
 pub fn check_print<R: Records>(alloc: Global, value: &Value, records: &R) -> Result<(), Error>
     ensures { IsAnswer result (print_verdict (R.records records.now) value.now) }
@@ -28,42 +28,42 @@ pub fn check_print<R: Records>(alloc: Global, value: &Value, records: &R) -> Res
     }
 }
 
-/// Whether the value can be written as JSON: BadSerialization at a number outside -2^63 to 2^64-1,
-/// a key that is no text, a function, a macro or a loop; InvalidOperation at a namespace that has
-/// no record or holds itself; the first of these from the left. OutOfMemory where no memory is
-/// found for what is left to check, or for what is known of namespaces.
+/// Checks whether the value can be written as JSON. BadSerialization for a number outside -2^63 to
+/// 2^64-1, a key that isn't a text, a function, a macro or a loop. InvalidOperation for a namespace
+/// that has no record or contains itself. The leftmost of these is the error. OutOfMemory if memory
+/// runs out for the work list or for the marks of namespaces.
 pub fn check_json<R: Records>(alloc: Global, value: &Value, records: &R) -> Result<(), Error>
     ensures { IsAnswer result (json_verdict (R.records records.now) value.now) }
 {
     check(OutputFormat::Json, alloc, value, records)
 }
 
-/// What is left to check.
+/// An entry of the work list.
 #[derive(Clone, Copy)]
 pub enum Unchecked<'a> {
     /// Items of a list.
     Items(&'a [Value]),
     /// Pairs of a map or a namespace.
     Pairs(&'a [(Value, Value)]),
-    /// A value of a pair.
+    /// The value of a pair.
     Value(&'a Value),
-    /// The end of the namespace of this number.
+    /// The end of the namespace with this number.
     End(usize),
 }
 
-/// What is known of a namespace.
+/// What is known about a namespace.
 #[derive(Clone, Copy)]
 pub enum Mark {
-    /// It wasn't met.
+    /// It hasn't been reached yet.
     Unmet,
-    /// It is being gone through.
+    /// It is being checked.
     Open,
-    /// Nothing in it is refused.
+    /// It was checked, and nothing in it is refused.
     Fine,
 }
 
-// What is left is in a list, and what is known of namespaces in `marks`, by their numbers: each is
-// gone through once.
+// The work list holds what is left to check. `marks` holds the marks of the namespaces by number:
+// each namespace is checked once.
 fn check<R: Records>(
     form: OutputFormat,
     alloc: Global,
@@ -82,7 +82,7 @@ fn check<R: Records>(
     Ok(())
 }
 
-// Checks one of what is left.
+// Checks one entry of the work list.
 fn check_one<'a, R: Records>(
     form: OutputFormat,
     last: Unchecked<'a>,
@@ -103,7 +103,7 @@ fn check_one<'a, R: Records>(
     }
 }
 
-// Checks the first item, and puts the others into the list.
+// Checks the first item, and pushes the others on the work list.
 fn check_items<'a, R: Records>(
     form: OutputFormat,
     items: &'a [Value],
@@ -125,7 +125,7 @@ fn check_items<'a, R: Records>(
     enter(form, item, records, left, marks)
 }
 
-// Checks the first pair's key, and puts its value and the other pairs into the list.
+// Checks the first key, and pushes its value and the other pairs on the work list.
 fn check_pairs<'a, R: Records>(
     form: OutputFormat,
     pairs: &'a [(Value, Value)],
@@ -149,7 +149,7 @@ fn check_pairs<'a, R: Records>(
     enter(form, &pair.0, records, left, marks)
 }
 
-// Checks a value without parts, or puts the parts into the list.
+// Checks a value without parts, or pushes the parts on the work list.
 fn enter<'a, R: Records>(
     form: OutputFormat,
     value: &'a Value,
@@ -177,7 +177,7 @@ fn enter<'a, R: Records>(
     }
 }
 
-// Opens a namespace that wasn't met before. One that is open holds itself.
+// Opens a namespace that hasn't been reached yet. An open one contains itself.
 fn enter_namespace<'a, R: Records>(
     form: OutputFormat,
     state: u64,
@@ -201,8 +201,8 @@ fn enter_namespace<'a, R: Records>(
     }
 }
 
-// Puts what a namespace holds into the list, and before that its end. It is fine no sooner than
-// there.
+// Pushes the end of a namespace and then its content on the work list. It is marked `Fine` only
+// when its end is popped.
 fn open_namespace<'a>(
     index: usize,
     entries: &'a ValueMap,
@@ -223,7 +223,7 @@ fn open_namespace<'a>(
     put(Unchecked::Pairs(entries.pairs()), left)
 }
 
-// What is known of a namespace.
+// The mark of a namespace.
 fn mark_at(index: usize, marks: &[Mark]) -> Mark
     ensures { result ≡ mark_at marks.now index }
 {
@@ -233,7 +233,7 @@ fn mark_at(index: usize, marks: &[Mark]) -> Mark
     }
 }
 
-// Replaces a namespace's mark.
+// Replaces the mark of a namespace.
 fn set_mark(mark: Mark, index: usize, marks: &mut Vec<Mark>) -> Result<(), Error>
     ensures marked { OnOk result (IsMarked mark index marks.old.items marks.new.items) }
     ensures memory { IfErr result (λ e. e ≡ ErrorKind.OutOfMemory ∷ []) }
@@ -255,7 +255,7 @@ fn put<'a>(unchecked: Unchecked<'a>, left: &mut Vec<Unchecked<'a>>) -> Result<()
     Ok(())
 }
 
-// The parts of a list, a map or, in JSON, a module.
+// The parts of a list, a map or, for JSON, a module.
 fn parts<'a>(form: OutputFormat, value: &'a Value) -> Option<Unchecked<'a>>
     ensures { MatchOption result (IsUncheckedLeaf form value.now) (IsParts form value.now) }
 {
@@ -272,7 +272,7 @@ fn parts<'a>(form: OutputFormat, value: &'a Value) -> Option<Unchecked<'a>>
     }
 }
 
-// Checks a value without parts. What has parts is put into the list.
+// Checks a value without parts. The parts of other values are pushed on the work list.
 fn check_leaf<R: Records>(form: OutputFormat, value: &Value, records: &R) -> Result<(), Error>
     ensures { IsAnswer result (leaf_verdict form (R.records records.now) value.now) }
 {
@@ -284,7 +284,7 @@ fn check_leaf<R: Records>(form: OutputFormat, value: &Value, records: &R) -> Res
     }
 }
 
-// Whether nothing of it is refused, whatever the records are.
+// Whether the value is never refused, whatever the records are.
 fn is_plain(form: OutputFormat, value: &Value) -> bool
     ensures { result ≡ is_plain form value.now }
 {

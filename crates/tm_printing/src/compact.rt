@@ -1,4 +1,4 @@
-//! Values as `serde_json`'s compact text, written piece by piece.
+//! Writes values as `serde_json`'s compact text, piece by piece.
 ghost use Rattle.std.specs.Prelude.{◌≡◌, ◌∷◌, ◌++◌, [], MatchOption};
 ghost use Rattle.serde_json.specs.Written.{number_text, comma_if};
 ghost use Rattle.tm_output.specs.Targets.{Takes};
@@ -15,9 +15,9 @@ use std::alloc::Global;
 use tm_output::{Target, TargetFailed};
 use tm_values::{Node, Records, Value, find_namespace};
 
-/// Writes the value as `serde_json`'s compact text. Ask `check_json` first: what it refuses has no
-/// JSON. `Target` where the target fails, `Memory` where a list of what is left to write finds
-/// none.
+/// Writes the value as `serde_json`'s compact text. Call `check_json` first: a value that it
+/// refuses has no JSON. `Target` if the target fails, `Memory` if memory runs out for the work
+/// list.
 pub fn write_json<R: Records, T: Target>(
     alloc: Global,
     value: &Value,
@@ -77,7 +77,7 @@ impl Notation for Json {
     }
 }
 
-/// What comes next of a list or a map.
+/// The next part of a list or a map.
 #[derive(Clone, Copy)]
 pub enum JsonPart<'a> {
     /// A text, and then a value.
@@ -88,7 +88,7 @@ pub enum JsonPart<'a> {
     End(&'static str),
 }
 
-// What comes next.
+// The next part.
 fn take_next<'a>(rest: Rest<'a>) -> JsonPart<'a>
     ensures text { IsNextJson rest.entry result }
     ensures weight { IsNextJsonLighter rest.entry result }
@@ -172,8 +172,8 @@ fn open_namespace<'a, R: Records>(
     }
 }
 
-// A value without parts. What has parts is opened; what has no JSON, and a namespace that isn't
-// there, stands as null.
+// Writes a value without parts; other values are opened. A value that has no JSON, or a namespace
+// that has no record, is written as null.
 fn write_leaf<T: Target>(value: &Value, target: &mut T) -> Result<(), TargetFailed>
     ensures { Takes T.took T.stopped result target.old (leaf_json value.now) target.new }
 {
@@ -192,7 +192,7 @@ fn write_leaf<T: Target>(value: &Value, target: &mut T) -> Result<(), TargetFail
     }
 }
 
-// A key, with what stands before it and its colon.
+// Writes a key, with the text before it and its colon.
 fn write_key<T: Target>(before: &str, key: &Value, target: &mut T) -> Result<(), TargetFailed>
     ensures { Takes T.took T.stopped result target.old
         (before.now ++ (key_text key.now ++ 58 ∷ [])) target.new }

@@ -1,4 +1,4 @@
-//! Printed texts, one after the other.
+//! Concatenation of printed texts.
 ghost use Rattle.std.specs.Prelude.{◌≡◌, ◌++◌, ◌∷◌, [], OnOk, IfErr, MatchResult};
 ghost use Rattle.tm_definitions.specs.Concatenation.{joined, concatenated};
 ghost use Rattle.tm_definitions.specs.Printed.{printed};
@@ -11,9 +11,9 @@ use tm_values::{
     Error, ErrorKind, Records, SharedText, UndefinedBehavior, UndefinedUse, Value, check_defined,
 };
 
-/// `left ~ right`: the two printed texts, one after the other, not safe. UndefinedError where a
-/// side is undefined and the behaviour refuses that; InvalidOperation where one can't be printed,
-/// or OutOfMemory.
+/// `left ~ right`: the printed texts of both, concatenated, not marked safe. UndefinedError if a
+/// side is undefined and the behaviour refuses that. InvalidOperation if a side can't be printed.
+/// OutOfMemory if memory runs out.
 pub fn concatenate<R: Records>(
     alloc: Global,
     left: &Value,
@@ -26,8 +26,7 @@ pub fn concatenate<R: Records>(
     concatenate_to(alloc, left.share()?, right, records, behavior)
 }
 
-/// The same text, for which the left value is used up: a text that has no other owner is added to in
-/// place.
+/// The same, but takes the left value: a text that has no other owner is appended to in place.
 pub fn concatenate_to<R: Records>(
     alloc: Global,
     left: Value,
@@ -52,7 +51,7 @@ fn join<R: Records>(alloc: Global, left: Value, right: &Value, records: &R) -> R
     Ok(Value::shared_text(text, false))
 }
 
-// The printed text; that of a text is its own.
+// The printed text of the value; a text is its own.
 fn into_printed<R: Records>(alloc: Global, value: Value, records: &R) -> Result<SharedText, Error>
     ensures { MatchResult result (λ text. text ≡ printed (R.records records.now) value)
         (λ e. e ≡ ErrorKind.OutOfMemory ∷ []) }

@@ -1,4 +1,4 @@
-//! Values as templates emit them, and as texts of their own.
+//! Writing values as templates emit them, and as texts of their own.
 ghost use Rattle.std.specs.Prelude.{◌≡◌, MatchOption, string_bytes};
 ghost use Rattle.tm_values.specs.Records.{RecordData};
 ghost use Rattle.tm_values.specs.Val.{number};
@@ -18,9 +18,9 @@ use std::alloc::Global;
 use tm_output::{Target, TargetFailed};
 use tm_values::{AutoEscape, Error, ErrorKind, Node, Records, Value};
 
-/// Whether the value can be emitted under the escape. A safe text always can; else InvalidOperation
-/// under a custom escape, what `check_json` answers under JSON, and what `check_print` answers
-/// under the others.
+/// Checks whether the value can be emitted under the escape. A safe text always can. Other values:
+/// InvalidOperation under a custom escape, the errors of `check_json` under JSON, and those of
+/// `check_print` under the other escapes.
 pub fn check_emission<R: Records>(
     alloc: Global,
     value: &Value,
@@ -39,10 +39,10 @@ pub fn check_emission<R: Records>(
     }
 }
 
-/// Writes what is emitted for the value under the escape: a safe text as it is, and else what is
-/// printed, what is printed escaped for HTML, or JSON. Ask `check_emission` first: what is written
-/// of a value that it refuses stands for nothing. `Target` where the target fails, `Memory` where a
-/// list of what is left to write finds none.
+/// Emits the value under the escape: a safe text unchanged, and other values printed, printed and
+/// escaped for HTML, or as JSON. Call `check_emission` first: the output for a value that it
+/// refuses is meaningless. `Target` if the target fails, `Memory` if memory runs out for the work
+/// list.
 pub fn emit<R: Records, T: Target>(
     alloc: Global,
     value: &Value,
@@ -64,8 +64,8 @@ pub fn emit<R: Records, T: Target>(
     }
 }
 
-/// Emits a number or a text under an escape that refuses neither; of other values and escapes it writes
-/// nothing and answers none. TargetFailed where the target fails.
+/// Emits a number or a text under an escape that never refuses it. For other values and escapes it
+/// writes nothing and returns None. TargetFailed if the target fails.
 #[inline(always)]
 pub fn emit_at_once<T: Target>(
     value: &Value,
@@ -108,7 +108,7 @@ fn emit_number_at_once<T: Target>(
     }
 }
 
-/// What the value is printed as, in a text of its own: an error of `check_print`, or OutOfMemory.
+/// The printed text of the value. An error of `check_print`, or OutOfMemory.
 pub fn to_text<R: Records>(alloc: Global, value: &Value, records: &R) -> Result<String, Error>
     ensures { IsAnswer (map_ok string_bytes result)
         (text_answer (R.records records.now) value.now) }
@@ -121,7 +121,8 @@ pub fn to_text<R: Records>(alloc: Global, value: &Value, records: &R) -> Result<
     }
 }
 
-/// What the value is emitted as under the escape, in a text of its own: an error of `check_emission`, or OutOfMemory.
+/// The text that is emitted for the value under the escape. An error of `check_emission`, or
+/// OutOfMemory.
 pub fn emission_text<R: Records>(
     alloc: Global,
     value: &Value,

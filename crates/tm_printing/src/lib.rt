@@ -1,4 +1,4 @@
-//! What values are written as.
+//! Writing values as text, HTML and JSON.
 #![tactic(auto)]
 
 mod check;

@@ -1,4 +1,4 @@
-//! Values as text, written piece by piece.
+//! Writing values as text, piece by piece.
 ghost use Rattle.std.specs.Prelude.{◌≡◌, Some, None, MatchOption, flat_map, decimal};
 ghost use Rattle.tm_output.specs.Targets.{Takes};
 ghost use Rattle.tm_values.specs.Val.{namespace};
@@ -16,8 +16,8 @@ use std::alloc::Global;
 use tm_output::{Target, TargetFailed};
 use tm_values::{LoopPosition, MacroValue, Node, Records, Value, find_loop, find_namespace};
 
-/// Writes what the value is printed as. Ask `check_print` first: what it refuses has no text of its
-/// own. `Target` where the target fails, `Memory` where a list of what is left to write finds none.
+/// Writes the printed text of the value. Call `check_print` first: a value that it refuses has no
+/// text. `Target` if the target fails, `Memory` if memory runs out for the work list.
 pub fn print<R: Records, T: Target>(
     alloc: Global,
     value: &Value,
@@ -30,8 +30,8 @@ pub fn print<R: Records, T: Target>(
     write_value::<Verbatim, R, T>(alloc, value, records, target)
 }
 
-/// Writes what the value is printed as, escaped for HTML as a whole. Ask `check_print` first.
-/// `Target` where the target fails, `Memory` where a list of what is left to write finds none.
+/// Writes the printed text of the value, escaped for HTML as a whole. Call `check_print` first.
+/// `Target` if the target fails, `Memory` if memory runs out for the work list.
 pub fn write_html<R: Records, T: Target>(
     alloc: Global,
     value: &Value,
@@ -44,7 +44,7 @@ pub fn write_html<R: Records, T: Target>(
     write_value::<Html, R, T>(alloc, value, records, target)
 }
 
-// The value as it stands by itself.
+// Writes the value as it is printed on its own.
 fn write_value<E: Escape, R: Records, T: Target>(
     alloc: Global,
     value: &Value,
@@ -60,7 +60,7 @@ fn write_value<E: Escape, R: Records, T: Target>(
     }
 }
 
-// What a value is printed as that has neither quotes nor parts where it stands by itself.
+// The printed text of a value that has no parts, and no quotes when printed on its own.
 fn bare_text(value: &Value) -> Option<&str>
     ensures { MatchOption result (bare_text value.now ≡ None)
         (λ s. bare_text value.now ≡ Some s.now) }
@@ -72,7 +72,7 @@ fn bare_text(value: &Value) -> Option<&str>
     }
 }
 
-// As a value stands within a list or a map.
+// The notation of a value inside a list or a map.
 impl<E: Escape> Notation for E {
     ghost use Rattle.std.specs.Prelude.{flat_map};
     ghost use Rattle.tm_definitions.specs.Printed.{inner, namespace_text};
@@ -117,7 +117,7 @@ impl<E: Escape> Notation for E {
     }
 }
 
-/// What comes next of a list or a map.
+/// The next part of a list or a map.
 #[derive(Clone, Copy)]
 pub enum TextPart<'a> {
     /// A text, and then a value.
@@ -126,7 +126,7 @@ pub enum TextPart<'a> {
     End(&'static str),
 }
 
-// What comes next.
+// The next part.
 fn take_next<'a>(rest: Rest<'a>) -> TextPart<'a>
     ensures text { IsNext rest.entry result }
     ensures weight { IsNextRestLighter rest.entry result }
@@ -171,7 +171,7 @@ fn comma(later: bool) -> &'static str
     if later { ", " } else { "" }
 }
 
-// The bracket that opens a list, a map or a namespace that is there, and what is left after it.
+// The bracket that opens a list, a map or a namespace that has a record, and what is left after it.
 fn open<'a, R: Records>(
     value: &'a Value,
     levels: usize,
@@ -209,7 +209,8 @@ fn open_namespace<'a, R: Records>(
     }
 }
 
-// A value without parts. What has parts is opened, and a namespace that isn't there has no text.
+// Writes a value without parts; other values are opened. A namespace that has no record has no
+// text.
 fn write_leaf<E: Escape, R: Records, T: Target>(
     value: &Value,
     records: &R,

@@ -2,18 +2,19 @@
 use tm_output::TargetFailed;
 use tm_values::Value;
 
-/// What is left to write of a list or a map. Namespaces in it are entered so many levels deep.
+/// What is left to write of a list or a map. The number limits how deeply namespaces in it are
+/// entered.
 #[derive(Clone, Copy)]
 pub enum Rest<'a> {
-    /// Items, and whether one stands before them.
+    /// Items, and whether one comes before them.
     Items(&'a [Value], bool, usize),
-    /// Pairs, and whether one stands before them.
+    /// Pairs, and whether one comes before them.
     Pairs(&'a [(Value, Value)], bool, usize),
-    /// The value of a pair whose key is written, and the pairs after it.
+    /// The value of a pair whose key was written already, and the pairs after it.
     Member(&'a Value, &'a [(Value, Value)], usize),
 }
 
-/// The next value, the levels of namespaces that are entered in it, and what is left after it.
+/// The next value, how deeply namespaces in it are entered, and what is left after it.
 #[derive(Clone, Copy)]
 pub struct NextValue<'a> {
     /// The value.
@@ -24,12 +25,12 @@ pub struct NextValue<'a> {
     pub after: Rest<'a>,
 }
 
-/// Why a value was not written to its end.
+/// Why a value wasn't written to its end.
 #[derive(Clone, Copy, Debug, PartialEq, Eq)]
 pub enum Unwritten {
     /// The target failed.
     Target,
-    /// There was no memory for the list of what is left to write.
+    /// Memory ran out for the work list.
     Memory,
 }
 

@@ -1,4 +1,4 @@
-//! Worked values that no template makes: each clause says what one is written as.
+//! Worked values that no template can create, each with its expected output.
 ghost use Rattle.std.specs.Prelude.{codes};
 ghost use Rattle.tm_printing.specs.Rows.{Thrice, NotInJson, Nowhere, macro_m};
 ghost use Rattle.tm_values.specs.Val.{exports, no_pairs, loop, namespace};

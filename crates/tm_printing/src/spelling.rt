@@ -1,39 +1,39 @@
-//! What stands for the bytes of a text.
+//! How the bytes of a text are spelled when it is written.
 ghost use Rattle.std.specs.Prelude.{◌≡◌, ◌<◌, ℕ, List, [], ◌∷◌, IfSome, MatchOption, flat_map, refl};
 ghost use Rattle.json.specs.Print.{escape_byte};
 ghost use Rattle.tm_definitions.specs.Texts.{as_is, as_is_quoted, in_html, within_quotes};
 
-/// What stands for each byte of a text that is written.
+/// The spelling of each byte of a text.
 pub trait Spelling {
-    // What stands for the byte.
+    // The spelling of a byte.
     ghost spelled: { ℕ → List ℕ };
 
-    /// What stands for the byte, where that is not the byte alone.
+    /// The spelling of the byte, or None if it is the byte itself.
     fn spelling(byte: u8) -> Option<&'static str>
         ensures spelled { MatchOption result (spelled byte ≡ byte ∷ [])
             (λ s. s.now ≡ spelled byte) }
         ensures ascii { IfSome result (λ _. byte < 128) };
 }
 
-/// How a printed value is escaped: what stands for each byte of its text.
+/// How a printed value is escaped, byte by byte.
 pub trait Escape: Spelling {
-    /// What stands for each byte of a text in quotes.
+    /// The spelling of the bytes of a quoted text.
     type Within: Spelling;
 
-    // Within quotes a byte is quoted first, and what that gives is escaped.
+    // Within quotes a byte is quoted first, and the result is escaped.
     ghost quoted_first: { (b : ℕ) →
         Self.Within.spelled b ≡ flat_map Self.spelled (within_quotes b) };
 }
 
-/// Each byte as it is.
+/// Each byte unchanged.
 #[derive(Clone, Copy, Debug)]
 pub struct Verbatim;
 
-/// The names of HTML for `<`, `>`, `&`, `"`, `'` and `/`.
+/// The HTML entities for `<`, `>`, `&`, `"`, `'` and `/`.
 #[derive(Clone, Copy, Debug)]
 pub struct Html;
 
-/// Between double quotes: `\"`, `\\`, `\n`, `\r` and `\t`.
+/// A text in double quotes: `\"`, `\\`, `\n`, `\r` and `\t`.
 #[derive(Clone, Copy, Debug)]
 pub struct Quoted;
 
@@ -79,7 +79,7 @@ impl Spelling for Quoted {
     }
 }
 
-/// `Quoted`, and then the names of HTML.
+/// `Quoted`, and then the HTML entities.
 #[derive(Clone, Copy, Debug)]
 pub struct HtmlQuoted;
 
@@ -108,7 +108,7 @@ impl Escape for Html {
     ghost quoted_first = { λ b. refl };
 }
 
-/// Within a text of JSON, as `serde_json` writes it.
+/// A JSON string, as `serde_json` writes it.
 #[derive(Clone, Copy, Debug)]
 pub struct Json;
 
@@ -127,7 +127,7 @@ impl Spelling for Json {
     }
 }
 
-// What stands for a control character.
+// The spelling of a control character.
 #[tactic(auto, unfolding(json::specs::Print::escape_byte))]
 fn control(byte: u8) -> &'static str
     requires { byte < 32 }

@@ -1,4 +1,4 @@
-//! Texts and numbers, written into any target.
+//! Writes texts and numbers to any target.
 ghost use Rattle.std.specs.Prelude.{flat_map};
 ghost use Rattle.std.specs.Fmt.{signed_decimal};
 ghost use Rattle.json.specs.Print as json;
@@ -8,8 +8,8 @@ ghost use Rattle.tm_definitions.specs.Texts.{quoted};
 use crate::spelling::{Escape, Json, Spelling};
 use tm_output::{Target, TargetFailed};
 
-/// Writes what stands for each byte of the text. What lies between two bytes that are spelled
-/// another way is written whole. TargetFailed where the target fails.
+/// Writes the spelling of each byte of the text. Runs of bytes that are spelled as themselves are
+/// written whole. TargetFailed if the target fails.
 pub fn write_spelled<S: Spelling, T: Target>(text: &str, target: &mut T) -> Result<(), TargetFailed>
     ensures { Takes T.took T.stopped result target.old (flat_map S.spelled text.now) target.new }
 {
@@ -24,7 +24,7 @@ pub fn write_spelled<S: Spelling, T: Target>(text: &str, target: &mut T) -> Resu
     target.take_text(&text[start..])
 }
 
-/// Writes the text in quotes, escaped as a whole. TargetFailed where the target fails.
+/// Writes the text in quotes, escaped as a whole. TargetFailed if the target fails.
 pub fn write_quoted<E: Escape, T: Target>(text: &str, target: &mut T) -> Result<(), TargetFailed>
     ensures { Takes T.took T.stopped result target.old
         (flat_map E.spelled (quoted text.now)) target.new }
@@ -34,7 +34,7 @@ pub fn write_quoted<E: Escape, T: Target>(text: &str, target: &mut T) -> Result<
     write_spelled::<E, T>("\"", target)
 }
 
-/// Writes the text as `serde_json` does: a JSON string. TargetFailed where the target fails.
+/// Writes the text as a JSON string, as `serde_json` does. TargetFailed if the target fails.
 pub fn write_json_text<T: Target>(text: &str, target: &mut T) -> Result<(), TargetFailed>
     ensures { Takes T.took T.stopped result target.old (json.quoted text.now) target.new }
 {
@@ -43,7 +43,7 @@ pub fn write_json_text<T: Target>(text: &str, target: &mut T) -> Result<(), Targ
     target.take_text("\"")
 }
 
-/// Writes the number in decimal, escaped. TargetFailed where the target fails.
+/// Writes the number in decimal, escaped. TargetFailed if the target fails.
 pub fn write_number<E: Escape, T: Target>(number: i128, target: &mut T) -> Result<(), TargetFailed>
     ensures { Takes T.took T.stopped result target.old
         (flat_map E.spelled (signed_decimal number)) target.new }

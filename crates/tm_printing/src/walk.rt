@@ -1,4 +1,4 @@
-//! Values, written by a list of what is left, so that a deep value takes no deep stack.
+//! Writes values with a work list, so that a deep value needs no deep stack.
 ghost use Rattle.std.specs.Prelude.{length};
 ghost use Rattle.tm_values.specs.Records.{RecordData};
 ghost use Rattle.tm_printing.specs.Left.{ValueText, RestText, Writes, Begins, Advances, IsNoHeavier, IsLighter};
@@ -8,16 +8,16 @@ use std::alloc::Global;
 use tm_output::{Target, TargetFailed};
 use tm_values::{Records, Value};
 
-/// How values are written.
+/// A notation for values.
 pub trait Notation {
-    // What a value is written as, where namespaces are entered so many levels deep.
+    // The text of a value in which namespaces are entered to the given depth.
     ghost value_text: { ValueText };
 
-    // What the rest of a list or a map is written as.
+    // The text of what is left of a list or a map.
     ghost rest_text: { RestText };
 
-    /// Writes a value without parts, or what stands before the first part of one that has parts,
-    /// and gives what is left of that. TargetFailed where the target fails.
+    /// Writes a value without parts, or the text before the first part of another one, and returns
+    /// what is left of it. TargetFailed if the target fails.
     fn begin<'a, R: Records, T: Target>(
         value: &'a Value,
         levels: usize,
@@ -29,8 +29,8 @@ pub trait Notation {
             (rest_text (R.records records.now)) target.new }
         ensures weight { IsNoHeavier result (R.records records.now) levels value.now };
 
-    /// Writes what stands before the next value, and gives that; at the end what closes the list or
-    /// the map. TargetFailed where the target fails.
+    /// Writes the text before the next value, and returns that value; at the end, writes the
+    /// closing text. TargetFailed if the target fails.
     fn advance<'a, T: Target>(
         rest: Rest<'a>,
         target: &mut T,
@@ -40,8 +40,7 @@ pub trait Notation {
         ensures weight { IsLighter result rest.entry };
 }
 
-/// Writes a value. `Target` where the target fails, `Memory` where the list of what is left finds
-/// no memory.
+/// Writes a value. `Target` if the target fails, `Memory` if memory runs out for the work list.
 pub fn write_parts<N: Notation, R: Records, T: Target>(
     alloc: Global,
     value: &Value,

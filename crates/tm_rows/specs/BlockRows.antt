@@ -1,4 +1,4 @@
--- Streams that load a parent, and where their runs end.
+-- Streams that load a parent, and how their runs end.
 use Rattle.std.specs.Prelude.{ℕ, List, [], ◌∷◌, Option, Some, true, false, codes, pos}
 use Rattle.tm_values.specs.Val.{number, text}
 use Rattle.tm_trees.specs.Instructions.{Instruction}
@@ -15,19 +15,20 @@ use Rattle.tm_rows.specs.Rows.{Page, Said, said_by, left_by, host_of, world_of, 
 use Rattle.tm_rows.specs.BlockTrees.{template}
 use Rattle.tm_rows.specs.FilterRows.{upper}
 
--- A page without a tree, whose environment has the template p without one, and the filter `upper` by two names.
+-- A page without a tree. Its environment has a template p without a tree, and the filter `upper`
+-- under two names.
 abbrev pub with_parent : Page
 with_parent = record empty {
   templates = template (codes "p") (body_of no_statement) ∷ [];
   filters = (codes "other", upper) ∷ (codes "upper", upper) ∷ [];
 }
 
--- the code of the page's own streams, and that of others
+-- the code of the page's own streams, and that of other templates
 abbrev pub code_of_template : List Instruction → List Instruction → TemplateId → List Instruction
 code_of_template code parent own = code
 code_of_template code parent (entry x) = parent
 
--- where a run of this code ends, where that of p is the other
+-- the end of a run of this code, where p has the other code
 abbrev pub ended_before : List Instruction → List Instruction → Option Final
 ended_before code parent =
     let p : Program = record { host = host_of with_parent; code = λ s. code_of_template code parent s.template } in
@@ -38,7 +39,7 @@ ended_before code parent =
 abbrev pub run_before : List Instruction → List Instruction → Said
 run_before code parent = said_by (ended_before code parent)
 
--- the world after it, and of that the closures and the one that was made in the innermost scope
+-- the world after it, its closures, and the closure of the innermost scope
 abbrev pub left_before : List Instruction → List Instruction → World
 left_before code parent = left_by (ended_before code parent) (world_of with_parent (Some 1000))
 
@@ -51,23 +52,23 @@ own_before code parent = own_closure (left_before code parent).scopes.frames
 abbrev pub name_of_p : Instruction
 name_of_p = i.LoadConst (text (codes "p") false)
 
--- p is loaded, and then this is run
+-- loads p as the parent, and then runs this
 abbrev pub extending : List Instruction → List Instruction
 extending after = name_of_p ∷ i.LoadBlocks ∷ after
 
--- "a" goes through a filter by its cache number
+-- applies a filter to "a", by its cache number
 abbrev pub capital : List ℕ → Instruction → List Instruction → List Instruction
 capital name last after = i.LoadConst (text (codes "a") false) ∷ i.ApplyFilter name (Some 1) 0 ∷ last ∷ after
 
--- a number is stored as j
+-- binds j to a number
 abbrev pub stores_j : ℕ → List Instruction → List Instruction
 stores_j n after = i.LoadConst (number (pos n)) ∷ i.StoreLocal (codes "j") ∷ after
 
--- j is 1, also in a closure of its scope, in which p runs then as an import runs it
+-- binds j to 1, adds it to the closure of the scope, and runs p there as an import does
 abbrev pub imports_under_closure : List Instruction → List Instruction
 imports_under_closure after = stores_j 1 (i.Enclose (codes "j") ∷ name_of_p ∷ i.IncludeModule ∷ after)
 
--- a text is negated
+-- negates a text
 abbrev pub negated_text : List Instruction → List Instruction
 negated_text after = i.LoadConst (text (codes "x") false) ∷ i.Neg ∷ after
 

@@ -1,4 +1,4 @@
--- Pages with blocks, which extend templates.
+-- Pages with blocks that extend templates.
 use Rattle.std.specs.Prelude.{◌≡◌, ℕ, zero, suc, ◌-◌, List, [], ◌∷◌, ◌++◌, map as each, None, true, false, codes}
 use Rattle.tm_values.specs.Val.{function, text}
 use Rattle.tm_values.specs.declared.error.ErrorKind.{ErrorKind}
@@ -40,7 +40,7 @@ block_four b s t r q =
 abbrev pub extends : List ℕ → Stmt
 extends parent = Extends (literal parent)
 
--- the blocks a of most pages, and what they call
+-- the block name a, used in most pages, and calls of it
 abbrev pub a : List ℕ
 a = codes "a"
 
@@ -53,18 +53,18 @@ self_a = SelfBlock a
 abbrev pub joined : Expr → List ℕ → Expr
 joined e t = and_one e (binary binaries.Concatenate (literal t))
 
--- y.z, of an undefined name
+-- y.z, with an undefined y
 abbrev pub fault : Stmt
 fault = EmitExpr (and_one (named (codes "y")) (Attribute (codes "z")))
 
--- ---------------------------------------------------------------- pages among templates
+-- ---------------------------------------------------------------- pages with other templates
 abbrev pub template_under : AutoEscape → List ℕ → Body → List ℕ × TemplateTree
 template_under escape name body = (name, record { name = name; escape = escape; root = statements body })
 
 abbrev pub template : List ℕ → Body → List ℕ × TemplateTree
 template name body = template_under escapes.None name body
 
--- a page of these statements, where the environment has these templates
+-- a page of these statements, with these templates in the environment
 abbrev pub among : Named TemplateTree → Body → Page
 among templates body = record (paged body) { templates = templates }
 
@@ -86,18 +86,19 @@ laid_out body = among layouts body
 abbrev pub with_q : Body → Body → Page
 with_q q body = among (template (codes "q") q ∷ []) body
 
--- the name of the template after the page, and the places of its lists of blocks
+-- the name of the template after the page, and the places in its lists of blocks
 abbrev pub PageEndsIn : Page → List ℕ → Type 0
 PageEndsIn p name = After (λ w. name_of (host_of p) w ≡ name) p
 
 abbrev pub places : World → List ℕ
 places w = each (λ b. place_in b.0 w.places) w.blocks
 
--- every list of blocks is at its child's place, of so many
+-- every list of blocks is at its child's place; one zero for each list
 abbrev pub AtChildren : Page → List ℕ → Type 0
 AtChildren p zeros = After (λ w. places w ≡ zeros) p
 
--- It is this text and chain, and leaves one scope, the template of a name, no block, and every list of blocks at its child's place.
+-- The outcome has this text and chain, and leaves one scope, the template with this name, no block,
+-- and every list of blocks at its child's place.
 abbrev pub GivesIn : Page → Outcome → List ℕ → List ErrorKind → List ℕ → List ℕ → Type 0
 GivesIn p o t chain name zeros =
     (o.text ≡ t) × (chain_of o ≡ chain) × (depth o.world.scopes ≡ 1) × (name_of (host_of p) o.world ≡ name) × (o.world.block ≡ None)
@@ -125,7 +126,7 @@ over_mid_joined = of_mid (raw (codes "c")) (EmitExpr (joined super (codes "!")))
 abbrev pub mid_alone : Page
 mid_alone = laid_out (one (extends (codes "mid")))
 
--- ---------------------------------------------------------------- where `extends` stands
+-- ---------------------------------------------------------------- places of `extends`
 -- {% if x %}{% extends "base" %}{% else %}{% extends "base2" %}{% endif %}t
 abbrev pub of_either : Page
 of_either = laid_out (two (if_one x (extends (codes "base")) (else_one (extends (codes "base2")))) (raw (codes "t")))
@@ -137,7 +138,7 @@ in_round =
     (statement (if_one (and_one (named (codes "n")) (binary binaries.Equal (literal_number 2))) (extends (codes "base2")) no_else)
     no_statement)) no_else) (raw (codes "z")))
 
--- {% block a %}{% extends "base2" %}q{% endblock %}, and what follows
+-- {% block a %}{% extends "base2" %}q{% endblock %}, and a statement after it
 abbrev pub in_block_before : Stmt → Page
 in_block_before s = laid_out (two (block_two a (extends (codes "base2")) (raw (codes "q"))) s)
 
@@ -147,7 +148,7 @@ in_macro =
     laid_out (four (macro_two (codes "m") [] (extends (codes "base2")) (raw (codes "q"))) (raw (codes "[")) (called (codes "m"))
     (raw (codes "]")))
 
--- {% macro m() %}{% extends "base" %}{% endmacro %}{{ m() }}, and what follows
+-- {% macro m() %}{% extends "base" %}{% endmacro %}{{ m() }}, and a statement after it
 abbrev pub after_macro : Stmt → Page
 after_macro s = laid_out (three (macro_one (codes "m") [] (extends (codes "base"))) (called (codes "m")) s)
 
@@ -164,13 +165,14 @@ abbrev pub in_capture : List ℕ → Page
 in_capture parent =
     laid_out (one (CaptureBlock' (uses.Assign (To (codes "x"))) [] (tt ∷ []) (statement (extends parent) no_statement)))
 
--- t, which the environment has: {% extends "t" %}x
+-- t, which is also in the environment: {% extends "t" %}x
 abbrev pub extends_itself : Page
 extends_itself =
     let body = two (extends (codes "t")) (raw (codes "x")) in
     record (among (template (codes "t") body ∷ []) body) { name = codes "t" }
 
--- a chain of templates, each of which extends the one before it, and the first a template that isn't there
+-- a chain of templates, each of which extends the one before it; the first extends a template that
+-- doesn't exist
 abbrev pub numbered : ℕ → List ℕ
 numbered n = codes "t" ++ n ∷ []
 
@@ -181,7 +183,7 @@ chained_from (suc n) = template (numbered (suc n)) (one (extends (numbered n))) 
 abbrev pub of_chain : ℕ → Page
 of_chain n = among (chained_from n) (one (extends (numbered n)))
 
--- the same where each has a block that runs the next one
+-- the same, with a block in each that calls `super()`
 abbrev pub supers_from : ℕ → Named TemplateTree
 supers_from zero = template (numbered 0) (one (block_one a (raw (codes "x")))) ∷ []
 supers_from (suc n) = template (numbered (suc n)) (two (extends (numbered n)) (block_one a EmitSuper)) ∷ supers_from n
@@ -288,14 +290,15 @@ escaped_by_child of_parent of_child =
     record (among (template_under of_parent (codes "p") (two emits_tag (block_none a)) ∷ [])
     (two (extends (codes "p")) (block_one a emits_tag))) { escape = of_child }
 
--- ---------------------------------------------------------------- blocks that a state is asked for
+-- ---------------------------------------------------------------- blocks rendered by a state
 -- {% if false %}{% block b %}{% for x in [1] %}{{ y.z }}{% endfor %}{% endblock %}{% endif %}ok
 abbrev pub fault_in_hidden : Page
 fault_in_hidden =
     let rounds = For' (To (codes "x")) (alone_in_list (literal_number 1)) None false (tt ∷ []) (statement fault no_statement) no_else in
     paged (two (if_one (literal_truth false) (block_one (codes "b") rounds) no_else) (raw (codes "ok")))
 
--- The state after the page gives this for the block of a name, and then again, and stands in the same template.
+-- Asked twice for a block, the state after the page gives this result each time, and stays in the
+-- same template.
 abbrev pub GivesTwice : Page → List ℕ → List ℕ → List ErrorKind → List ℕ → List ℕ → Type 0
 GivesTwice p b t chain name zeros =
     let w = (rendered (host_of p) (trees p) (world_of p None)).world in
@@ -309,7 +312,7 @@ abbrev pub asks_for_block : Object
 asks_for_block (text b safe ∷ []) view = answers (asks_for (further.Block b))
 asks_for_block vs view = answers (gives nothing)
 
--- {{ f(name) }}{% block a %}<{% endblock %}, where f asks for the block of this name
+-- {{ f(name) }}{% block a %}<{% endblock %}, where f asks for the block with this name
 abbrev pub calls_block : AutoEscape → List ℕ → Page
 calls_block escape b = record
     (paged (two (EmitExpr (with_one (codes "f") (literal b))) (block_one a (raw (codes "<")))))

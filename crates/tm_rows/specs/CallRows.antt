@@ -32,7 +32,7 @@ last_function = callers (λ vs view. answers (gives (last_of vs)))
 abbrev pub faulty : List ErrorKind → Function
 faulty chain = callers (λ vs view. answers (faults chain))
 
--- keeps k, and answers 2
+-- keeps k, and returns 2
 abbrev pub keeping : Function
 keeping = callers (λ vs view. record { temps = (codes "k", number (pos 1)) ∷ []; reply = gives (number (pos 2)) })
 
@@ -40,7 +40,7 @@ abbrev pub or_nothing : Option Val → Val
 or_nothing None = nothing
 or_nothing (Some v) = v
 
--- what is kept as k
+-- the value kept as k
 abbrev pub reading : Function
 reading = callers (λ vs view. answers (gives (or_nothing (find (codes "k") view.temps))))
 
@@ -65,7 +65,7 @@ calling f = with_functions f f (page (one (EmitExpr called_with_two)) nothing)
 abbrev pub keep_and_read : Page
 keep_and_read = with_functions keeping reading (page (two (EmitExpr (call_none (codes "f"))) (EmitExpr (call_none (codes "g")))) nothing)
 
--- the functions of the language
+-- the built-in functions
 abbrev pub with_languages : Page → Page
 with_languages p = record p {
   globals = (codes "dict", function 1) ∷ (codes "namespace", function 2) ∷ (codes "range", function 0) ∷ [];
@@ -120,7 +120,7 @@ abbrev pub unknown_after : Function → Page
 unknown_after f = with_functions f f (page (two (raw (codes "a")) (EmitExpr
     (Call' (codes "nope") (tt ∷ []) (argument (plain (call_none (codes "f"))) no_argument) [] no_keyword))) nothing)
 
--- a method of no argument, and of these
+-- a method without arguments, and one with these
 abbrev pub method_none : Expr → List ℕ → Expr
 method_none e m = and_one e (Apply' applications.Method m [] no_argument [] no_keyword)
 
@@ -155,7 +155,7 @@ by_no_turns = page (one (for_x (numbers 1 2) (EmitExpr (method_none (named (code
 abbrev pub no_method_of_loops : Page
 no_method_of_loops = page (one (for_x (numbers 1 2) (EmitExpr (method_none (named (codes "loop")) (codes "index"))) no_else)) nothing
 
--- {{ m.f("a") }}, where m has this at f
+-- {{ m.f("a") }}, where m has this value at f
 abbrev pub method_of_map : Val → Page
 method_of_map f =
     with_functions last_function last_function
@@ -166,7 +166,7 @@ method_of_map f =
 abbrev pub method_of_undefined : Page
 method_of_undefined = page (one (EmitExpr (method_none (named (codes "nope")) (codes "m")))) nothing
 
--- ---------------------------------------------------------------- loops that are called
+-- ---------------------------------------------------------------- calls of loops
 abbrev pub recursive_one : Expr → Stmt → Stmt
 recursive_one e s = For' (To (codes "x")) e None true (tt ∷ []) (statement s no_statement) no_else
 
@@ -205,7 +205,7 @@ depth_inside_recursive =
     (For' (To (codes "y")) (alone_in_list (literal_number 2)) None false (tt ∷ [])
     (statement (EmitExpr (and_one (named (codes "loop")) (Attribute (codes "depth")))) no_statement) no_else))) nothing
 
--- a node: what it shows, and the nodes below it
+-- a node: its label, and the nodes below it
 abbrev pub node : List ℕ → List Val → Val
 node v below = map (pairs_of ((text (codes "c") false, list (vals_of below)) ∷ (text (codes "v") false, text v false) ∷ []))
 
@@ -233,14 +233,14 @@ tree_as_value =
     (step (binary binaries.Concatenate (called (codes "loop") x_c))
     (step (binary binaries.Concatenate (literal (codes "]"))) no_step)))))))) (with_value (codes "tree") tree)
 
--- {% for x in tree recursive %}{{ x.v ~ loop(x.c) }}{% endfor %}, where 1 has 2 below it
+-- {% for x in tree recursive %}{{ x.v ~ loop(x.c) }}{% endfor %}, where node 1 has node 2 below it
 abbrev pub line_as_value : Page
 line_as_value =
     page (one (recursive_one (named (codes "tree")) (EmitExpr (chained x (tt ∷ tt ∷ [])
     (step (Attribute (codes "v")) (step (binary binaries.Concatenate (called (codes "loop") x_c)) no_step))))))
     (with_value (codes "tree") (list (vals_of (node (codes "1") (node (codes "2") [] ∷ []) ∷ []))))
 
--- the numbers below one, from the last
+-- the numbers below one, in descending order
 abbrev pub below : ℕ → List ℕ
 below zero = []
 below (suc n) = n ∷ below n

@@ -1,4 +1,4 @@
--- Streams that are an expression, and the values that they leave.
+-- Streams of expressions, and the values that they leave.
 use Rattle.std.specs.Prelude.{◌≡◌, ℕ, ◌-◌, List, [], ◌∷◌, Option, Some, None, codes, pos}
 use Rattle.tm_values.specs.Val.{Val, number}
 use Rattle.tm_values.specs.declared.error.ErrorKind.{ErrorKind}
@@ -18,7 +18,7 @@ use Rattle.tm_rows.specs.Rows.{literal_number, and_one, no_value, a, b, x}
 use Rattle.tm_rows.specs.CallRows.{call_none, called}
 use Rattle.tm_rows.specs.IncludeTrees.{includes_template}
 
--- What is left of a run: the values, the text that was heard, the fuel, and the chain of kinds.
+-- What a run leaves: the values, the text that was heard, the fuel, and the chain of kinds.
 pub record Left : Type 0 where
   pub values : List Val
   pub text : List ℕ
@@ -40,28 +40,28 @@ abbrev pub left_after : Option Final → Left
 left_after None = left [] [] 0 []
 left_after (Some o) = left_at o.text o.end
 
--- What an expression leaves under this fuel, as it means it and as its code comes to it; it writes nothing.
+-- What an expression leaves with this fuel, by its meaning and by its code; it writes nothing.
 abbrev pub Ends : Page → ℕ → List Val → ℕ → List ErrorKind → Type 0
 Ends p fuel vs n chain =
     (left_when (rendered (host_of p) (trees p) (world_of p (Some fuel))) ≡ left vs [] n chain)
     × (left_after (ended p (Some fuel)) ≡ left vs [] n chain)
 
--- Its value, at so many charges.
+-- Its value, after this many charges.
 abbrev pub EvaluatesTo : Page → Val → ℕ → Type 0
 EvaluatesTo p v charges = Ends p 1000 (v ∷ []) (1000 - charges) []
 
--- Its fault, after so many charges.
+-- Its fault, after this many charges.
 abbrev pub EvaluationFails : Page → List ErrorKind → ℕ → Type 0
 EvaluationFails p chain charges = Ends p 1000 [] (1000 - charges) chain
 
--- ---------------------------------------------------------------- expressions alone
+-- ---------------------------------------------------------------- single expressions
 abbrev pub evaluating : Expr → Val → Page
 evaluating e context = record (page (body_of no_statement) context) { name = codes "<expression>"; root = expression e }
 
 abbrev pub alone : Expr → Page
 alone e = evaluating e nothing
 
--- a + 1, with a 1
+-- a + 1, with a = 1
 abbrev pub sum : Page
 sum = evaluating (and_one a (binary binaries.Add (literal_number 1))) (with_value (codes "a") (number (pos 1)))
 
@@ -93,11 +93,11 @@ self_alone = alone (SelfBlock (codes "b"))
 abbrev pub loop_alone : Page
 loop_alone = alone (called (codes "loop") (literal_number 1))
 
--- a|upper, without that filter
+-- a|upper, without the filter
 abbrev pub without_filter : Page
 without_filter = alone (and_one a (Apply' applications.Filter (codes "upper") [] no_argument [] no_keyword))
 
--- {% include "e" %}!, where e is the expression 1, which no source spells
+-- {% include "e" %}!, where e is the expression 1, which no source contains
 abbrev pub including_one : Page
 including_one = record (page (two (includes_template (codes "e")) (raw (codes "!"))) nothing) {
   templates = (codes "e", record { name = codes "e"; escape = escapes.None; root = expression (literal_number 1) }) ∷ [];

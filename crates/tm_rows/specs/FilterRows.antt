@@ -41,7 +41,7 @@ whole_of v = 0
 abbrev pub capital : ℕ → ℕ
 capital c = if nat_lt 96 c && nat_lt c 123 then c - 32 else c
 
--- the first argument in capitals
+-- the first argument in upper case
 abbrev pub upper : Object
 upper vs view = answers (gives (text (each capital (bytes_in (first_of vs))) false))
 
@@ -50,27 +50,28 @@ abbrev pub second : Object
 second (v ∷ x ∷ vs) view = answers (gives x)
 second vs view = answers (gives nothing)
 
--- the part of the first from the place of the second argument on, up to that of the third where there is one
+-- the part of the first argument from the index in the second argument on, up to that in the third
+-- argument, if there is one
 abbrev pub substr : Object
 substr (v ∷ from ∷ []) view = answers (gives (text (drop (whole_of from) (bytes_in v)) false))
 substr (v ∷ from ∷ to ∷ vs) view =
     answers (gives (text (take (whole_of to - whole_of from) (drop (whole_of from) (bytes_in v))) false))
 substr vs view = answers (gives nothing)
 
--- the first argument as a safe text
+-- the first argument, marked safe
 abbrev pub safe : Object
 safe vs view = answers (gives (text (bytes_in (first_of vs)) true))
 
--- whether the first is odd
+-- whether the first argument is odd
 abbrev pub odd : Object
 odd vs view = answers (gives (boolean (nat_eq (whole_of (first_of vs) % 2) 1)))
 
--- whether the first can be divided by the second
+-- whether the first argument is divisible by the second
 abbrev pub divisible : Object
 divisible (v ∷ x ∷ vs) view = answers (gives (boolean (nat_eq (whole_of v % whole_of x) 0)))
 divisible vs view = answers (gives nothing)
 
--- answers undefined
+-- returns undefined
 abbrev pub unsure : Object
 unsure vs view = answers (gives (undefined false))
 
@@ -87,7 +88,7 @@ filtering e = filter_page (one (EmitExpr e))
 abbrev pub under : UndefinedBehavior → Page → Page
 under behavior p = record p { undefined = behavior }
 
--- a value passed to what a name stands for, alone, and with one argument after it
+-- a name applied to a value, alone, and with one more argument
 abbrev pub passed_alone : Application → Expr → List ℕ → Expr
 passed_alone k e x = and_one e (Apply' k x [] no_argument [] no_keyword)
 
@@ -124,7 +125,7 @@ not_divided = filtering (unary unaries.Not six_by_three)
 abbrev pub is_unsure : Page
 is_unsure = filtering (passed_alone applications.Test (literal_number 1) (codes "u"))
 
--- a name that nothing of its kind has
+-- an unknown name of this kind
 abbrev pub unknown : Application → List ℕ → Page
 unknown k x = filtering (passed_alone k (literal_number 1) x)
 
@@ -190,15 +191,15 @@ fault_in_filter =
     (statement (EmitExpr (passed_alone applications.Filter (literal_number 1) (codes "nope"))) no_statement))))
 
 -- ---------------------------------------------------------------- further calls
--- the filter `upper` with this text
+-- `upper` applied to this text
 abbrev pub capitals_of : List ℕ → Reply
 capitals_of t = asks_for (further.Filter (codes "upper") (text t false ∷ []))
 
--- asks for `upper` with a
+-- asks for `upper` of a
 abbrev pub capital_a : Object
 capital_a vs view = answers (capitals_of (codes "a"))
 
--- asks for `upper` with its text doubled
+-- asks for `upper` of its text doubled
 abbrev pub twice : Object
 twice vs view = answers (capitals_of (bytes_in (first_of vs) ++ bytes_in (first_of vs)))
 
@@ -206,22 +207,22 @@ twice vs view = answers (capitals_of (bytes_in (first_of vs) ++ bytes_in (first_
 abbrev pub again : Object
 again vs view = answers (asks_for (further.Filter (codes "again") vs))
 
--- keeps 1 at k, and answers a fault
+-- keeps 1 as k, and fails
 abbrev pub kept : Object
 kept vs view = record { temps = (codes "k", number (pos 1)) ∷ []; reply = faults (MissingArgument ∷ []) }
 
--- keeps 1 at k, and asks for the filter of a name
+-- keeps 1 as k, and asks for the filter with this name
 abbrev pub keeps_and_asks : List ℕ → Object
 keeps_and_asks x vs view = record {
   temps = (codes "k", number (pos 1)) ∷ [];
   reply = asks_for (further.Filter x vs);
 }
 
--- what is kept at k
+-- the value kept as k
 abbrev pub kept_at_k : Object
 kept_at_k vs view = answers (gives (or_undefined (find (codes "k") view.temps)))
 
--- a page over these filters, and a function that asks for a further call
+-- a page with these filters, and a function that asks for a further call
 abbrev pub further_page : Body → Page
 further_page body = record (filter_page body) {
   functions = callers capital_a ∷ [];
@@ -252,7 +253,7 @@ further_within =
     further_page (one (With' [] (tt ∷ []) (statement (EmitExpr (call_none (codes "f"))) no_statement)))
 
 -- ---------------------------------------------------------------- cache numbers
--- Where a run of this code ends, under the filters and tests of a page.
+-- The result of running this code, with the filters and tests of a page.
 abbrev pub ran_alone : List Instruction → Said
 ran_alone code =
     let p : Program = record { host = host_of in_capitals; code = λ s. code } in
@@ -276,14 +277,14 @@ unsure_by n = (codes "u", n)
 abbrev pub filter_by : List ℕ × ℕ → Instruction
 filter_by named = i.ApplyFilter named.0 (Some 1) named.1
 
--- "a" passed to filters by these names and cache numbers, one after the other
+-- "a" passed through filters with these names and cache numbers
 abbrev pub filtered_by : List (List ℕ × ℕ) → Said
 filtered_by uses = ran_alone (i.LoadConst (text (codes "a") false) ∷ (each filter_by uses ++ i.Emit ∷ []))
 
 abbrev pub test_by : List ℕ × ℕ → Instruction
 test_by named = i.PerformTest named.0 (Some 1) named.1
 
--- 1 passed to tests, and each answer to the next
+-- 1 passed to a test, and each result to the next test
 abbrev pub tested_by : List (List ℕ × ℕ) → Said
 tested_by uses = ran_alone (i.LoadConst (number (pos 1)) ∷ (each test_by uses ++ i.Emit ∷ []))
 

@@ -13,20 +13,22 @@ use Rattle.tm_rows.specs.CallRows.{answers, call_none}
 use Rattle.tm_rows.specs.FilterRows.{passed_alone}
 use Rattle.tm_rows.specs.LoopRows.{alone_in_list, for_x}
 
--- asks for what a name stands for, with these values
+-- asks for a call of this name, with these values
 abbrev pub macro_of : List ℕ → List Val → Object
 macro_of x given vs view = answers (asks_for (further.Macro x given))
 
--- asks for the block of a name
+-- asks for the block with this name
 abbrev pub block_of_name : List ℕ → Object
 block_of_name x vs view = answers (asks_for (further.Block x))
 
--- a text that is safe
+-- a text that is marked safe
 abbrev pub safe_tag : Object
 safe_tag vs view = answers (gives (text (codes "<") true))
 
--- A page whose functions `by_macro` and `by_range` ask for `tag` and for `range` of 2, `by_both` for `by_macro`, `by_none` for what isn't
--- there, `by_loop` for `loop`, `by_block` for the block `b`, and `by_two` for `by_block`; a test asks for that block too.
+-- A page with the functions `by_macro` and `by_range`, which ask for `tag` and for `range` of 2;
+-- `by_both`, which asks for `by_macro`; `by_none`, for a name that doesn't exist; `by_loop`, for
+-- `loop`; `by_block`, for the block `b`; and `by_two`, for `by_block`. A test asks for that block
+-- too.
 abbrev pub calling_page : Body → Page
 calling_page body = record (page body nothing) {
   functions = callers (macro_of (codes "tag") []) ∷ callers safe_tag ∷ callers (macro_of (codes "range") (number (pos 2) ∷ []))
@@ -66,15 +68,16 @@ calling_loop = calling_page (one (for_x (alone_in_list (literal_number 1)) (emit
 abbrev pub hidden_block : Stmt → Stmt
 hidden_block s = if_one a (Block' (codes "b") false (tt ∷ []) (statement s no_statement)) no_else
 
--- a block that isn't reached, of this content, and after it {% autoescape "html" %}{{ x() }}{% endautoescape %}
+-- an unreachable block with this content, and after it {% autoescape "html" %}{{ x() }}{%
+-- endautoescape %}
 abbrev pub calling_block : Stmt → List ℕ → Page
 calling_block s x = calling_page (two (hidden_block s) (escaped (emitted_call x)))
 
--- and after it {{ x() }}
+-- the same with {{ x() }} after it
 abbrev pub calling_block_plain : Stmt → List ℕ → Page
 calling_block_plain s x = calling_page (two (hidden_block s) (emitted_call x))
 
--- and after it {{ 1 is block }}
+-- the same with {{ 1 is block }} after it
 abbrev pub testing_block : Stmt → Page
 testing_block s = calling_page (two (hidden_block s) (EmitExpr (passed_alone applications.Test (literal_number 1) (codes "block"))))
 

@@ -1,4 +1,5 @@
--- Pages for what the meaning and the machine share: no proof tells a wrong definition of that from a right one, a row does.
+-- Pages for the definitions that the meaning and the machine share: no proof would notice an error
+-- there, but a worked example does.
 use Rattle.std.specs.Prelude.{ℕ, List, [], ◌∷◌, Some, None, Ok, true, false, codes, pos, length}
 use Rattle.tm_values.specs.Val.{Val, number, text, namespace, loop}
 use Rattle.tm_values.specs.declared.escape.AutoEscape.{AutoEscape}
@@ -40,28 +41,28 @@ each_of_loop attribute =
     page (one (For' (To (codes "x")) (numbers 1 2) None false (tt ∷ tt ∷ [])
     (statement (EmitExpr (of_loop attribute)) (statement (raw (codes ";")) no_statement)) no_else)) nothing
 
--- {% with %}{% set a = 1 %}{{ a }}{% endwith %}{{ a }}, where the context has a as 2
+-- {% with %}{% set a = 1 %}{{ a }}{% endwith %}{{ a }}, with a = 2 in the context
 abbrev pub inner_before_outer : Page
 inner_before_outer =
     page (two (With' [] (tt ∷ tt ∷ []) (statement (Set (To (codes "a")) (literal_number 1))
     (statement (EmitExpr (named (codes "a"))) no_statement)))
     (EmitExpr (named (codes "a")))) (with_value (codes "a") (number (pos 2)))
 
--- {{ a }}, where the context has a as 2, and the globals as 3
+-- {{ a }}, with a = 2 in the context and a = 3 in the globals
 abbrev pub context_before_globals : Page
 context_before_globals = record (page (one (EmitExpr (named (codes "a")))) (with_value (codes "a") (number (pos 2))))
     { globals = (codes "a", number (pos 3)) ∷ [] }
 
--- {{ a }}, where the globals have a as 3
+-- {{ a }}, with a = 3 in the globals
 abbrev pub of_globals : Page
 of_globals = record (page (one (EmitExpr (named (codes "a")))) nothing) { globals = (codes "a", number (pos 3)) ∷ [] }
 
--- f answers what a view is asked for
+-- f returns something that it sees
 abbrev seeing : (View → Val) → Function
 seeing f = callers (λ vs view. answers (gives (f view)))
 
--- {% with %}{{ f() }}{% endwith %}, where f answers how many scopes there are, the names of the globals that it sees, or the template's
--- name
+-- {% with %}{{ f() }}{% endwith %}, where f returns the number of scopes, the names of the globals
+-- that it sees, or the template's name
 abbrev pub in_scope : (View → Val) → Page
 in_scope f =
     with_functions (seeing f) (seeing f)
@@ -85,7 +86,7 @@ shown_escape (escapes.Custom x) = codes "custom"
 abbrev pub escape_seen : View → Val
 escape_seen view = text (shown_escape view.escape) true
 
--- {% autoescape e %}{{ f() }}{% endautoescape %}, where f answers the escape that it sees
+-- {% autoescape e %}{{ f() }}{% endautoescape %}, where f returns the escape that it sees
 abbrev pub escape_seen_under : Expr → Page
 escape_seen_under e =
     with_functions (seeing escape_seen) (seeing escape_seen)
@@ -102,11 +103,11 @@ abbrev pub plain_inside_called : Page
 plain_inside_called =
     page (one (recursive_one (alone_in_list (List' [] no_expr)) (for_y (alone_in_list (literal_number 1)) (EmitLoop x)))) nothing
 
--- {{ a }}, where the context is a namespace without a record
+-- {{ a }}, with a namespace without a record as the context
 abbrev pub lost_context : Page
 lost_context = page (one (EmitExpr (named (codes "a")))) (namespace 0 0)
 
--- {{ a }} under this behavior, with a formatter that writes F
+-- {{ a }} under this behaviour, with a formatter that writes F
 abbrev pub undefined_under : UndefinedBehavior → Page
 undefined_under behavior = record (page (one (EmitExpr (named (codes "a")))) nothing) { undefined = behavior }
 

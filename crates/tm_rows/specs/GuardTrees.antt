@@ -1,5 +1,5 @@
--- Pages among templates, and streams, for what the meaning and the machine share: no proof tells a wrong definition of that from a right
--- one, a row does.
+-- Pages with several templates, and streams, for the definitions that the meaning and the machine
+-- share: no proof would notice an error there, but a worked example does.
 use Rattle.std.specs.Prelude.{ℕ, List, [], ◌∷◌, ◌++◌, Some, None, Ok, true, false, codes, pos}
 use Rattle.tm_values.specs.Answer.{Answer}
 use Rattle.tm_values.specs.Val.{none, number, text, list, vals_of}
@@ -90,8 +90,8 @@ abbrev pub super_after_macro : Page
 super_after_macro =
     laid_out (three (extends (codes "base")) (macro_one m [] (raw (codes "M"))) (block_two a (called m) EmitSuper))
 
--- ---------------------------------------------------------------- names that are joined
--- a name lies in what the other one names
+-- ---------------------------------------------------------------- joined names
+-- a name is in the directory that the other name denotes
 abbrev in_parent : List ℕ → List ℕ → Answer (List ℕ)
 in_parent name parent = Ok (parent ++ (codes "/" ++ name))
 
@@ -121,7 +121,7 @@ folders =
     ∷ template (codes "t/n") (two (Import (literal (codes "o")) (To (codes "o"))) (writes (codes "o")))
     ∷ template (codes "t/n/o") (one (raw (codes "N"))) ∷ []
 
--- a page t among them
+-- a page t with these templates
 abbrev in_folder : Body → Page
 in_folder body = record (among folders body) { name = codes "t"; join = in_parent }
 
@@ -165,7 +165,8 @@ captured_in_json = in_json (two (set_text (codes "\"")) (EmitExpr x))
 abbrev pub macro_in_json : Page
 macro_in_json = in_json (two (macro_one m [] (raw (codes "\""))) (called m))
 
--- {% autoescape "html" %}{% autoescape true %}{{ none }}{% endautoescape %}{% endautoescape %}: Json alone writes none as null
+-- {% autoescape "html" %}{% autoescape true %}{{ none }}{% endautoescape %}{% endautoescape %}:
+-- only Json writes none as null
 abbrev pub true_in_json : Page
 true_in_json = in_json (one (under (literal (codes "html")) (switched_on (EmitExpr (Const none)))))
 
@@ -188,7 +189,7 @@ abbrev pub true_in_macro : Page
 true_in_macro = in_json (two (macro_one m [] tag_under_true) (under (literal (codes "html")) (called m)))
 
 -- ---------------------------------------------------------------- scopes of macros
--- a page whose other template u is {{ x }}, where the context has x as 5
+-- a page with one other template, u: {{ x }}, and with x = 5 in the context
 abbrev with_five : Body → Page
 with_five body =
     record (among (template (codes "u") (one (EmitExpr x)) ∷ []) body) { context = with_value (codes "x") (number (pos 5)) }
@@ -204,7 +205,7 @@ called_beside_one = two m_shows_x (With' (given (To (codes "x")) (literal_number
 abbrev pub sees_context : Page
 sees_context = with_five called_beside_one
 
--- the same where there is no context, and the globals have x as 3
+-- the same without a context, and with x = 3 in the globals
 abbrev pub sees_globals : Page
 sees_globals = record sees_context { context = nothing; globals = (codes "x", number (pos 3)) ∷ [] }
 
@@ -233,7 +234,8 @@ cycle_in_condition =
     paged (one (For' (To (codes "y")) (numbers 1 2) None false (tt ∷ tt ∷ []) (statement inner (statement (raw (codes ";")) no_statement))
     no_else))
 
--- A loop over [1] is asked this before its first item, which is never taken; then the answer is written. No source has such code.
+-- Before its first item, a loop over [1] is asked this, and the answer is written; the item is
+-- never taken. No source has such code.
 abbrev pub asked_before_first : List Instruction → Said
 asked_before_first asking =
     run_before (i.LoadConst (list (vals_of (number (pos 1) ∷ []))) ∷ i.PushLoop (for_flags false) ∷ i.Lookup (codes "loop")

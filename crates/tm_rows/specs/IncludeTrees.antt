@@ -1,4 +1,4 @@
--- Pages that include templates, and import what they leave.
+-- Pages that include and import templates.
 use Rattle.std.specs.Prelude.{◌≡◌, ℕ, zero, suc, ◌-◌, List, [], ◌∷◌, ◌++◌, Some, None, Ok, Err, Bool, true, false, codes}
 use Rattle.tm_values.specs.Answer.{Answer}
 use Rattle.tm_values.specs.Val.{text}
@@ -32,7 +32,7 @@ includes_template name = includes (literal name)
 abbrev pub imports_as_m : Expr → Stmt
 imports_as_m e = Import e (To (codes "m"))
 
--- a name that is imported, for itself or for another
+-- an imported name, bound to itself or to another name
 abbrev pub name_for : List ℕ → List ℕ → Imported
 name_for name target = record { name = name; target = target }
 
@@ -48,7 +48,7 @@ m = named (codes "m")
 abbrev pub member_of_m : List ℕ → Stmt
 member_of_m x = EmitExpr (and_one m (Attribute x))
 
--- a method of a value, called with nothing
+-- a method of a value, called without arguments
 abbrev pub method_of_m : List ℕ → Stmt
 method_of_m x = EmitExpr (and_one m (Apply' applications.Method x [] no_argument [] no_keyword))
 
@@ -100,7 +100,7 @@ with_files body = among files body
 abbrev pub only : Stmt → Page
 only s = with_files (one s)
 
--- a page whose only other template is this one
+-- a page with this template as the only other one
 abbrev pub beside : List ℕ → Body → Body → Page
 beside name of_other body = among (template name of_other ∷ []) body
 
@@ -193,19 +193,19 @@ abbrev pub escapes_apart : Page
 escapes_apart =
     among (template_under escapes.Html (codes "p.html") (one emits_tag) ∷ []) (two (includes_template (codes "p.html")) emits_tag)
 
--- {% autoescape true %}{% include "u" %}{{ x }}{% endautoescape %} with x `<`
+-- {% autoescape true %}{% include "u" %}{{ x }}{% endautoescape %} with x = `<`
 abbrev pub escaped_around : Page
 escaped_around =
     record (only (AutoEscape' (literal_truth true) (tt ∷ tt ∷ [])
     (statement (includes_template (codes "u")) (statement (EmitExpr x) no_statement))))
     { context = with_value (codes "x") (text (codes "<") false) }
 
--- t, which the environment has: {% include "t" %}
+-- t, which is also in the environment: {% include "t" %}
 abbrev pub includes_itself : Page
 includes_itself =
     let body = one (includes_template (codes "t")) in record (beside (codes "t") body body) { name = codes "t" }
 
--- so many times BadInclude before a chain
+-- n times BadInclude before a chain
 abbrev pub bad_includes : ℕ → List ErrorKind → List ErrorKind
 bad_includes zero chain = chain
 bad_includes (suc n) chain = BadInclude ∷ bad_includes n chain
@@ -259,7 +259,8 @@ loop_of_itself =
 abbrev pub beside_itself : Page
 beside_itself = record (beside (codes "t") loop_of_itself loop_of_itself) { name = codes "t" }
 
--- It writes this text at so many charges, where the environment's template of a name is rendered.
+-- The page writes this text with this many charges, if the environment's template of this name is
+-- rendered.
 abbrev pub entry_world : Page → List ℕ → World
 entry_world p name = first_world (host_of p) (entry name) 0 (Some 1000) p.context
 
@@ -359,8 +360,8 @@ block_unheard = beside_d (in_brackets (codes "q") (imports_from (codes "d") (nam
 abbrev pub block_heard : Page
 block_heard = beside_d (one (imports_as_m (literal (codes "d"))))
 
--- ---------------------------------------------------------------- names that are joined
--- lib/i is ok: {% include "i" %}, where names are joined so
+-- ---------------------------------------------------------------- joined names
+-- lib/i is ok: {% include "i" %}, with this function that joins names
 abbrev pub joined_by : (List ℕ → List ℕ → Answer (List ℕ)) → Page
 joined_by join = record (beside (codes "lib/i") (one (raw (codes "ok"))) (one (includes_template (codes "i")))) { join = join }
 

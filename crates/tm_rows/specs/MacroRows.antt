@@ -1,4 +1,4 @@
--- Streams with macros, and where their runs end.
+-- Streams with macros, and how their runs end.
 use Rattle.std.specs.Prelude.{◌≡◌, ℕ, ◌+◌, ◌-◌, pos, List, [], ◌∷◌, ◌++◌, length, map as each, Option, None, Some, Bool, true, false, codes}
 use Rattle.tm_values.specs.Val.{MacroData, Val, number, text, list, keywords, function, macro, vals_of, pairs_of}
 use Rattle.tm_values.specs.declared.error.ErrorKind.{ErrorKind}
@@ -13,7 +13,7 @@ use Rattle.tm_meaning.specs.Steps.{Final, begins, run_for}
 use Rattle.tm_rows.specs.Rows.{Page, Said, said, said_by, left_by, empty, host_of, world_of}
 use Rattle.tm_rows.specs.FurtherRows.{macro_of}
 
--- A page without a tree under this limit, whose function `f` asks for the macro `m` with 5.
+-- A page without a tree, with this limit, and a function `f` that asks for the macro `m` with 5.
 abbrev pub under_limit : ℕ → Page
 under_limit limit = record empty {
   functions = callers (macro_of (codes "m") (number (pos 5) ∷ [])) ∷ [];
@@ -21,7 +21,7 @@ under_limit limit = record empty {
   limit = limit;
 }
 
--- where a run of this code ends
+-- the end of a run of this code
 abbrev pub end_of : Page → AutoEscape → ℕ → List Instruction → Option Final
 end_of page escape fuel code =
     let p : Program = record { host = host_of page; code = λ s. code } in
@@ -32,7 +32,7 @@ end_of page escape fuel code =
 abbrev pub run_under : ℕ → AutoEscape → List Instruction → Said
 run_under limit escape code = said_by (end_of (under_limit limit) escape 1000 code)
 
--- It writes this text at so many charges.
+-- The code writes this text with this many charges.
 abbrev pub CodeWrites : List Instruction → List ℕ → ℕ → Type 0
 CodeWrites code t charges = run_under 500 escapes.None code ≡ said t (1000 - charges) []
 
@@ -42,7 +42,8 @@ FailsWith code kind charges = run_under 500 escapes.None code ≡ said [] (1000 
 abbrev pub names : List (List ℕ) → Val
 names xs = list (vals_of (each (λ x. text x false) xs))
 
--- A macro whose code stands at a place, with the names of its arguments, its free names, and whether it takes `caller`.
+-- A macro with its code at this place, the names of its arguments, the names in its closure, and
+-- whether it takes `caller`.
 abbrev pub declared : ℕ → List ℕ → List (List ℕ) → List (List ℕ) → Bool → List Instruction → List Instruction
 declared place x arguments free caller body =
     i.Jump (place + length body + 2) ∷ (body ++ i.Return ∷ (each i.Enclose free ++ i.GetClosure ∷ i.LoadConst (names arguments)
@@ -60,7 +61,7 @@ whole_number n = number (pos n)
 abbrev pub load : ℕ → Instruction
 load n = i.LoadConst (whole_number n)
 
--- what a name gives, called with these values, is emitted
+-- calls a name with these values, and emits the result
 abbrev pub called : List ℕ → List Val → List Instruction
 called f args = each i.LoadConst args ++ i.CallFunction f (Some (length args)) ∷ i.Emit ∷ []
 
@@ -94,18 +95,20 @@ mentions_caller args = declared 0 m [] [] true (emitted (codes "caller")) ++ cal
 abbrev pub calls_caller : List Instruction
 calls_caller = declared 0 m [] [] true (called (codes "caller") []) ++ called m []
 
--- {% set x = 1 %}{% macro m() %}{{ x }}{% endmacro %}, where x is free or is not, and what is after it
+-- {% set x = 1 %}{% macro m() %}{{ x }}{% endmacro %}, with x in the closure or not, and what
+-- follows
 abbrev pub reads_x : List (List ℕ) → List Instruction → List Instruction
 reads_x free after = load 1 ∷ i.StoreLocal x ∷ (declared 2 m [] free false (emitted x) ++ after)
 
--- {% set x = 2 %}{{ m() }}, and the same in a scope of its own
+-- {% set x = 2 %}{{ m() }}, and the same in a new scope
 abbrev pub set_and_called : List Instruction
 set_and_called = load 2 ∷ i.StoreLocal x ∷ called m []
 
 abbrev pub called_within : List Instruction
 called_within = i.PushWith ∷ (set_and_called ++ i.PopFrame ∷ [])
 
--- {% set x = 1 %}{% macro m() %}{{ x }}{% endmacro %}{% set x = 2 %}{% macro m() %}{{ x }}{% endmacro %}{{ m() }}: what the closure has stays
+-- {% set x = 1 %}{% macro m() %}{{ x }}{% endmacro %}{% set x = 2 %}{% macro m() %}{{ x }}{%
+-- endmacro %}{{ m() }}: names in the closure stay
 abbrev pub enclosed_twice : List Instruction
 enclosed_twice = reads_x (x ∷ []) (i.Enclose x ∷ i.Enclose x ∷ i.PushWith ∷ load 2 ∷ i.StoreLocal x ∷ i.PopFrame ∷ called m [])
 
@@ -134,7 +137,7 @@ abbrev pub by_function : List Instruction
 by_function =
     declared 0 m (x ∷ []) [] false (i.StoreLocal x ∷ i.EmitRaw (codes "<") ∷ (emitted x ++ i.EmitRaw (codes ">") ∷ [])) ++ called (codes "f") []
 
--- a macro of the state 0, by its stream, entry and closure, with one argument
+-- a macro of state 0 with this stream, entry and closure, and one argument
 abbrev pub macro_at : ℕ → ℕ → Option ℕ → MacroData
 macro_at stream entry closure =
     record { state = 0; stream = stream; entry = entry; closure = closure; name = m; arguments = x ∷ []; caller = false }
@@ -145,7 +148,8 @@ calls_macro other args =
     declared 0 m (x ∷ []) [] false (i.StoreLocal x ∷ emitted x)
     ++ (i.LoadConst (macro other) ∷ each i.LoadConst args) ++ i.CallObject (Some (length args + 1)) ∷ i.Emit ∷ []
 
--- {% with a = 1 %}{% macro m() %}{{ a }}{% set b = 3 %}{{ q.z }}{% endmacro %}{{ m() }}{% endwith %}: what stands after a fault in a macro
+-- {% with a = 1 %}{% macro m() %}{{ a }}{% set b = 3 %}{{ q.z }}{% endmacro %}{{ m() }}{% endwith
+-- %}: the state after a fault in a macro
 abbrev pub faults_within : List Instruction
 faults_within = declared 0 m [] [] false (i.PushWith ∷ i.Lookup (codes "q") ∷ i.GetAttr (codes "z") ∷ i.Emit ∷ []) ++ called m []
 
@@ -159,6 +163,6 @@ StaysAfter code =
 abbrev pub a_macro : List (List ℕ) → Bool → MacroData
 a_macro arguments caller = record (macro_at 0 0 None) { arguments = arguments; caller = caller }
 
--- what the arguments a and b, in this order, are bound to
+-- the values that the arguments a and b are bound to
 abbrev pub bound_in_order : List Val → Option (List Val)
 bound_in_order args = bound_to (a_macro (codes "a" ∷ codes "b" ∷ []) false) args

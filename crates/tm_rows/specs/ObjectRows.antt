@@ -1,4 +1,4 @@
--- Pages with a method object or a formatter of the caller's.
+-- Pages with a method object or a formatter of the caller.
 use Rattle.std.specs.Prelude.{zero, [], ◌∷◌, Some, None, Ok, Err, false, codes, pos}
 use Rattle.tm_values.specs.Val.{undefined, none, number, text, function}
 use Rattle.tm_values.specs.declared.error.ErrorKind.TheVariants.{MissingArgument}
@@ -10,11 +10,11 @@ use Rattle.tm_rows.specs.Rows.{Page, page, one, nothing, raw, named, literal_num
 use Rattle.tm_rows.specs.CallRows.{answers, method_none}
 
 -- ---------------------------------------------------------------- method objects
--- answers the method's name
+-- returns the name of the method
 abbrev pub by_name : Fallback
 by_name v x vs view = answers (gives (text x false))
 
--- keeps k, and answers a fault
+-- keeps k, and fails
 abbrev pub keeps_and_faults : Fallback
 keeps_and_faults v x vs view = record { temps = (codes "k", number (pos 1)) ∷ []; reply = faults (MissingArgument ∷ []) }
 
@@ -27,12 +27,12 @@ method_of_function =
     page (one (EmitExpr (method_none (named (codes "sum")) (codes "x")))) (with_value (codes "sum") (function 0))
 
 -- ---------------------------------------------------------------- formatters
--- no zero, and else F
+-- fails for 0, and otherwise writes F
 abbrev pub no_zero : Format
 no_zero (number (pos zero)) view = Err (MissingArgument ∷ [])
 no_zero v view = Ok (codes "F")
 
--- none as an undefined value, and else by the escape
+-- writes none like undefined, and other values by the escape
 abbrev pub none_as_undefined : Format
 none_as_undefined none view = formatted None (undefined false) view
 none_as_undefined v view = formatted None v view

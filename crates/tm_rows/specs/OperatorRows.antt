@@ -1,4 +1,4 @@
--- Pages that show what an operator, an item or a slice gives.
+-- Pages that show the results of operators, items and slices.
 use Rattle.std.specs.Prelude.{ℕ}
 use Rattle.tm_trees.specs.Trees.{BinaryOperator, Expr}
 use Rattle.tm_trees.specs.Trees.unaries.{Negate}

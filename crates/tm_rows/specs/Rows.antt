@@ -1,4 +1,4 @@
--- Worked renders, through the meaning, and through the code and the machine.
+-- Worked renders: their meaning, and the run of their code on the machine.
 use Rattle.std.specs.Prelude.{◌≡◌, ℕ, ◌-◌, List, [], ◌∷◌, map as each, Option, Some, None, Bool, true, false, codes, pos, Ok}
 use Rattle.tm_values.specs.Answer.{Answer}
 use Rattle.tm_values.specs.Val.{Val, undefined, boolean, number, text, map, pairs_of}
@@ -116,7 +116,7 @@ abbrev pub said_by : Option Final → Said
 said_by None = said [] 0 []
 said_by (Some o) = said_at o.text o.end
 
--- where the page's code ends
+-- how the page's code ends
 abbrev pub ended_from : Page → World → Option Final
 ended_from p w =
     let f = base_of true [] w in
@@ -128,23 +128,24 @@ ended p fuel = ended_from p (world_of p fuel)
 abbrev pub ran : Page → Option ℕ → Said
 ran p fuel = said_by (ended p fuel)
 
--- What the page means under this fuel, and what its code comes to.
+-- What the page means with this fuel, and the result of its code.
 abbrev pub Says : Page → ℕ → List ℕ → ℕ → List ErrorKind → Type 0
 Says p fuel t left chain = (meant p (Some fuel) ≡ said t left chain) × (ran p (Some fuel) ≡ said t left chain)
 
--- the fuel that pays for this many charges and no more
+-- the fuel that pays for exactly this many charges
 abbrev pub fuel_for : ℕ → ℕ
 fuel_for charges = charges
 
--- The page pays just these charges and writes this text.
+-- The page pays exactly these charges and writes this text.
 abbrev pub Pays : Page → ℕ → List ℕ → Type 0
 Pays p charges t = Says p (fuel_for charges) t 0 []
 
--- The page pays these charges, writes this text, and stops as no fuel is left for the next charge.
+-- The page pays these charges, writes this text, and stops because no fuel is left for the next
+-- charge.
 abbrev pub StopsAt : Page → ℕ → List ℕ → Type 0
 StopsAt p charges t = Says p (fuel_for charges) t 0 (kind.OutOfFuel ∷ [])
 
--- The same, whichever of these charges is the last that is paid.
+-- The same for each of these numbers of charges.
 abbrev pub StopsAtEach : Page → List ℕ → List ℕ → Type 0
 StopsAtEach p charges t =
     (each (λ n. meant p (Some (fuel_for n))) charges ≡ each (λ n. said t 0 (kind.OutOfFuel ∷ [])) charges)
@@ -161,7 +162,7 @@ FailsAfter p t chain charges = Says p 1000 t (1000 - charges) chain
 abbrev pub Fails : Page → List ℕ → List ErrorKind → Type 0
 Fails p t chain = ((meant p None).text ≡ t) × ((meant p None).chain ≡ chain) × ((ran p None).text ≡ t) × ((ran p None).chain ≡ chain)
 
--- the world after the page, as it means it and as its code comes to it
+-- the world after the page, by its meaning and by its code
 abbrev pub left_at : End → World
 left_at (Finished vs ks w) = w
 left_at (Failed chain w) = w
@@ -174,25 +175,25 @@ left_by (Some o) w = left_at o.end
 abbrev pub After : (World → Type 0) → Page → Type 0
 After Holds p = Holds (rendered (host_of p) (trees p) (world_of p None)).world × Holds (left_by (ended p None) (world_of p None))
 
--- what is kept by names after it
+-- the values kept after it
 abbrev pub LeavesNames : Page → Bindings → Type 0
 LeavesNames p temps = After (λ w. w.temps ≡ temps) p
 
--- a name that a look-up doesn't find after it
+-- a name that isn't found after it
 abbrev pub Lacks : Page → List ℕ → Type 0
 Lacks p x = After (λ w. find_name (view_of (host_of p) w) x ≡ Ok None) p
 
--- the fuel consumed and the fuel left, of so much that was set
+-- the fuel consumed and the fuel left, of the fuel that was set
 abbrev pub Spends : Page → ℕ → Option (ℕ × ℕ) → Type 0
 Spends p fuel levels = fuel_levels (rendered (host_of p) (trees p) (world_of p (Some fuel))).world ≡ levels
 
--- a state whose scopes, stream, block and escape are after it those before it
+-- the scopes, stream, block and escape after it are those before it
 abbrev pub Restores : Page → Type 0
 Restores p =
     let old = world_of p None in
     After (λ w. (w.scopes ≡ old.scopes) × (w.stream ≡ old.stream) × (w.block ≡ old.block) × (w.escape ≡ old.escape)) p
 
--- and where all is done
+-- the same without a fault
 abbrev pub Shows : Page → List ℕ → Type 0
 Shows p t = Fails p t []
 
@@ -225,7 +226,7 @@ a = named (codes "a")
 abbrev pub b : Expr
 b = named (codes "b")
 
--- a template with nothing in it, as that of `{# c #}`
+-- an empty template, like `{# c #}`
 abbrev pub empty : Page
 empty = page (body_of no_statement) nothing
 
@@ -238,7 +239,7 @@ abbrev pub two_names : Page
 two_names = page (two (EmitExpr a) (EmitExpr b)) (map (pairs_of ((text (codes "a") false, text (codes "A") false) ∷
     (text (codes "b") false, text (codes "B") false) ∷ [])))
 
--- the same where b is undefined
+-- the same with an undefined b
 abbrev pub one_name : Page
 one_name = page (two (EmitExpr a) (EmitExpr b)) (with_value (codes "a") (text (codes "x") false))
 
@@ -308,7 +309,7 @@ false_before_fault =
     (with_comparison binaries.Less (literal_number 0)
     (with_comparison binaries.Less (and_one (named (codes "nope")) (Attribute (codes "x"))) no_comparison))))
 
--- what an `if` without `else` gives where it is false
+-- the value of an `if` without `else` whose condition is false
 abbrev pub no_value : Expr
 no_value = Const (undefined true)
 

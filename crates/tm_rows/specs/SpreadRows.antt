@@ -1,4 +1,4 @@
--- Pages that spread arguments, and that call what an expression gives.
+-- Pages that spread arguments, and that call the values of expressions.
 use Rattle.std.specs.Prelude.{ℕ, ◌+◌, List, [], ◌∷◌, codes, pos}
 use Rattle.tm_values.specs.Val.{Val, number, function}
 use Rattle.tm_trees.specs.Trees.{Expr, Map', Call', no_argument, argument, no_keyword, keyword_and, no_pair, no_step, step, Apply', Called, EmitExpr}
@@ -48,7 +48,7 @@ abbrev pub spread_to_filter : Page
 spread_to_filter = filtering (and_one (literal_number 1) (Apply' applications.Filter (codes "second") (tt ∷ [])
     (argument (spread (alone_in_list (literal (codes "b")))) no_argument) [] no_keyword))
 
--- {"a": n}, of a name
+-- {"a": n}, with this key
 abbrev pub map_of : List ℕ → ℕ → Expr
 map_of k n = Map' (tt ∷ []) (with_pair (literal k) (literal_number n) no_pair)
 

@@ -1,5 +1,5 @@
-//! Worked renders of pages with blocks, which extend templates: through the meaning, and through
-//! code and machine.
+//! Worked renders of pages with blocks that extend templates: their meaning, and the run of their
+//! code on the machine.
 ghost use Rattle.std.specs.Prelude.{◌≡◌, [], ◌∷◌, ◌++◌, codes};
 ghost use Rattle.std.specs.Fmt.{decimal};
 ghost use Rattle.tm_values.specs.declared.escape.AutoEscape.TheVariants as escapes;
@@ -20,8 +20,8 @@ ghost use Rattle.tm_rows.specs.BlockTrees.{fault_in_super, while_waiting, divide
 ghost use Rattle.tm_rows.specs.BlockTrees.{required_given, set_before_parent, in_scope_of_parent, in_loop_of_parent};
 ghost use Rattle.tm_rows.specs.BlockTrees.{macro_of_child, escaped_by_child, calls_block, extends, GivesTwice, fault_in_hidden};
 
-/// Blocks of a child in the layout of its parents, at their charges and with too little fuel; the
-/// state after has the last parent's name.
+/// Blocks of a child in the layout of its parents, with their charges and with too little fuel. The
+/// state after the render has the name of the last parent.
 pub fn layout_rows()
     ensures base { Charges of_base (codes "B:[x" ++ decimal 1 ++ codes "]") 13 }
     ensures fuel_ends_in_the_block { StopsAt of_base 11 (codes "B:[x") }
@@ -36,7 +36,7 @@ pub fn layout_rows()
         (EvalBlock ∷ InvalidOperation ∷ []) }
 {}
 
-/// `extends` under a condition, in a loop, in a block and in a macro, whose end asks for no parent.
+/// `extends` under a condition, in a loop, in a block, and in a macro, whose end runs no parent.
 pub fn extends_rows()
     ensures condition { Charges of_either (codes "P") 5 }
     ensures round { Charges in_round (decimal 1 ++ decimal 2 ++ codes "P") 25 }
@@ -44,8 +44,8 @@ pub fn extends_rows()
     ensures macro_end { Charges in_macro (codes "[]") 10 }
 {}
 
-/// What `extends` refuses: no text, a second parent, inside a capture, a name loaded before, and
-/// then one that isn't there.
+/// What `extends` refuses: a value that isn't a text, a second parent, a capture around it, and a
+/// name that was loaded before; and then a name that doesn't exist.
 pub fn refused_extends_rows()
     ensures twice { FailsAfter two_parents [] (InvalidOperation ∷ []) 2 }
     ensures number { FailsAfter (extends_only (literal_number 1)) [] (InvalidOperation ∷ []) 1 }
@@ -58,7 +58,7 @@ pub fn refused_extends_rows()
     ensures itself { FailsAfter extends_itself [] (InvalidOperation ∷ []) 3 }
 {}
 
-/// `super()` and `self.a()` in place: alone, with arguments, and where there is no such block.
+/// `super()` and `self.a()` in place: alone, with arguments, and without such a block.
 pub fn super_rows()
     ensures again { Charges self_after (codes "xx") 4 }
     ensures no_block { FailsAfter (paged (one (EmitBlock (codes "q")))) [] (UnknownBlock ∷ []) 1 }
@@ -69,14 +69,14 @@ pub fn super_rows()
     ensures method { FailsAfter (only_block self_of_one) [] (UnknownMethod ∷ []) 4 }
 {}
 
-/// Texts of blocks as values, escaped or not, and where a parent waits.
+/// Texts of blocks as values, escaped or not, and with a parent waiting.
 pub fn block_value_rows()
     ensures escaped { Charges self_as_value (codes "<b><b>&lt;b&gt;") 14 }
     ensures waiting { Charges self_while_waiting (codes "B:c") 8 }
     ensures next { Charges super_as_value (codes "B:[x]") 11 }
 {}
 
-/// What stands after a fault in a block or after `extends`: every list is at its child's place.
+/// The state after a fault in a block or after `extends`: every list is at its child's place.
 pub fn block_fault_rows()
     ensures fault { FailsAfter fault_in_super (codes "12") (EvalBlock ∷ UndefinedError ∷ []) 8 }
     ensures places { AtChildren fault_in_super (0 ∷ []) }
@@ -93,7 +93,7 @@ pub fn required_rows()
     ensures given { Charges required_given (codes "ok") 4 }
 {}
 
-/// A parent runs in the scopes that its child left, under the child's escape.
+/// A parent runs in the scopes that its child left, with the child's escape.
 pub fn parent_scope_rows()
     ensures set { Charges set_before_parent (decimal 2) 7 }
     ensures scope { Charges in_scope_of_parent (decimal 4 ++ decimal 5) 13 }
@@ -104,8 +104,8 @@ pub fn parent_scope_rows()
     ensures parent_escapes { Charges (escaped_by_child escapes.Html escapes.None) (codes "<<") 7 }
 {}
 
-/// Blocks that a state is asked for, twice: a fault within, a block of the child, and one that
-/// isn't there.
+/// Blocks that a state is asked to render, twice: with a fault, a block of the child, and one that
+/// doesn't exist.
 pub fn state_block_rows()
     ensures shown { Shows fault_in_hidden (codes "ok") }
     ensures fault { GivesTwice fault_in_hidden (codes "b") [] (UndefinedError ∷ [])
@@ -117,8 +117,8 @@ pub fn state_block_rows()
         (EvalBlock ∷ UndefinedError ∷ []) (codes "q") (0 ∷ []) }
 {}
 
-/// Streams that restart in their parent: with nothing open, without the operands and the caches of
-/// before; what ends by a return doesn't.
+/// Streams that restart in their parent: with nothing open, and without the old operands and
+/// caches. A stream that ends by a `Return` doesn't restart.
 pub fn restart_rows()
     ensures writes { run_before (extending []) (i.EmitRaw (codes "x") ∷ []) ≡ said (codes "x") 998 [] }
     ensures no_name { run_before (i.LoadBlocks ∷ []) [] ≡ said [] 1000 (BadStream ∷ []) }
@@ -133,14 +133,14 @@ pub fn restart_rows()
     ensures over { run_before (extending (i.Return ∷ [])) (i.EmitRaw (codes "x") ∷ []) ≡ said [] 999 [] }
 {}
 
-/// Blocks by further calls, whose text is not safe.
+/// Blocks by further calls, whose text isn't marked safe.
 pub fn further_block_call_rows()
     ensures plain { Charges (calls_block escapes.None (codes "a")) (codes "<<") 6 }
     ensures escaped { Charges (calls_block escapes.Html (codes "a")) (codes "&lt;<") 6 }
     ensures missing { Fails (calls_block escapes.None (codes "no")) [] (UnknownBlock ∷ []) }
 {}
 
-/// What was loaded is forgotten after a macro, and not after a block.
+/// The loaded names are restored after a macro, but not after a block.
 pub fn loaded_rows()
     ensures again { Shows (after_macro (called m)) [] }
     ensures parent { Shows (after_macro (extends (codes "base"))) (codes "B:x") }
@@ -149,7 +149,7 @@ pub fn loaded_rows()
         (InvalidOperation ∷ []) }
 {}
 
-/// Templates in a row, each of which extends the next, and blocks that run the next one under a
+/// A chain of templates, each of which extends the next, and blocks that call `super()` under a
 /// limit of depth.
 pub fn parent_chain_rows()
     ensures parents { Charges (of_chain 100) (codes "x") 102 }

@@ -1,4 +1,5 @@
-//! Worked expressions, each a stream of its own: what it leaves, as it means it and as its code comes to it.
+//! Worked expressions, each a stream of its own: the value that it leaves, by its meaning and by
+//! its code.
 ghost use Rattle.std.specs.Prelude.{[], ◌∷◌, codes, pos, true, false};
 ghost use Rattle.tm_values.specs.Val.{boolean, number, undefined};
 ghost use Rattle.tm_values.specs.declared.error.ErrorKind.TheVariants.{InvalidOperation, OutOfFuel, UndefinedError};
@@ -7,8 +8,8 @@ ghost use Rattle.tm_rows.specs.Rows.{Charges, fuel_for, x};
 ghost use Rattle.tm_rows.specs.ExpressionRows.{Ends, EvaluatesTo, EvaluationFails, alone, sum, between, without_else, member_of_none};
 ghost use Rattle.tm_rows.specs.ExpressionRows.{super_alone, self_alone, loop_alone, without_filter, including_one};
 
-/// `a + 1` with a 1, also with too little fuel; `number > 10 and number < 20` with 15; `x`; and `a if b`, which is
-/// the silent undefined value.
+/// `a + 1` with a = 1, also with too little fuel; `number > 10 and number < 20` with 15; `x`; and
+/// `a if b`, which is the silent undefined value.
 pub fn expression_rows()
     ensures sum { EvaluatesTo sum (number (pos 2)) 3 }
     ensures paid { Ends sum (fuel_for 3) (number (pos 2) ∷ []) 0 [] }
@@ -18,7 +19,8 @@ pub fn expression_rows()
     ensures without_else { EvaluatesTo without_else (undefined true) 3 }
 {}
 
-/// `x.y`, and what an expression has none of: `super()`, `self.b()`, `loop(1)`, and `a|upper` without the filter.
+/// `x.y`, and what an expression can't use: `super()`, `self.b()`, `loop(1)`, and `a|upper` without
+/// the filter.
 pub fn refused_expression_rows()
     ensures member { EvaluationFails member_of_none (UndefinedError ∷ []) 2 }
     ensures parent { EvaluationFails super_alone (InvalidOperation ∷ []) 1 }
@@ -27,7 +29,7 @@ pub fn refused_expression_rows()
     ensures filter { EvaluationFails without_filter (UnknownFilter ∷ []) 2 }
 {}
 
-/// What an expression leaves is dropped where its stream runs within another run.
+/// If the stream of an expression runs inside another run, its value is dropped.
 pub fn dropped_value_rows()
     ensures included { Charges including_one (codes "!") 4 }
 {}

@@ -1,5 +1,5 @@
-//! Further worked renders of what the meaning and the machine share: among templates, macros and
-//! escapes, and of loops before their first item.
+//! Further worked renders of what the meaning and the machine share: with several templates, macros
+//! and escapes, and with loops before their first item.
 ghost use Rattle.std.specs.Prelude.{◌≡◌, [], ◌∷◌, ◌++◌, codes};
 ghost use Rattle.std.specs.Fmt.{decimal};
 ghost use Rattle.tm_values.specs.declared.error.ErrorKind.TheVariants.{EvalBlock};
@@ -19,9 +19,9 @@ ghost use Rattle.tm_rows.specs.GuardTrees.{sees_closure, calls_loop_around};
 ghost use Rattle.tm_rows.specs.GuardTrees.{cycle_in_condition, asked_before_first};
 ghost use Rattle.tm_rows.specs.GuardTrees.{is_no_turn, is_changed_first, is_no_attribute};
 
-/// An include begins at its own places in lists of blocks, and the caller's are there after it; the
-/// block that runs stays in it, and where it is missing. A macro runs in no block. A name is joined
-/// to that of the template in which its tag stands.
+/// An include starts with its own places in lists of blocks, and the caller's are restored after
+/// it. The running block is the same inside it, and if it is missing. In a macro no block is
+/// running. A name is joined to that of the template that contains its tag.
 pub fn inheritance_guards()
     ensures own_places { Charges included_by_super (codes "x[i]") 11 }
     ensures places_again { Charges super_after_include (codes "cmix") 14 }
@@ -39,8 +39,8 @@ pub fn inheritance_guards()
     ensures joined_in_macro { Shows joined_in_macro (codes "MT") }
 {}
 
-/// A text that was captured under Json is safe. `true` means the escape with which the run began,
-/// be it of a template, a block or a macro, and Html where that was none.
+/// A text that was captured under Json is safe. `true` selects the escape with which the run of a
+/// template, a block or a macro began, or Html if there was none.
 pub fn escape_guards()
     ensures captured { Charges captured_in_json (codes "\"") 5 }
     ensures of_macro { Charges macro_in_json (codes "\"") 7 }
@@ -52,9 +52,9 @@ pub fn escape_guards()
     ensures on_in_macro { Charges true_in_macro (codes "&lt;") 10 }
 {}
 
-/// A macro sees its closure, the render's context and the globals, and neither the names nor the
-/// loops around its call. `loop` in a loop's condition is the loop around that. Before its first
-/// item a loop has no turn and no place.
+/// A macro sees its closure, the context of the render and the globals, but neither the names nor
+/// the loops around its call. In the condition of a loop, `loop` is the loop around it. Before its
+/// first item, a loop has no turn and no index.
 pub fn scope_guards()
     ensures context { Charges sees_context (decimal 5) 12 }
     ensures globals { Charges sees_globals (decimal 3) 12 }

@@ -11,7 +11,8 @@ ghost use Rattle.tm_rows.specs.GuardRows.{block_under_escape, stored_in_block, e
 ghost use Rattle.tm_rows.specs.GuardRows.{foreign_changed, plain_inside_called, lost_context};
 ghost use Rattle.tm_rows.specs.GuardRows.{undefined_under, formatted_under};
 
-/// What `loop` has: its depth in a loop that can't be called, `changed()` of nothing, its name for a target, and its places.
+/// The attributes and methods of `loop`: its depth in a loop that can't be called, `changed()`
+/// without arguments, `loop` as a target, and its indices.
 pub fn loop_guards()
     ensures depth { Shows depth_inside_plain (decimal 1) }
     ensures changed { Shows changed_without (codes "truefalse") }
@@ -25,7 +26,7 @@ pub fn loop_guards()
     ensures no_such { Shows (each_of_loop (codes "other")) (codes ";;") }
 {}
 
-/// The innermost scope's names come first, then the context, then the globals.
+/// The innermost scope's names are looked up first, then the context, then the globals.
 pub fn look_up_guards()
     ensures inner { Shows inner_before_outer (decimal 1 ++ decimal 2) }
     ensures context { Shows context_before_globals (decimal 2) }
@@ -43,7 +44,7 @@ pub fn view_guards()
     ensures none { Shows (escape_seen_under (literal (codes "none"))) (codes "none") }
 {}
 
-/// What an undefined value is written as, and what is refused before any formatter is asked.
+/// The text written for an undefined value, and what is refused before a formatter is called.
 pub fn emission_guards()
     ensures lenient { Shows (undefined_under Lenient) [] }
     ensures strict { Fails (undefined_under Strict) [] (UndefinedError ∷ []) }
@@ -52,21 +53,21 @@ pub fn emission_guards()
     ensures asked { Shows (formatted_under Lenient (named (codes "a"))) (codes "F") }
 {}
 
-/// `Hello {{ name }}!` takes 4 of 10 units; of 3 none is left.
+/// `Hello {{ name }}!` takes 4 of 10 units of fuel; of 3 units none is left.
 pub fn fuel_guards()
     ensures levels { Spends hello 10 (Some (4, 6)) }
     ensures none_left { Spends hello 3 (Some (3, 0)) }
 {}
 
-/// A loop is called in its own stream alone, and a block is another; the innermost loop is called,
-/// which has to be one that can be; a loop of another state has no methods.
+/// A loop can be called only in its own stream, and a block is another stream. The innermost loop
+/// is called, which must be recursive. A loop of another state has no methods.
 pub fn call_guards()
     ensures innermost { Fails plain_inside_called [] (InvalidOperation ∷ []) }
     ensures foreign { Fails foreign_changed [] (InvalidOperation ∷ []) }
     ensures in_block { Fails called_in_block [] (InvalidOperation ∷ []) }
 {}
 
-/// A block has the escape of its tag, and a scope of its own.
+/// A block has the escape at its tag, and a scope of its own.
 pub fn block_guards()
     ensures escape { Shows block_under_escape (codes "&lt;<") }
     ensures scope { Shows stored_in_block (decimal 2 ++ decimal 1) }

@@ -1,5 +1,5 @@
-//! Worked renders of pages that include templates and import what they leave: through the meaning,
-//! and through code and machine.
+//! Worked renders of pages with includes and imports: their meaning, and the run of their code on
+//! the machine.
 ghost use Rattle.std.specs.Prelude.{◌≡◌, [], ◌∷◌, ◌++◌, Some, true, false, codes, pos};
 ghost use Rattle.tm_values.specs.Val.{number};
 ghost use Rattle.std.specs.Fmt.{decimal};
@@ -33,8 +33,8 @@ ghost use Rattle.tm_rows.specs.IncludeTrees.{second_imported, sees_argument, see
 ghost use Rattle.tm_rows.specs.IncludeTrees.{sees_round, stores_in_scope, stores_within};
 ghost use Rattle.tm_rows.specs.IncludeTrees.{super_of_another};
 
-/// A template that is included, with too little fuel and depth, and one whose fault it is; the
-/// page's scopes, name and escape are there after it.
+/// An included template, with too little fuel and depth, and one that fails. The page's scopes,
+/// name and escape are restored after it.
 pub fn include_rows()
     ensures text { Charges (including (codes "i")) (codes "ab" ++ decimal 1) 5 }
     ensures fuel_ends_inside { Says (including (codes "i")) (fuel_for 3) (codes "ab") 0 (BadInclude ∷ OutOfFuel ∷ []) }
@@ -53,7 +53,7 @@ pub fn include_rows()
     ensures itself { FailsAfter includes_itself [] (bad_includes 45 (InvalidOperation ∷ [])) 92 }
 {}
 
-/// What names a template: a text, the first of several that is there, and what is none.
+/// The names of a template: a text, the first existing one of a list, and values that are no names.
 pub fn choice_rows()
     ensures second { Charges (including_by false (no_or (literal (codes "i"))))
         (codes "ab" ++ decimal 1) 7 }
@@ -75,8 +75,8 @@ pub fn choice_rows()
         (InvalidOperation ∷ []) 4 }
 {}
 
-/// An included template runs in a scope of its own over that of its tag: it sees names there, and
-/// gives none.
+/// An included template runs in its own scope inside that of its tag: it sees the names there, but
+/// binds none.
 pub fn include_scope_rows()
     ensures store { Charges stores_in_scope [] 6 }
     ensures inner { Charges stores_within (codes "[]") 10 }
@@ -90,7 +90,7 @@ pub fn include_scope_rows()
     ensures closure_again { Shows closure_again (decimal 3) }
 {}
 
-/// Its escape and its blocks are its own, and so are the parents that it loads, beside those loaded
+/// It has its own escape and its own blocks, and loads its own parents, besides those loaded
 /// before.
 pub fn include_run_rows()
     ensures blocks_twice { Charges child_twice (codes "BcBc") 14 }
@@ -106,8 +106,8 @@ pub fn include_run_rows()
         (codes "page") (0 ∷ []) }
 {}
 
-/// A loop is called where its template runs again, and the render's own is another than the one of
-/// its name.
+/// A loop can be called if its template runs again. The rendered template isn't the same as the
+/// environment's template of its name.
 pub fn include_loop_rows()
     ensures same { ChargesOf beside_itself (codes "t")
         (codes "(" ++ decimal 1 ++ codes ")<(" ++ decimal 5 ++ codes ")>") 41 }
@@ -115,7 +115,7 @@ pub fn include_loop_rows()
         (BadInclude ∷ InvalidOperation ∷ []) }
 {}
 
-/// What templates export: their names without a leading underscore, and their text.
+/// The exports of templates: their names without a leading underscore, and their text.
 pub fn import_rows()
     ensures members { Charges module_members (codes "<" ++ decimal 5 ++ codes ">" ++ decimal 2) 28 }
     ensures text { Charges (importing (codes "f")) (codes "text") 15 }
@@ -132,7 +132,8 @@ pub fn import_rows()
     ensures block { FailsAfter block_heard [] (BadInclude ∷ UndefinedError ∷ []) 7 }
 {}
 
-/// Names that a template leaves, given to other names from the last; nothing of it is heard.
+/// Names that are imported under other names, from the last to the first. The text of the template
+/// is dropped.
 pub fn from_import_rows()
     ensures names { Charges names_imported (codes "<" ++ decimal 1 ++ codes ">" ++ decimal 2) 26 }
     ensures missing { Charges (name_imported (codes "f") (codes "nope")) (codes "[]") 18 }
@@ -144,8 +145,8 @@ pub fn from_import_rows()
     ensures parent { Charges (name_imported (codes "child") (codes "a")) (codes "[]") 13 }
 {}
 
-/// Instructions without the operand that they take: any name, and a value, of which a module has the
-/// printed text.
+/// Instructions without their operand: any name; and a value, whose printed text is the text of a
+/// module.
 pub fn include_operand_rows()
     ensures name { run_before (i.Include false ∷ []) [] ≡ said [] 999 (BadStream ∷ []) }
     ensures module { run_before (i.IncludeModule ∷ []) [] ≡ said [] 999 (BadStream ∷ []) }
@@ -155,8 +156,8 @@ pub fn include_operand_rows()
         ≡ said (decimal 1) 998 [] }
 {}
 
-/// The template of an import stores nothing in the closure of the scope in which it runs, and that
-/// scope has its closure again after it, also after a fault.
+/// The template of an import binds nothing in the closure of the scope in which it runs, and that
+/// scope has its closure again afterwards, even after a fault.
 pub fn module_closure_rows()
     ensures apart { closures_before (imports_under_closure []) (stores_j 2 [])
         ≡ ((codes "j", number (pos 1)) ∷ []) ∷ [] }
@@ -166,7 +167,7 @@ pub fn module_closure_rows()
         ≡ said [] 993 (BadInclude ∷ InvalidOperation ∷ []) }
 {}
 
-/// The name of a template is joined to that of the one that runs.
+/// The name of a template is joined to that of the running one.
 pub fn join_rows()
     ensures library { Shows (joined_by in_library) (codes "ok") }
     ensures fault { Fails (joined_by (joins_fail (UnknownFilter ∷ []))) [] (UnknownFilter ∷ []) }

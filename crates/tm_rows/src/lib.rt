@@ -1,5 +1,6 @@
-//! Rows: worked examples of what trees mean and the machine does. Each function is a law, which runs
-//! nothing: its clauses say what pages and streams come to. No crate waits for these proofs.
+//! Worked examples of what trees mean and of what the machine does. Each function is a law, which
+//! runs nothing: its clauses state the results of pages and streams. No crate depends on these
+//! proofs.
 #![tactic(auto)]
 
 mod block_trees;

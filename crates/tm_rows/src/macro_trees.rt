@@ -1,4 +1,5 @@
-//! Worked renders of trees with macros and call tags, through the meaning and through code and machine.
+//! Worked renders of trees with macros and call tags: their meaning, and the run of their code on
+//! the machine.
 ghost use Rattle.std.specs.Prelude.{[], ◌∷◌, ◌++◌, codes};
 ghost use Rattle.std.specs.Fmt.{decimal};
 ghost use Rattle.tm_values.specs.declared.undefined.UndefinedBehavior.TheVariants.{Strict};
@@ -14,7 +15,7 @@ ghost use Rattle.tm_rows.specs.MacroTrees.{called_without_caller, called_functio
 ghost use Rattle.tm_rows.specs.MacroTrees.{stored_later, set_again, set_within, calls_itself, one_calls_other, one_in_another};
 ghost use Rattle.tm_rows.specs.MacroTrees.{index_of_loop, loop_of_macro, fault_within, members, method_of_macro};
 
-/// Macros with arguments by their places and names, with defaults, and what refuses them.
+/// Macros with positional and keyword arguments, with defaults, and refused arguments.
 pub fn parameter_rows()
     ensures text { Charges one_text (codes "x") 7 }
     ensures within { Shows (with_limit 7 one_text) (codes "x") }
@@ -36,7 +37,7 @@ pub fn parameter_rows()
     ensures strict { Fails (under Strict (two_parameters (call_none m))) [] (UndefinedError ∷ []) }
 {}
 
-/// `caller` as a parameter, where there is none, and as the macro of a call tag.
+/// `caller` as a parameter, without a call tag, and as the macro of a call tag.
 pub fn call_tag_rows()
     ensures parameter { Charges parameter_caller (decimal 1) 12 }
     ensures none { Fails no_caller [] (InvalidOperation ∷ []) }
@@ -51,7 +52,8 @@ pub fn call_tag_rows()
     ensures value { Shows called_by_value (codes "[a][b]") }
 {}
 
-/// What macros see: names as they are at the call where their scope stands, other macros, and loops around them.
+/// What macros see: names with their values at the call, while their scope is open; other macros;
+/// and the loops around them.
 pub fn enclosed_rows()
     ensures later { Charges stored_later (decimal 1 ++ decimal 1 ++ decimal 2) 40 }
     ensures again { Charges set_again (decimal 2) 13 }
@@ -64,7 +66,7 @@ pub fn enclosed_rows()
     ensures fault { Fails fault_within (codes "a") (UndefinedError ∷ []) }
 {}
 
-/// Macros as values: their attributes, as what a map has, and their methods.
+/// Macros as values: their attributes, macros in a map, and their methods.
 pub fn macro_value_rows()
     ensures members { Charges members (codes "<macro m> [\"a\"] false m ") 22 }
     ensures in_map { Charges macro_in_map (codes "xx") 18 }

@@ -1,4 +1,4 @@
-//! Worked runs of streams with macros: each clause says what the machine comes to.
+//! Worked runs of streams with macros: each clause states the machine's result.
 ghost use Rattle.std.specs.Prelude.{◌≡◌, [], ◌∷◌, ◌++◌, None, Some, true, false, codes};
 ghost use Rattle.std.specs.Fmt.{decimal};
 ghost use Rattle.tm_values.specs.Val.{undefined, keywords, no_pairs, pair};
@@ -13,7 +13,8 @@ ghost use Rattle.tm_rows.specs.MacroRows.{set_and_called, called_within, enclose
 ghost use Rattle.tm_rows.specs.MacroRows.{escaped_text, by_function, macro_at, calls_macro, faults_within, a_macro};
 ghost use Rattle.tm_rows.specs.MacroRows.{bound_in_order};
 
-/// Macros: their text and charges, under limits of depth, with arguments by their places and names and by default, and with `caller`.
+/// Macros: their text and charges, under limits of depth, with positional, keyword and default
+/// arguments, and with `caller`.
 pub fn macro_rows()
     ensures text { CodeWrites one_text (codes "x") 7 }
     ensures within { run_under 7 escapes.None one_text ≡ said (codes "x") 993 [] }
@@ -35,8 +36,9 @@ pub fn macro_rows()
     ensures caller_called { FailsWith calls_caller InvalidOperation 6 }
 {}
 
-/// Closures: a name has its value at the call where its scope was left or stored again, and else that of the declaration; what a closure
-/// has stays; and macros within macros, whose entries are in the order of the source.
+/// Closures: a name has its value at the call if its scope was closed or bound it again, and
+/// otherwise that at the declaration; names in a closure stay. And macros inside macros, whose
+/// entries are in the order of the source.
 pub fn closure_rows()
     ensures stored { CodeWrites (reads_x (x ∷ []) set_and_called) (decimal 2) 13 }
     ensures within { CodeWrites (reads_x (x ∷ []) called_within) (decimal 1) 13 }
@@ -47,8 +49,9 @@ pub fn closure_rows()
     ensures endless { run_under 31 escapes.None endless ≡ said [] 989 (InvalidOperation ∷ []) }
 {}
 
-/// A macro's text is safe where an escape is in force, and not where a further call asked for it; each is known by its state, stream, entry,
-/// closure and number of arguments, in this order after its arguments; and what a fault in it leaves.
+/// The text of a macro is marked safe if an escape is in force, but not if a further call asked for
+/// it. After its arguments, its state, stream, entry, closure and number of arguments are checked,
+/// in this order. And the state after a fault in it.
 pub fn macro_call_rows()
     ensures escaped { run_under 500 escapes.Html escaped_text ≡ said (codes "<&lt;") 991 [] }
     ensures further { CodeWrites by_function (codes "<" ++ decimal 5 ++ codes ">") 11 }
@@ -73,7 +76,8 @@ pub fn macro_call_rows()
     ensures put_back { StaysAfter faults_within }
 {}
 
-/// What arguments are bound to: by their places, by their names, and undefined; keys that are no texts are ignored.
+/// The arguments that parameters are bound to: positional, keyword, and undefined ones. Keys that
+/// aren't texts are ignored.
 pub fn binding_rows()
     ensures places { bound_in_order (whole_number 1 ∷ whole_number 2 ∷ [])
         ≡ Some (whole_number 1 ∷ whole_number 2 ∷ []) }
@@ -91,7 +95,8 @@ pub fn binding_rows()
         ≡ Some [] }
 {}
 
-/// Parts of a macro that don't fit, a run that ends while something of its own is open, and what is undefined.
+/// Macro parts that don't fit, a run that ends while something of its own is open, and undefined
+/// operands.
 pub fn macro_part_rows()
     ensures no_names { FailsWith (i.GetClosure ∷ load 1 ∷ i.BuildMacro m 0 false ∷ []) BadStream 2 }
     ensures no_closure { FailsWith (i.LoadConst (names (m ∷ [])) ∷ i.LoadConst (names []) ∷ i.BuildMacro m 0 false ∷ [])

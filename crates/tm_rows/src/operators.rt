@@ -9,7 +9,7 @@ ghost use Rattle.tm_trees.specs.Trees.binaries.{Remainder, Power};
 ghost use Rattle.tm_rows.specs.Rows.{Charges, Fails, literal_number};
 ghost use Rattle.tm_rows.specs.OperatorRows.{of_two, of_list, minus, negated, item_of_two, part_of_two};
 
-/// `{{ m op n }}` by each operator that compares, of numbers that are the same and that aren't.
+/// `{{ m op n }}` with each comparison operator, for equal and for different numbers.
 pub fn comparison_rows()
     ensures equal { Charges (of_two 2 Equal 2) (codes "true") 4 }
     ensures unequal { Charges (of_two 7 Equal 2) (codes "false") 4 }
@@ -24,7 +24,7 @@ pub fn comparison_rows()
     ensures less_than_least { Charges (of_two 2 GreaterOrEqual 7) (codes "false") 4 }
 {}
 
-/// `{{ 7 op 2 }}` by each arithmetic operator, and `{{ -7 }}`; a quotient that needs a fraction is refused.
+/// `{{ 7 op 2 }}` with each arithmetic operator, and `{{ -7 }}`. `/` is refused.
 pub fn arithmetic_rows()
     ensures sum { Charges (of_two 7 Add 2) (decimal 9) 4 }
     ensures difference { Charges (of_two 7 Subtract 2) (decimal 5) 4 }

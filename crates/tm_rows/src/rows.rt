@@ -1,4 +1,4 @@
-//! Worked renders: each clause says what a page means, and what its code and the machine come to.
+//! Worked renders: each clause states what a page means, and the result of its code on the machine.
 ghost use Rattle.std.specs.Prelude.{[], ◌∷◌, ◌++◌, true, false, codes, pos};
 ghost use Rattle.std.specs.Fmt.{decimal};
 ghost use Rattle.tm_values.specs.Val.{boolean, function, map, no_pairs, number};
@@ -42,7 +42,8 @@ ghost use Rattle.tm_trees.specs.Trees.applications.{Filter, Test, NegatedTest};
 ghost use Rattle.tm_values.specs.declared.undefined.UndefinedBehavior.TheVariants.{SemiStrict, Strict};
 ghost use Rattle.tm_values.specs.declared.error.ErrorKind.TheVariants.{BadStream, UnknownBlock, UnknownFilter, UnknownTest};
 
-/// `Hello {{ name }}!` with the name World takes 4 charges; with fewer units of fuel it ends where the fuel does.
+/// `Hello {{ name }}!` with the name World takes 4 charges. With less fuel, it stops when the fuel
+/// runs out.
 pub fn hello_rows()
     ensures charges { Charges hello (codes "Hello World!") 4 }
     ensures paid { Pays hello 4 (codes "Hello World!") }
@@ -53,15 +54,16 @@ pub fn hello_rows()
     ensures no_fuel_set { Shows hello (codes "Hello World!") }
 {}
 
-/// A template with nothing in it, `x`, and `{{ "}}" }}`, whose tree is the same with brackets round the literal.
+/// An empty template, `x`, and `{{ "}}" }}`, whose tree is the same with brackets around the
+/// literal.
 pub fn text_rows()
     ensures empty { Pays empty 0 [] }
     ensures text { Charges (text_alone (codes "x")) (codes "x") 1 }
     ensures literal { Charges (shown (literal (codes "}}")) nothing) (codes "}}") 2 }
 {}
 
-/// `{{ a }}{{ b }}` with the names A and B, and with x and an undefined one, takes 4
-/// charges; with fewer units of fuel it ends where the fuel does.
+/// `{{ a }}{{ b }}`, with A and B and with x and an undefined name, takes 4 charges. With less
+/// fuel, it stops when the fuel runs out.
 pub fn two_names_rows()
     ensures paid { Pays two_names 4 (codes "AB") }
     ensures after_the_first { StopsAtEach two_names (2 ∷ 3 ∷ []) (codes "A") }
@@ -71,7 +73,8 @@ pub fn two_names_rows()
     ensures before_the_only_text { StopsAt one_name 1 [] }
 {}
 
-/// `{% if a %}x{% else %}y{% endif %}`, `{% if a %}1{% elif b %}2{% else %}3{% endif %}` and `{% if a %}{% endif %}`.
+/// `{% if a %}x{% else %}y{% endif %}`, `{% if a %}1{% elif b %}2{% else %}3{% endif %}` and
+/// `{% if a %}{% endif %}`.
 pub fn condition_rows()
     ensures other { Charges (either_text nothing) (codes "y") 3 }
     ensures first { Charges (either_text (with_value (codes "a") (boolean true))) (codes "x") 4 }
@@ -79,28 +82,29 @@ pub fn condition_rows()
     ensures empty { Charges empty_condition [] 2 }
 {}
 
-/// `{{ a and b.c }}`, `{{ a or "x" }}` and `{{ not a == b }}`, of undefined names.
+/// `{{ a and b.c }}`, `{{ a or "x" }}` and `{{ not a == b }}`, with undefined names.
 pub fn operator_rows()
     ensures and { Charges (shown a_and_b_c nothing) [] 3 }
     ensures or { Charges (shown a_or_x nothing) (codes "x") 4 }
     ensures not { Charges (shown not_equal nothing) (codes "false") 5 }
 {}
 
-/// `{{ a.b }}`, of an undefined name, and of a map that has no b.
+/// `{{ a.b }}`, with an undefined a, and with a map without b.
 pub fn attribute_rows()
     ensures undefined { Fails (shown a_b nothing) [] (UndefinedError ∷ []) }
     ensures missing { Charges (shown a_b (with_value (codes "a") (map no_pairs))) [] 3 }
 {}
 
-/// `{{ 1 < 2 < 3 }}`, `{{ 3 < 2 < 1 }}` and `{{ 1 < 2 < 3 < 0 < nope.x }}`: what stands after a false comparison isn't asked for.
+/// `{{ 1 < 2 < 3 }}`, `{{ 3 < 2 < 1 }}` and `{{ 1 < 2 < 3 < 0 < nope.x }}`: what follows a false
+/// comparison isn't evaluated.
 pub fn chain_rows()
     ensures true_row { Charges (shown (three_in_a_row 1 2 3) nothing) (codes "true") 8 }
     ensures false_row { Charges (shown (three_in_a_row 3 2 1) nothing) (codes "false") 6 }
     ensures stops { Charges (shown false_before_fault nothing) (codes "false") 12 }
 {}
 
-/// `{{ 1 if false }}`, `{{ 1 if true else 2 }}`, `{{ 1 if true if false else 2 }}` and `{{ 1 if false if true else 2 }}`:
-/// the last condition is asked first.
+/// `{{ 1 if false }}`, `{{ 1 if true else 2 }}`, `{{ 1 if true if false else 2 }}` and
+/// `{{ 1 if false if true else 2 }}`: the last condition is evaluated first.
 pub fn conditional_rows()
     ensures no_value { Charges (shown (one_condition false no_value) nothing) [] 4 }
     ensures value { Charges (shown (one_condition true (literal_number 2)) nothing) (decimal 1) 5 }
@@ -108,8 +112,8 @@ pub fn conditional_rows()
     ensures first_false { Charges (shown (two_conditions false true) nothing) [] 7 }
 {}
 
-/// `{% block b %}x{{ a }}{% endblock %}y`, a block that isn't reached, and one whose run ends in a fault within an escape and a scope,
-/// after which all that the run replaced is put back.
+/// `{% block b %}x{{ a }}{% endblock %}y`; a block that isn't reached; and one that fails inside an
+/// escape and a scope, after which everything that the run replaced is restored.
 pub fn block_rows()
     ensures charges { Charges (in_block 500) (codes "xy") 5 }
     ensures deep_enough { Charges (in_block 2) (codes "xy") 5 }
@@ -120,8 +124,9 @@ pub fn block_rows()
     ensures restores { Restores fault_in_block }
 {}
 
-/// `{% with a = 1, b = a %}{{ b }}{% endwith %}{{ b }}`, `{% with %}{% endwith %}`, `{% set a, b = 1, 2 %}{{ a }}{{ b }}`,
-/// `{% set a, b = [1] %}`, `{% set a.b = 1 %}` and `{% do f() %}x`.
+/// `{% with a = 1, b = a %}{{ b }}{% endwith %}{{ b }}`, `{% with %}{% endwith %}`,
+/// `{% set a, b = 1, 2 %}{{ a }}{{ b }}`, `{% set a, b = [1] %}`, `{% set a.b = 1 %}` and
+/// `{% do f() %}x`.
 pub fn scope_rows()
     ensures with_two { Charges with_two (decimal 1) 8 }
     ensures deep_enough { Charges (empty_with 2) [] 0 }
@@ -132,8 +137,9 @@ pub fn scope_rows()
     ensures do_call { Charges do_call (codes "x") 2 }
 {}
 
-/// `{% set x %}a{{ 1 }}{% endset %}{{ x }}`, `b{% set x %}a{{ nope() }}{% endset %}`, `{% set a, b %}1{% endset %}`,
-/// and how texts are escaped that a set block takes or that are emitted under `{% autoescape e %}`.
+/// `{% set x %}a{{ 1 }}{% endset %}{{ x }}`, `b{% set x %}a{{ nope() }}{% endset %}`,
+/// `{% set a, b %}1{% endset %}`, and how texts are escaped in a set block or when emitted under
+/// `{% autoescape e %}`.
 pub fn capture_rows()
     ensures set_block { Charges set_block (codes "a" ++ decimal 1) 7 }
     ensures fuel_ends_inside { StopsAt set_block 2 [] }
@@ -147,7 +153,8 @@ pub fn capture_rows()
     ensures no_such { Fails (escaped_by (literal (codes "xml"))) [] (InvalidOperation ∷ []) }
 {}
 
-/// `{% for x in [1,2] %}{{ x }}{% endfor %}` with each fuel up to 14, loops without items, that are left or go on early, and `loop`.
+/// `{% for x in [1,2] %}{{ x }}{% endfor %}` with each fuel up to 14; loops without items; loops
+/// with `break` and `continue`; and `loop`.
 pub fn loop_rows()
     ensures charges { Charges each_number (decimal 1 ++ decimal 2) 14 }
     ensures paid { Pays each_number 14 (decimal 1 ++ decimal 2) }
@@ -163,8 +170,8 @@ pub fn loop_rows()
     ensures number { Fails over_a_number [] (InvalidOperation ∷ []) }
 {}
 
-/// `{% for x in [1,2] if x > 1 %}{{ x }}{% endfor %}`, with an else part, under a condition that
-/// holds for none, and what `loop` is in the body and in the condition.
+/// `{% for x in [1,2] if x > 1 %}{{ x }}{% endfor %}`, with an else part, with a condition that
+/// selects no item, and `loop` in the body and in the condition.
 pub fn loop_condition_rows()
     ensures alone { Charges chosen_alone (decimal 2) 29 }
     ensures last { StopsAt chosen_alone 28 (decimal 2) }
@@ -174,8 +181,8 @@ pub fn loop_condition_rows()
     ensures no_loop { Charges chosen_by_loop (codes "E") 19 }
 {}
 
-/// `{{ range(3) }}`, `{{ range(a=3) }}`, `{{ dict(m, a=2, b=3) }}` of a constant map, and
-/// `{% set ns = namespace(n=0) %}{% for x in [1,2] %}{% set ns.n = ns.n + x %}{% endfor %}{{ ns.n }}`.
+/// `{{ range(3) }}`, `{{ range(a=3) }}`, `{{ dict(m, a=2, b=3) }}` with a constant map, and `{% set
+/// ns = namespace(n=0) %}{% for x in [1,2] %}{% set ns.n = ns.n + x %}{% endfor %}{{ ns.n }}`.
 pub fn function_rows()
     ensures range { Charges range_of_three
         (codes "[" ++ decimal 0 ++ codes ", " ++ decimal 1
@@ -187,8 +194,8 @@ pub fn function_rows()
 {}
 
 /// `{% for x in [1,1,2] %}{{ loop.changed(x) }} {% endfor %}`, `loop.cycle("x", "y")` and
-/// `loop.cycle()` in loops, `loop.index()`, `{{ m.f("a") }}` where m has a function at f and where
-/// it has a number, and `{{ nope.m() }}`.
+/// `loop.cycle()` in loops, `loop.index()`, `{{ m.f("a") }}` with a map m that has a function or a
+/// number at f, and `{{ nope.m() }}`.
 pub fn method_rows()
     ensures changed { Charges changed_or_not (codes "true false true ") 29 }
     ensures cycle { Charges by_turns (codes "xyx") 29 }
@@ -199,7 +206,7 @@ pub fn method_rows()
     ensures undefined { Fails method_of_undefined [] (UnknownMethod ∷ []) }
 {}
 
-/// `{{ f("a", 1) }}`, `{{ f() }}{{ g() }}` and `a{{ nope(f()) }}`, by what f answers.
+/// `{{ f("a", 1) }}`, `{{ f() }}{{ g() }}` and `a{{ nope(f()) }}`, for different results of f.
 pub fn call_rows()
     ensures last { Charges (calling last_function) (decimal 1) 4 }
     ensures fault { Fails (calling (faulty (MissingArgument ∷ []))) [] (MissingArgument ∷ []) }
@@ -215,8 +222,8 @@ pub fn call_rows()
 {}
 
 /// `{{ "a"|upper }}`, `{{ 1|second("b")|upper }}`, `{{ 1 is not odd }}`, `{{ 6 is divisible 3 }}`,
-/// `{{ not 6 is divisible 3 }}`, a test that answers undefined, under Strict, and names that are
-/// those of no filter and no test.
+/// `{{ not 6 is divisible 3 }}`, a test that returns undefined, under Strict, and unknown filters
+/// and tests.
 pub fn filter_rows()
     ensures upper { Charges in_capitals (codes "A") 3 }
     ensures chain { Charges one_after_the_other (codes "B") 5 }
@@ -229,7 +236,7 @@ pub fn filter_rows()
     ensures no_negated { Fails (unknown NegatedTest (codes "upper")) [] (UnknownTest ∷ []) }
 {}
 
-/// `{{ sum(*[1], 2, *[3, 4]) }}`, `{{ sum(1, *[2]) }}`, `{{ sum(*x) }}` of an undefined name, also
+/// `{{ sum(*[1], 2, *[3, 4]) }}`, `{{ sum(1, *[2]) }}`, `{{ sum(*x) }}` with an undefined x, also
 /// under Strict, `{{ sum(*5) }}`, and `{{ 1|second(*["b"]) }}`.
 pub fn spread_rows()
     ensures lists { Charges sum_of_lists (decimal 10) 10 }
@@ -241,7 +248,7 @@ pub fn spread_rows()
 {}
 
 /// `{{ dict(**{"a": 1}, **{"a": 2}, b=3) }}`, `{{ dict(a=1, **{"b": 2}, c=3) }}`,
-/// `{{ dict(**namespace(z=1)) }}`, `{{ dict(**x) }}` of an undefined name, `{{ dict(**1) }}` and
+/// `{{ dict(**namespace(z=1)) }}`, `{{ dict(**x) }}` with an undefined x, `{{ dict(**1) }}` and
 /// `{{ range(*[1], **{}) }}`.
 pub fn spread_keyword_rows()
     ensures maps { Charges dict_of_maps
@@ -265,8 +272,8 @@ pub fn callee_rows()
 
 /// `{% filter upper %}a{{ "1" }}b{% endfilter %}`, `{% filter upper|substr(1) %}ab{% endfilter %}`,
 /// `{% filter upper|second("b") %}a{% endfilter %}`, how the texts of filter blocks are escaped,
-/// `{% set x | upper | substr(1) %}ab{% endset %}{{ x }}`, and a filter block that is left by
-/// `break`, by the end of fuel and by a fault.
+/// `{% set x | upper | substr(1) %}ab{% endset %}{{ x }}`, and a filter block that ends by `break`,
+/// when the fuel runs out, and by a fault.
 pub fn filter_block_rows()
     ensures one_filter { Charges filter_block (codes "A1B") 7 }
     ensures two_filters { Charges two_filters (codes "B") 6 }
@@ -279,8 +286,9 @@ pub fn filter_block_rows()
     ensures fault_inside { Fails fault_in_filter (codes "a") (UnknownFilter ∷ []) }
 {}
 
-/// Filters and tests by cache numbers: one name with one number, with two, and without; two names with one
-/// number; numbers that are none. No compiler writes such code, but for the first.
+/// Filters and tests with cache numbers: one name with one number, with two numbers, and without;
+/// two names with one number; and numbers without a cache. The compiler writes only code like the
+/// first.
 pub fn cache_rows()
     ensures again { EndsIn (filtered_by (upper_by 3 ∷ upper_by 3 ∷ [])) (codes "A") [] }
     ensures two { EndsIn (filtered_by (upper_by 3 ∷ upper_by 0 ∷ [])) (codes "A") [] }
@@ -294,9 +302,10 @@ pub fn cache_rows()
     ensures past_tests { EndsIn (tested_by (odd_by 50 ∷ [])) [] (BadStream ∷ []) }
 {}
 
-/// Further calls of a filter: `{{ f() }}`, alone and in a scope, where f asks for `upper` with a; `{{ "a"|twice }}`, which asks for `upper`
-/// with its text doubled; each under a limit with room for one more depth, and without. `{{ "a"|again }}`, which asks for itself; what is
-/// kept before a further call, which sees it; and a filter that isn't there.
+/// Further calls of a filter. `{{ f() }}`, alone and in a scope, where f asks for `upper` of a, and
+/// `{{ "a"|twice }}`, which asks for `upper` of its text doubled; each under a limit with room for
+/// one more level, and without. `{{ "a"|again }}`, which asks for itself. Values kept before a
+/// further call, which sees them. And a filter that doesn't exist.
 pub fn further_rows()
     ensures function { Charges (with_limit 2 further_of_function) (codes "A") 2 }
     ensures too_deep { Fails (with_limit 1 further_of_function) [] (InvalidOperation ∷ []) }
@@ -314,8 +323,9 @@ pub fn further_rows()
     ensures kept { LeavesNames (further_of (codes "unknown")) ((codes "k", number (pos 1)) ∷ []) }
 {}
 
-/// Further calls of what a name stands for: its text is not safe; a function of the language; a name of a scope, and `loop`, which can't be
-/// called so; a name that isn't found; and each one deeper than the last.
+/// Further calls of a name: their text isn't marked safe. A built-in function; a name in a scope,
+/// and `loop`, which can't be called this way; a name that isn't found; and calls that are each one
+/// level deeper than the last.
 pub fn further_macro_rows()
     ensures text { Shows (calling_escaped (codes "by_macro")) (codes "&lt;") }
     ensures direct { Shows (calling_escaped (codes "tag")) (codes "<") }
@@ -329,8 +339,10 @@ pub fn further_macro_rows()
     ensures too_deep { Fails (with_limit 2 (further_by (codes "by_both"))) [] (InvalidOperation ∷ []) }
 {}
 
-/// Further calls of a block, which is reached by them alone, or runs in its place too: its text is not safe, and for a test counts by its truth; its scope stands one
-/// deeper for each call before it; its fault is its own, and all is as before it; and a block that isn't there.
+/// Further calls of a block, which is otherwise unreachable, or also runs in its place. Its text
+/// isn't marked safe, and for a test only its truth counts. Its scope is one level deeper for each
+/// call before it. Its fault isn't wrapped, and everything is restored after it. And a block that
+/// doesn't exist.
 pub fn further_block_rows()
     ensures text { Shows (calling_block (raw (codes "<")) (codes "by_block")) (codes "&lt;") }
     ensures fits { Shows (with_limit 3 (calling_block (raw (codes "x")) (codes "by_block")))
@@ -351,8 +363,9 @@ pub fn further_block_rows()
     ensures again_too_deep { Fails (with_limit 2 block_again) (codes "x") (InvalidOperation ∷ []) }
 {}
 
-/// `{{ sum.x() }}` of a function, `{{ nope.m() }}` of an undefined name under Strict, and `loop.index()`, without and with a method object
-/// that answers the method's name; a map's own method; and an object that keeps a value and answers a fault.
+/// `{{ sum.x() }}` of a function, `{{ nope.m() }}` of an undefined name under Strict, and
+/// `loop.index()`, without a method object and with one that returns the name of the method; a
+/// map's own method; and an object that keeps a value and fails.
 pub fn method_object_rows()
     ensures without { Fails method_of_function [] (UnknownMethod ∷ []) }
     ensures function { Charges (with_methods by_name method_of_function) (codes "x") 3 }
@@ -366,8 +379,8 @@ pub fn method_object_rows()
         ((codes "k", number (pos 1)) ∷ []) }
 {}
 
-/// `a{{ 0 }}b` with a formatter that answers a fault for 0; `{{ none }}` without a formatter and with one that writes none as an undefined
-/// value; and under Strict an undefined name and `{{ 1 if false }}`.
+/// `a{{ 0 }}b` with a formatter that fails for 0; `{{ none }}` without a formatter, and with one
+/// that writes none like undefined; and, under Strict, an undefined name and `{{ 1 if false }}`.
 pub fn formatter_rows()
     ensures fault { Fails (with_formatter no_zero zero_between) (codes "a") (MissingArgument ∷ []) }
     ensures without { Charges emitted_none (codes "none") 2 }
@@ -378,9 +391,9 @@ pub fn formatter_rows()
         (codes "F") }
 {}
 
-/// Loops that are called: `{{ loop(x) }}` in place, over `[[]]`, a number, in a loop that can't be
+/// Calls of loops: `{{ loop(x) }}` in place, over `[[]]`, over a number, in a loop that can't be
 /// called and outside of loops; `loop(x, 1)`; `loop.depth`; a tree in place and as values; a loop
-/// called after its end; and a tree as values under each fuel up to its 24 charges.
+/// that is called after its end; and a tree as values with each fuel up to its 24 charges.
 pub fn recursion_rows()
     ensures in_place { Charges called_in_place (codes "a") 10 }
     ensures number { Fails called_over_a_number [] (InvalidOperation ∷ InvalidOperation ∷ []) }

@@ -1,6 +1,7 @@
-//! Proofs: streams that no compiler wrote. What stands at each place of a stream, whatever ran before it, is its shape; a stream with shapes
-//! is never stuck, and so none that is accepted is. Whatever the streams are, a fault in which a run of them ends arises as one of a render
-//! does, and a run that is done has closed its captures. The functions here are laws: they run nothing.
+//! Proofs about streams that the compiler didn't write. The shape of a place says what is on the
+//! stacks there, whatever ran before. A stream with shapes never gets stuck, and so an accepted
+//! stream never does. For all streams, a fault in which a run ends arises as in a render, and a run
+//! that is done has closed its captures. The functions here are laws: they run nothing.
 #![tactic(auto)]
 
 ghost use Rattle.std.specs.Prelude.{◌≡◌, ℕ, List, [], length, Bool, true};
@@ -20,8 +21,9 @@ ghost use Rattle.tm_simulation.specs.Chains.{Arises};
 ghost use Rattle.tm_safety.specs.Fits.{AllEnter, ids_of};
 ghost use Rattle.tm_safety.specs.Runs.{stream_of, EndsIn};
 
-/// A run of a stream that has shapes is never stuck, nor is one of a macro of it: whatever is open
-/// below it, in any world whose loops' records are of loops that are reached. And so it leaves one.
+/// A run of a stream that has shapes, or of one of its macros, never gets stuck: whatever is open
+/// below it, and in any world whose loop records belong to loops that are reached. And it leaves
+/// such a world.
 pub fn a_shaped_stream_is_never_stuck()
     ensures stuck { (p : Program) (shapes : StreamId → Shapes) (k : Callee) (heard : Bool)
         (captures : List Capture) (told got : List ℕ) (w left : World) →
@@ -38,8 +40,8 @@ pub fn a_shaped_stream_is_never_stuck()
         EndsIn (λ left. AllEnter p.code shapes (ids_of left.loops)) o.end }
 {}
 
-/// Where all streams of a program are accepted none is ever stuck, from any world that has no record
-/// of a loop yet, as a state's first one: not a stream from its start, nor a macro from its entry.
+/// If all streams of a program are accepted, none ever gets stuck, neither from its start nor from
+/// the entry of a macro, from any world without loop records, such as the first world of a state.
 pub fn accepted_streams_are_never_stuck()
     ensures { (p : Program) (form : StreamId → Form) (k : Callee) (heard : Bool)
         (captures : List Capture) (told got : List ℕ) (w left : World) →
@@ -49,9 +51,9 @@ pub fn accepted_streams_are_never_stuck()
         Leads p f told (begins p f k captures w) (final got (Stuck left)) → ⊥ }
 {}
 
-/// The chain of a fault in which a run of streams ends arises in it: what ends it is a kind that
-/// renders raise, or a chain that an object of the caller states, and before that stand kinds that
-/// wrap.
+/// Each fault in which a run of streams ends arises in it. The chain ends in a kind that renders
+/// raise, or in a chain that one of the caller's objects states. Before that there are only kinds
+/// that wrap.
 pub fn a_fault_of_streams_arises()
     ensures { (p : Program) (k : Callee) (heard : Bool) (captures : List Capture)
         (told got : List ℕ) (w left : World) (chain : List ErrorKind) →

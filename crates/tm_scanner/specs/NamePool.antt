@@ -1,4 +1,4 @@
--- The texts of the names that a source had so far.
+-- The names that a source has used so far.
 use Rattle.std.specs.Prelude.{◌≡◌, ℕ, List, Bool, ◌||◌, nat_eq, map}
 use Rattle.std.specs.Cmp.Lexicographic.{pointwise}
 use Rattle.std.specs.List.{list_any}
@@ -10,7 +10,7 @@ use Rattle.std.specs.declared.rc.RcStr.{RcStr}
 abbrev pub texts_of : List (RcStr Global) → List (List ℕ)
 texts_of ks = map rc_str_bytes ks
 
--- whether a text is among them
+-- whether the text is one of them
 abbrev pub holds : List (List ℕ) → List ℕ → Bool
 holds texts text = list_any (pointwise nat_eq text) texts
 

@@ -1,4 +1,4 @@
--- Names, and the words that are no names.
+-- Names and reserved words.
 use Rattle.std.specs.Prelude.{ℕ, List, [], ◌∷◌, Bool, true, not, nat_eq, codes, Option, Some, None, option_map, if◌then◌else◌, ◌==◌, ◌||◌}
 use Rattle.std.specs.Prelude.{encode_utf8_all}
 use Rattle.std.specs.Cmp.Lexicographic.{pointwise}
@@ -14,21 +14,21 @@ use Rattle.tm_delimiters.specs.Front.{until}
 abbrev pub starts_name : ℕ → Bool
 starts_name c = (c == 95) || is_xid_start c
 
--- whether a name doesn't go on with these characters
+-- whether a name can't continue with these characters
 abbrev pub leaves_name : List ℕ → Bool
 leaves_name [] = true
 leaves_name (c ∷ cs) = not (is_xid_continue c)
 
--- the longest name at the front of characters, reserved or not, and what is left after it
+-- the longest name at the start of the characters, reserved or not, and the rest after it
 abbrev pub name_in : List ℕ → Option (List ℕ × List ℕ)
 name_in [] = None
 name_in (c ∷ cs) = if starts_name c then Some (c ∷ (until leaves_name cs).0, (until leaves_name cs).1) else None
 
--- the same of bytes
+-- the same for bytes
 abbrev pub name_at : List ℕ → Option (List ℕ × List ℕ)
 name_at bs = option_map (λ x. (encode_utf8_all x.0, encode_utf8_all x.1)) (name_in (chars bs))
 
--- what a word stands for
+-- the entry of a word
 abbrev pub look_up : {A : Type 0} → List (List ℕ × A) → List ℕ → Option A
 look_up [] cs = None
 look_up (x ∷ xs) cs = if pointwise nat_eq x.0 cs then Some x.1 else look_up xs cs

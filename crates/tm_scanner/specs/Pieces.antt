@@ -1,4 +1,4 @@
--- The pieces of a source: each a raw text and the tag after it.
+-- The pieces of a source: a raw text and the tag after it.
 use Rattle.std.specs.Prelude.{◌≡◌, ℕ, List, [], ◌∷◌, ◌++◌, Option, Some, None, nat_eq, ◌||◌, codes, if◌then◌else◌}
 use Rattle.std.specs.Str.{chars}
 use Rattle.tm_syntax.specs.declared.token.Token.{Token}
@@ -17,25 +17,25 @@ use Rattle.tm_delimiters.specs.Trimming.{trimmed}
 use Rattle.tm_delimiters.specs.Starts.{tag_start}
 use Rattle.tm_scanner.specs.Tokens.{Content}
 
--- the token of a raw text; an empty one has none
+-- the token of a raw text, unless it is empty
 abbrev pub raw : List ℕ → List Token
 raw [] = []
 raw (c ∷ cs) = tokens.Raw (c ∷ cs) ∷ []
 
--- what is left after letters, at none of which a tag ends
+-- the rest after these letters, if the tag doesn't end before or between them
 abbrev pub past_letters : List ℕ → List ℕ → List ℕ → Option (List ℕ)
 past_letters by [] cs = Some cs
 past_letters by (w ∷ ws) cs = do
   x ← ascii cs
   if nat_eq x.0 w then (if ends_here by cs then None else past_letters by ws x.1) else None
 
--- what is left after blanks and a word, where the tag or the name ends
+-- the rest after blanks and a word, if the tag or the name ends there
 abbrev pub past_word : List ℕ → List ℕ → List ℕ → Option (List ℕ)
 past_word by word cs =
     past_letters by word (past_blanks_to by cs)
     >>= (λ rest. if ends_here by rest || leaves_name (chars rest) then Some rest else None)
 
--- an `endraw` tag at the front: the mark at its start, the mark at its end, and what is left
+-- an `endraw` tag at the start: the mark at its start, the mark at its end, and the rest
 abbrev pub endraw : Syntax → List ℕ → Option (Whitespace × (Whitespace × List ℕ))
 endraw s cs = do
   inside ← after s.block_start cs
@@ -47,7 +47,7 @@ endraw s cs = do
 abbrev pub block_side : Whitespace → Option Side
 block_side w = Some (record { kind = kind.Block; whitespace = w })
 
--- After the word `raw`, what is left of the text up to the first `endraw` tag, and how that tag ends.
+-- After the word `raw`: the text before the first `endraw` tag, trimmed, and the end of that tag.
 abbrev pub raw_block : Syntax → List ℕ → Option (List ℕ × (Whitespace × List ℕ))
 raw_block s cs = do
   opened ← ending s.block_end (past_blanks_to s.block_end cs)
@@ -70,7 +70,7 @@ IsBlockTag by cs ts end =
     × Content by (word.1 ++ (to_end by cs).1) inside end
     × (ts ≡ tokens.Tag word.0 ∷ (inside ++ tokens.Sign sign.BlockEnd ∷ []))
 
--- A block begins with the word `raw` or is a block tag.
+-- A block is a raw block, if it begins with the word `raw`, or else a block tag.
 abbrev pub IsBlockAfter : Syntax → Option (List ℕ) → List ℕ → List Token → Whitespace × List ℕ → Type 0
 IsBlockAfter s None cs ts end = IsBlockTag s.block_end cs ts end
 IsBlockAfter s (Some rest) cs ts end = IsRawBlock s rest ts end
@@ -83,18 +83,18 @@ IsEmission by cs ts end =
     (inside : List Token) × Content by cs inside end
     × (ts ≡ tokens.Sign sign.VariableStart ∷ (inside ++ tokens.Sign sign.VariableEnd ∷ []))
 
--- the tokens of a tag of a kind after its start, the mark at its end, and what is left after it
+-- the tokens of a tag of a kind after its start, the mark at its end, and the rest after it
 abbrev pub IsTag : Syntax → Kind → List ℕ → List Token → Whitespace × List ℕ → Type 0
 IsTag s kind.Block cs ts end = IsBlock s cs ts end
 IsTag s kind.Variable cs ts end = IsEmission s.variable_end cs ts end
 IsTag s kind.Comment cs ts end = (ts ≡ []) × (comment_end s.comment_end cs ≡ Some end)
 
--- A place in a source: the tag that ends there, none at the source's start, and what is left.
+-- A place in a source: the tag that ends there, if any, and the rest.
 pub record SourcePlace : Type 0 where
   pub before : Option Side
   pub rest : List ℕ
 
--- A raw text up to the next tag, and that tag.
+-- A raw text before the next tag, and that tag.
 pub record IsPiece (s : Syntax) (p : SourcePlace) (ts : List Token) (q : SourcePlace) : Type 0 where
   pub text : List ℕ
   pub start : Side

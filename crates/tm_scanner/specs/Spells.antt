@@ -1,4 +1,4 @@
--- The tokens that a source spells.
+-- The tokens of a source.
 use Rattle.std.specs.Prelude.{◌≡◌, ℕ, List, [], ◌∷◌, ◌++◌, Bool, false, None, if◌then◌else◌, ◌==◌, ◌&&◌}
 use Rattle.tm_syntax.specs.declared.token.Token.{Token}
 use Rattle.tm_scanner.specs.Steps.{Steps, joined}
@@ -17,16 +17,17 @@ is_newline (c ∷ []) = c == 10
 is_newline (c ∷ d ∷ []) = (c == 13) && (d == 10)
 is_newline (c ∷ d ∷ e ∷ cs) = false
 
--- the bytes up to where one newline is all that is left
+-- the bytes without one newline at their end
 abbrev pub without_final_newline : List ℕ → List ℕ
 without_final_newline [] = []
 without_final_newline (c ∷ cs) = if is_newline (c ∷ cs) then [] else c ∷ without_final_newline cs
 
--- what is read of a source
+-- the part of the source that is read
 abbrev pub read_of : Syntax → List ℕ → List ℕ
 read_of s source = if s.keep_trailing_newline then source else without_final_newline source
 
--- A source is pieces and, up to its end, a raw text after the last; these are their tokens, in order.
+-- A source consists of pieces, and of a raw text after the last one. The tokens are theirs, in
+-- order.
 abbrev pub SpellsTokens : Syntax → List ℕ → List Token → Type 0
 SpellsTokens s source ts =
     (pieces : List (List Token)) × (last : SourcePlace)
@@ -34,13 +35,13 @@ SpellsTokens s source ts =
     × (first_of (tag_start s) last.rest ≡ None)
     × (ts ≡ joined pieces ++ raw (trimmed s last.before None last.rest))
 
--- a token, where the source doesn't end, and the blanks after it
+-- a token, if the source doesn't end here, and the blanks after it
 pub record Reads (rest : List ℕ) (t : Token) (left : List ℕ) : Type 0 where
   pub goes_on : rest ≡ [] → ⊥
   pub next : List ℕ
   pub token : IsToken (rest, []) t next
   pub blanks : left ≡ past_blanks next
 
--- An expression's source is tokens up to its end, with blanks around them.
+-- The source of an expression is tokens up to its end, with blanks around them.
 abbrev pub SpellsParts : List ℕ → List Token → Type 0
 SpellsParts source ts = Steps Reads (past_blanks source) ts []

@@ -1,4 +1,4 @@
--- Texts in quotes.
+-- String literals.
 use Rattle.std.specs.Prelude.{◌≡◌, ℕ, ◌+◌, ◌-◌, ◌*◌, nat_lt, nat_le, List, [], ◌∷◌, ◌++◌, Bool, true, false, Option, Some, None}
 use Rattle.std.specs.Prelude.{if◌then◌else◌, ◌==◌, ◌&&◌, ◌||◌, codes, encode_utf8}
 use Rattle.std.specs.Char.{digit_value}
@@ -13,16 +13,16 @@ abbrev pub byte_of : Quote → ℕ
 byte_of quote.Double = 34
 byte_of quote.Single = 39
 
--- what is left after a quote, where it stands first
+-- the rest after a quote, if the bytes begin with it
 abbrev pub past_quote : Quote → List ℕ → Option (List ℕ)
 past_quote q cs = after (byte_of q ∷ []) cs
 
--- the quote at the front
+-- the quote at the start
 abbrev pub quote_at : List ℕ → Option (Quote × List ℕ)
 quote_at [] = None
 quote_at (c ∷ cs) = if c == 34 then Some (quote.Double, cs) else (if c == 39 then Some (quote.Single, cs) else None)
 
--- what stands before the next quote or backslash
+-- the bytes before the next quote or backslash
 abbrev pub run : Quote → List ℕ → List ℕ × List ℕ
 run q cs = until (first_is (is_byte2 (byte_of q) 92)) cs
 
@@ -39,21 +39,21 @@ hex cs = do
   d ← hex_digit c.1
   Some (4096 * a.0 + 256 * b.0 + 16 * c.0 + d.0, d.1)
 
--- whether a code is a character: no surrogate, and within Unicode
+-- whether a code is a character: not a surrogate, and within Unicode
 abbrev pub is_character : ℕ → Bool
 is_character code = nat_lt code 0xD800 || (nat_lt 0xDFFF code && nat_lt code 0x11_0000)
 
 abbrev pub character : ℕ → Option ℕ
 character code = if is_character code then Some code else None
 
--- the second half of a pair of surrogates
+-- the second half of a surrogate pair
 abbrev pub low_surrogate : List ℕ → Option (ℕ × List ℕ)
 low_surrogate cs = do
   rest ← after (codes "\\u") cs
   low ← hex rest
   if nat_le 0xDC00 low.0 && nat_lt low.0 0xE000 then Some (low.0 - 0xDC00, low.1) else None
 
--- the character of a code, or of the pair of surrogates that begins with it
+-- the character of a code, or of the surrogate pair that begins with it
 abbrev pub unicode_by : Bool → ℕ × List ℕ → Option (ℕ × List ℕ)
 unicode_by false code = character code.0 >>= (λ c. Some (c, code.1))
 unicode_by true code = do
@@ -77,22 +77,22 @@ letter_in (x ∷ xs) c = if c == x.0 then Some x.1 else letter_in xs c
 abbrev pub letter : ℕ → Option ℕ
 letter c = letter_in letters c
 
--- the character of an escape
+-- the character of an escape sequence
 abbrev pub escape : List ℕ → Option (ℕ × List ℕ)
 escape cs = do
   rest ← after (92 ∷ []) cs
   x ← ascii rest
   if x.0 == 117 then unicode x.1 else letter x.0 >>= (λ c. Some (c, x.1))
 
--- an escape, and what stands after it before the next quote or backslash
+-- an escape sequence, and the bytes after it, before the next quote or backslash
 abbrev pub part : Quote → List ℕ → Option (List ℕ × List ℕ)
 part q cs = escape cs >>= (λ c. Some (encode_utf8 c.0 ++ (run q c.1).0, (run q c.1).1))
 
 abbrev pub IsPart : Quote → List ℕ → List ℕ → List ℕ → Type 0
 IsPart q cs bytes rest = part q cs ≡ Some (bytes, rest)
 
--- After its opening quote, a text is these bytes: what stands before the first escape, and then the escapes, each with
--- what stands after it, up to the closing quote.
+-- The bytes of a string literal after its opening quote: those before the first escape sequence,
+-- and then the escape sequences, each with the bytes after it, up to the closing quote.
 abbrev pub IsText : Quote → List ℕ → List ℕ → List ℕ → Type 0
 IsText q cs bytes rest =
     (parts : List (List ℕ)) × Steps (IsPart q) (run q cs).1 parts (byte_of q ∷ rest) × (bytes ≡ (run q cs).0 ++ joined parts)

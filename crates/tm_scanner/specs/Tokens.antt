@@ -1,4 +1,4 @@
--- The tokens of a tag's content.
+-- The tokens in a tag.
 use Rattle.std.specs.Prelude.{◌≡◌, ℕ, zero, suc, ◌-◌, nat_lt, pos, List, [], ◌∷◌, ◌++◌, Option, Some, None, option_map, if◌then◌else◌, codes}
 use Rattle.std.specs.Option.{option_or, unwrap_or}
 use Rattle.tm_values.specs.Val as val
@@ -15,7 +15,7 @@ use Rattle.tm_scanner.specs.Names.{name_at, reserved}
 use Rattle.tm_scanner.specs.Numbers.{number, starts_number}
 use Rattle.tm_scanner.specs.Texts.{quote_at, IsLiteral}
 
--- The marks, the longer of two before the shorter one that it begins with.
+-- The marks. A longer mark comes before the shorter one that it begins with.
 abbrev pub marks : List (List ℕ × Sign)
 marks =
     (codes "**", sign.DoubleStar) ∷ (codes "*", sign.Star) ∷ (codes "//", sign.DoubleSlash) ∷ (codes "/", sign.Slash)
@@ -26,7 +26,7 @@ marks =
     ∷ (codes "[", sign.OpenSquare) ∷ (codes "]", sign.CloseSquare) ∷ (codes "{", sign.OpenCurly) ∷ (codes "}", sign.CloseCurly)
     ∷ (codes ",", sign.Comma) ∷ (codes ".", sign.Dot) ∷ (codes ":", sign.Colon) ∷ []
 
--- the first mark of a table that stands at the front
+-- the first mark of a table that the bytes begin with
 abbrev pub mark_in : List (List ℕ × Sign) → List ℕ → Option (Sign × List ℕ)
 mark_in [] cs = None
 mark_in (m ∷ ms) cs = option_or (option_map (λ rest. (m.1, rest)) (after m.0 cs)) (mark_in ms cs)
@@ -34,7 +34,7 @@ mark_in (m ∷ ms) cs = option_or (option_map (λ rest. (m.1, rest)) (after m.0 
 abbrev pub mark : List ℕ → Option (Sign × List ℕ)
 mark cs = mark_in marks cs
 
--- the longer of two marks where a word stands after the shorter one
+-- the longer of two marks, if the word follows the shorter one
 abbrev pub longer_mark : List ℕ → List ℕ → Sign → Sign → Sign × List ℕ
 longer_mark cs word longer shorter = unwrap_or (option_map (λ rest. (longer, rest)) (after word cs)) (shorter, cs)
 
@@ -42,11 +42,11 @@ abbrev pub name_or : List ℕ → Option Sign → Token
 name_or name None = tokens.Name name
 name_or name (Some s) = tokens.Sign s
 
--- the name or reserved word at the front
+-- the name or reserved word at the start
 abbrev pub word : List ℕ → Option (Token × List ℕ)
 word cs = option_map (λ x. (name_or x.0 (reserved x.0), x.1)) (name_at cs)
 
--- a token at the front that is no text
+-- a token at the start that isn't a string literal
 abbrev pub plain : List ℕ → Option (Token × List ℕ)
 plain cs =
     if starts_number cs
@@ -57,15 +57,16 @@ abbrev pub IsTokenAfter : Option (Quote × List ℕ) → List ℕ × List ℕ �
 IsTokenAfter None x t rest = (left : List ℕ) × (plain x.0 ≡ Some (t, left)) × (rest ≡ left ++ x.1)
 IsTokenAfter (Some q) x t rest = (v : val.Val) × IsLiteral q.0 q.1 v rest × (t ≡ tokens.Literal v)
 
--- The token at the front of two parts, and what is left after it. Only a text goes on into the second part.
+-- The token at the start of two parts, and the rest after it. Only a string literal may continue in
+-- the second part.
 abbrev pub IsToken : List ℕ × List ℕ → Token → List ℕ → Type 0
 IsToken x t rest = IsTokenAfter (quote_at (x.0 ++ x.1)) x t rest
 
--- one bracket more, up to 150
+-- one more open bracket, up to 150
 abbrev pub deeper : ℕ → Option ℕ
 deeper depth = if nat_lt depth 150 then Some (suc depth) else None
 
--- how many brackets are open after a token
+-- the number of open brackets after a token
 abbrev pub depth_after : Token → ℕ → Option ℕ
 depth_after (tokens.Sign sign.OpenRound) depth = deeper depth
 depth_after (tokens.Sign sign.OpenSquare) depth = deeper depth
@@ -75,27 +76,28 @@ depth_after (tokens.Sign sign.CloseSquare) depth = Some (depth - 1)
 depth_after (tokens.Sign sign.CloseCurly) depth = Some (depth - 1)
 depth_after _ depth = Some depth
 
--- A place in a content: what is left, and how many brackets are open there.
+-- A place in the content of a tag: the rest, and the number of open brackets.
 pub record ContentPlace : Type 0 where
   pub rest : List ℕ
   pub depth : ℕ
 
--- the end of the tag, where it stands and no bracket is open
+-- the end of the tag, if the bytes begin with it and no bracket is open
 abbrev pub past_end : List ℕ → List ℕ → ℕ → Option (Whitespace × List ℕ)
 past_end by rest zero = ending by rest
 past_end by rest (suc depth) = None
 
--- What stands before the first place where the tag's end stands and no bracket is open, and what is left there.
+-- The bytes before the tag's end, and the rest from there on. The end counts only if no bracket is
+-- open.
 abbrev pub split_at_end : List ℕ → ℕ → List ℕ → List ℕ × List ℕ
 split_at_end by zero cs = to_end by cs
 split_at_end by (suc depth) cs = (cs, [])
 
--- what is left after blanks before that place
+-- the rest after the blanks before that place
 abbrev pub past_blanks_at : List ℕ → ℕ → List ℕ → List ℕ
 past_blanks_at by zero cs = past_blanks_to by cs
 past_blanks_at by (suc depth) cs = past_blanks cs
 
--- a token, where the content doesn't end, and the blanks after it
+-- a token, if the content doesn't end here, and the blanks after it
 pub record Passes (by : List ℕ) (s : ContentPlace) (t : Token) (u : ContentPlace) : Type 0 where
   pub goes_on : past_end by s.rest s.depth ≡ None
   pub next : List ℕ
@@ -103,7 +105,7 @@ pub record Passes (by : List ℕ) (s : ContentPlace) (t : Token) (u : ContentPla
   pub depth : depth_after t s.depth ≡ Some u.depth
   pub rest : u.rest ≡ past_blanks_at by u.depth next
 
--- The content of a tag is these tokens, up to its end: the mark there, and what is left after it.
+-- The content of a tag is these tokens. Its end is the mark there, and the rest after it.
 abbrev pub Content : List ℕ → List ℕ → List Token → Whitespace × List ℕ → Type 0
 Content by cs ts end =
     (at_end : ContentPlace) × Steps (Passes by) (record { rest = past_blanks_to by cs; depth = 0 }) ts at_end

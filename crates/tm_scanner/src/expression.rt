@@ -1,4 +1,4 @@
-//! An expression's source as its tokens.
+//! Scanning the source of an expression.
 ghost use Rattle.std.specs.Prelude.{◌≡◌, ℕ, List, IfOk, IfErr};
 ghost use Rattle.tm_scanner.specs.Spells as spec;
 ghost use Rattle.tm_syntax.specs.declared.token.Token as declared;
@@ -11,7 +11,8 @@ use tm_delimiters::front::past_blanks;
 use tm_syntax::Token;
 use tm_values::Error;
 
-/// The tokens that an expression's source spells; SyntaxError where it spells none, OutOfMemory.
+/// The tokens of an expression's source. SyntaxError if it can't be split into tokens. OutOfMemory
+/// if memory runs out.
 pub fn scan_expr(alloc: Global, source: &str) -> Result<Vec<Token>, Error>
     ensures found { IfOk result (λ tokens. spec.SpellsParts source.now tokens.items) }
     ensures refused { IfErr result (λ e. Refused e ((ts : List declared.Token) →
@@ -28,7 +29,7 @@ pub fn scan_expr(alloc: Global, source: &str) -> Result<Vec<Token>, Error>
     Ok(tokens)
 }
 
-/// An expression's source spells at most one list of tokens.
+/// The source of an expression has at most one list of tokens.
 pub fn one_parts()
     ensures { (source : List ℕ) (ts us : List declared.Token) →
         spec.SpellsParts source ts → spec.SpellsParts source us → ts ≡ us }

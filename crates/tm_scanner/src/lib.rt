@@ -1,4 +1,4 @@
-//! From a source to its tokens.
+//! Scanning a source into tokens.
 #![tactic(auto)]
 
 mod expression;

@@ -1,4 +1,4 @@
-//! The names of a source, each text held once.
+//! The names of a source, each stored once.
 ghost use Rattle.std.specs.Prelude.{◌≡◌, [], ◌∷◌, true, IfOk, IfErr, IfSome, OnOk};
 ghost use Rattle.tm_scanner.specs.NamePool.{IsWith, holds};
 ghost use Rattle.tm_values.specs.declared.error.ErrorKind.TheVariants.{OutOfMemory};
@@ -11,10 +11,10 @@ use std::rc::RcStr;
 use tm_syntax::Name;
 use tm_values::Error;
 
-/// How many names are looked up one after another.
+/// How many names are searched linearly.
 const FEW: usize = 8;
 
-/// The texts of names, by their order. A contract sees their bytes.
+/// Names in an ordered map. A contract sees their bytes.
 #[derive(Drop)]
 struct OrderedNames {
     texts: BTreeSet<RcStr>,
@@ -40,7 +40,8 @@ impl OrderedNames {
         }
     }
 
-    /// The name of this text, which shares its memory with an earlier one. OutOfMemory.
+    /// The name with this text. It shares the text of an equal earlier name. OutOfMemory if memory
+    /// runs out.
     #[inline(never)]
     fn name(&mut self, alloc: Global, text: &str) -> Result<Name, Error>
         ensures found { IfOk result (λ name. name ≡ text.now) }
@@ -56,7 +57,7 @@ impl OrderedNames {
     }
 }
 
-/// The name of this text among some.
+/// The name with this text, if there is one.
 #[inline(always)]
 fn among<'n>(names: &'n [Name], text: &str) -> Option<&'n Name>
     ensures found { IfSome result (λ name. name.now ≡ text.now) }
@@ -70,8 +71,9 @@ fn among<'n>(names: &'n [Name], text: &str) -> Option<&'n Name>
     None
 }
 
-/// The names that a source had so far: the first ones as they came, and further ones by their
-/// order, so that each of many costs few comparisons. A contract sees their bytes.
+/// The names that a source has used so far. The first few are kept in order of occurrence, the
+/// others in an ordered map, so that a lookup among many names needs few comparisons. A contract
+/// sees their bytes.
 #[derive(Drop)]
 pub(crate) struct NamePool {
     first: Vec<Name>,
@@ -97,7 +99,8 @@ impl NamePool {
         }
     }
 
-    /// The name of this text, which shares its memory with an earlier one. OutOfMemory.
+    /// The name with this text. It shares the text of an equal earlier name. OutOfMemory if memory
+    /// runs out.
     #[inline(always)]
     pub(crate) fn name(&mut self, alloc: Global, text: &str) -> Result<Name, Error>
         ensures found { IfOk result (λ name. name ≡ text.now) }

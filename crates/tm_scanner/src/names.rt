@@ -1,4 +1,4 @@
-//! Names, and the words that are no names.
+//! Names and reserved words.
 ghost use Rattle.std.specs.Prelude.{◌≡◌, ◌<◌, true, false, drop, length, nat_eq, take, IfSome, encode_utf8_all};
 ghost use Rattle.std.specs.Cmp.Lexicographic.{pointwise};
 ghost use Rattle.std.specs.Str.{chars};
@@ -19,7 +19,7 @@ fn starts_name(c: char) -> bool
     c == '_' || starts(c)
 }
 
-/// Whether the character has the property XID_Start; for ASCII no table is read.
+/// Whether the character has the property XID_Start. ASCII needs no table.
 #[inline(always)]
 fn starts(c: char) -> bool
     ensures value { result ≡ is_xid_start c }
@@ -31,7 +31,7 @@ fn starts(c: char) -> bool
     unicode_ident::is_xid_start(c)
 }
 
-/// Whether a name may go on with the character; for ASCII no table is read.
+/// Whether a name may continue with the character. ASCII needs no table.
 #[inline(always)]
 fn goes_on(c: char) -> bool
     ensures { result ≡ is_xid_continue c }
@@ -42,7 +42,7 @@ fn goes_on(c: char) -> bool
     unicode_ident::is_xid_continue(c)
 }
 
-/// Whether a name doesn't go on with the text.
+/// Whether a name can't continue with the text.
 pub(crate) fn leaves_name(text: &str) -> bool
     ensures { result ≡ spec.leaves_name (chars text.now) }
 {
@@ -52,7 +52,7 @@ pub(crate) fn leaves_name(text: &str) -> bool
     }
 }
 
-/// The longest front of characters that a name may go on with, and what is left after it.
+/// The longest prefix of characters that may continue a name, and the rest after it.
 #[inline(always)]
 fn run(text: &str) -> (&str, &str)
     ensures front { result.0.now ≡ encode_utf8_all (until spec.leaves_name (chars text.now)).0 }
@@ -70,7 +70,7 @@ fn run(text: &str) -> (&str, &str)
     text.split_at(text.len() - rest.len())
 }
 
-/// The longest name at the front, reserved or not, and what is left after it.
+/// The longest name at the start, reserved or not, and the rest after it.
 #[inline(always)]
 pub(crate) fn name_at(text: &str) -> Option<(&str, &str)>
     ensures value { cut_of result ≡ spec.name_at text.now }
@@ -84,7 +84,7 @@ pub(crate) fn name_at(text: &str) -> Option<(&str, &str)>
     }
 }
 
-/// Whether the name is this word; texts of another length aren't read.
+/// Whether the name is this word. Names of another length aren't read.
 #[inline(always)]
 pub(crate) fn is(name: &str, word: &str) -> bool
     ensures { result ≡ pointwise nat_eq word.now name.now }
@@ -92,7 +92,7 @@ pub(crate) fn is(name: &str, word: &str) -> bool
     name.len() == word.len() && name == word
 }
 
-/// Which reserved word the name is.
+/// The reserved word that the name is, if any.
 pub(crate) fn reserved(name: &str) -> Option<Sign>
     ensures { result ≡ spec.reserved name.now }
 {
@@ -121,7 +121,8 @@ pub(crate) fn reserved(name: &str) -> Option<Sign>
     }
 }
 
-/// Which block tag the name begins. The table is read in two parts, since a proof takes more than in proportion to the words of one.
+/// The block tag that begins with this name, if any. The table is read in two parts, since the time
+/// of a proof grows faster than the number of words in one table.
 pub(crate) fn tag_of(name: &str) -> Option<Tag>
     ensures { result ≡ spec.tag_of name.now }
 {
@@ -131,7 +132,7 @@ pub(crate) fn tag_of(name: &str) -> Option<Tag>
     }
 }
 
-/// Which of the tags that begin a statement the name begins.
+/// The tag that begins a statement with this name, if any.
 fn start_tag(name: &str) -> Option<Tag>
     ensures { result ≡ spec.look_up (take 16 spec.tag_words) name.now }
 {
@@ -172,7 +173,7 @@ fn start_tag(name: &str) -> Option<Tag>
     }
 }
 
-/// Which of the tags that continue or end a statement the name begins.
+/// The tag that continues or ends a statement with this name, if any.
 fn later_tag(name: &str) -> Option<Tag>
     ensures { result ≡ spec.look_up (drop 16 spec.tag_words) name.now }
 {

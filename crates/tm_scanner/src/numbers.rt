@@ -5,7 +5,7 @@ ghost use Rattle.tm_delimiters.specs.Views.{Shortens, step_of};
 
 use tm_delimiters::front::{ascii, strip};
 
-/// The digit of a base at the front, and what is left after it.
+/// The digit of a base at the start, and the rest after it.
 fn digit_at(base: u32, text: &str) -> Option<(u128, &str)>
     requires low { 2 ≤ base }
     requires high { base ≤ 16 }
@@ -18,14 +18,14 @@ fn digit_at(base: u32, text: &str) -> Option<(u128, &str)>
     Some((u128::from(digit), rest))
 }
 
-/// Whether a decimal digit stands first.
+/// Whether the text begins with a decimal digit.
 pub(crate) fn starts_number(text: &str) -> bool
     ensures { result ≡ spec.starts_number text.now }
 {
     digit_at(10, text).is_some()
 }
 
-/// The number with one more digit, up to the largest.
+/// The number with one more digit. None if it exceeds the largest number.
 fn with_digit(base: u32, number: u128, digit: u128) -> Option<u128>
     ensures value { result ≡ spec.with_digit base number digit }
     ensures small { IfSome result (λ n. n < 2 ^ 127) }
@@ -38,7 +38,7 @@ fn with_digit(base: u32, number: u128, digit: u128) -> Option<u128>
     }
 }
 
-/// The digit at the front, or after a `_` there, and what is left after it.
+/// The digit at the start, with an optional `_` before it, and the rest after it.
 fn next_digit(base: u32, text: &str) -> Option<(u128, &str)>
     requires low { 2 ≤ base }
     requires high { base ≤ 16 }
@@ -51,7 +51,8 @@ fn next_digit(base: u32, text: &str) -> Option<(u128, &str)>
     }
 }
 
-/// The number with the digits at the front, up to the largest, and what is left after them.
+/// The number with the digits at the start, and the rest after them. None if it exceeds the largest
+/// number.
 fn digits(base: u32, first: u128, text: &str) -> Option<(u128, &str)>
     requires low { 2 ≤ base }
     requires high { base ≤ 16 }
@@ -69,7 +70,7 @@ fn digits(base: u32, first: u128, text: &str) -> Option<(u128, &str)>
     Some((number, rest))
 }
 
-/// The digits after a prefix of a base, where one stands there.
+/// The digits after the prefix of a base, if the text begins with it.
 fn based<'t>(prefix: &str, base: u32, text: &'t str) -> Option<(u32, &'t str)>
     requires low { 2 ≤ base }
     requires high { base ≤ 16 }
@@ -102,7 +103,7 @@ fn base_of(text: &str) -> (u32, &str)
     }
 }
 
-/// Whether a point or an `e` stands first, and a digit after it.
+/// Whether the text begins with a point or an `e`, and a digit.
 fn starts_fraction(text: &str) -> bool
     ensures { result ≡ spec.starts_fraction text.now }
 {
@@ -112,7 +113,7 @@ fn starts_fraction(text: &str) -> bool
     }
 }
 
-/// The whole number at the front, up to the largest, and what is left after it.
+/// The whole number at the start, and the rest after it. None if it exceeds the largest number.
 pub(crate) fn number(text: &str) -> Option<(u128, &str)>
     ensures value { step_of result ≡ spec.number text.now }
     ensures small { IfSome result (λ x. x.0 < 2 ^ 127) }

@@ -1,4 +1,4 @@
-//! The pieces of a source: each a raw text and the tag after it.
+//! The pieces of a source: a raw text and the tag after it.
 ghost use Rattle.std.specs.Prelude.{◌≡◌, ◌<◌, ◌≤◌, ◌++◌, ℕ, List, [], ◌∷◌, length, IfOk, IfErr, IfSome};
 ghost use Rattle.tm_scanner.specs.Pieces as spec;
 ghost use Rattle.tm_scanner.specs.Refuses.{Refuses};
@@ -18,7 +18,7 @@ use tm_delimiters::{Kind, Part, SyntaxConfig, Whitespace, comment_end, to_end};
 use tm_syntax::{Sign, Tag, Token};
 use tm_values::{Error, ErrorKind};
 
-/// Adds the token of a raw text of the source, where it isn't empty. OutOfMemory.
+/// Pushes the token of a raw text, unless it is empty. OutOfMemory if memory runs out.
 #[inline(always)]
 pub(crate) fn raw(
     alloc: Global,
@@ -37,9 +37,9 @@ pub(crate) fn raw(
     Ok(())
 }
 
-/// Adds the tokens of an emission after its start delimiter; its end.
+/// Pushes the tokens of an emission after its start delimiter, and returns its end.
 ///
-/// SyntaxError where it has something that is no token, or no end; OutOfMemory.
+/// SyntaxError if its content isn't tokens, or it has no end. OutOfMemory if memory runs out.
 fn emission<'s>(
     alloc: Global,
     names: &mut NamePool,
@@ -59,7 +59,7 @@ fn emission<'s>(
     Ok(end)
 }
 
-/// The word of a block tag, and what is left after it.
+/// The word of a block tag, and the rest after it.
 fn tag_word(text: &str) -> Option<(Tag, &str)>
     ensures value { step_of result ≡ spec.tag_word text.now }
     ensures rest { IfSome result (λ x. IsRest x.1.now text.now) }
@@ -68,10 +68,10 @@ fn tag_word(text: &str) -> Option<(Tag, &str)>
     Some((tag_of(name)?, rest))
 }
 
-/// Adds the tokens of a block tag after its start delimiter; its end.
+/// Pushes the tokens of a block tag after its start delimiter, and returns its end.
 ///
-/// SyntaxError where no word of a tag comes first, where something is no token, or where it has
-/// no end; OutOfMemory.
+/// SyntaxError if it doesn't begin with the word of a tag, if its content isn't tokens, or if it
+/// has no end. OutOfMemory if memory runs out.
 fn block_tag<'s>(
     alloc: Global,
     names: &mut NamePool,
@@ -94,9 +94,10 @@ fn block_tag<'s>(
     Ok(end)
 }
 
-/// Adds the text of a raw block after its first word; its end.
+/// Pushes the text of a raw block after its first word, and returns its end.
 ///
-/// SyntaxError where its first tag or its `endraw` tag is none, OutOfMemory.
+/// SyntaxError if its first tag has no end or its `endraw` tag is missing. OutOfMemory if memory
+/// runs out.
 fn raw_text<'s>(
     alloc: Global,
     syntax: &SyntaxConfig,
@@ -117,9 +118,9 @@ fn raw_text<'s>(
     Ok((whitespace, rest))
 }
 
-/// Adds the tokens of a raw block or a block tag after its start delimiter; its end.
+/// Pushes the tokens of a raw block or a block tag after its start delimiter, and returns its end.
 ///
-/// SyntaxError where it is none, OutOfMemory.
+/// SyntaxError if it is neither. OutOfMemory if memory runs out.
 fn block<'s>(
     alloc: Global,
     names: &mut NamePool,
@@ -141,9 +142,9 @@ fn block<'s>(
     }
 }
 
-/// Adds the tokens of a tag after its start; its end.
+/// Pushes the tokens of a tag after its start, and returns its end.
 ///
-/// SyntaxError where no such tag stands there, OutOfMemory.
+/// SyntaxError if it isn't a valid tag. OutOfMemory if memory runs out.
 pub(crate) fn tag<'s>(
     alloc: Global,
     names: &mut NamePool,

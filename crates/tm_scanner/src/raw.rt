@@ -1,4 +1,4 @@
-//! Raw blocks, in which all is text.
+//! Raw blocks, whose content is all text.
 ghost use Rattle.std.specs.Prelude.{◌≡◌, ◌<◌, ◌≤◌, length, IfSome};
 ghost use Rattle.tm_delimiters.specs.Front.{first_of};
 ghost use Rattle.tm_scanner.specs.Pieces as spec;
@@ -14,7 +14,7 @@ use tm_delimiters::{
     whitespace_at,
 };
 
-/// What is left after letters, at none of which a tag ends.
+/// The rest after these letters, if the tag doesn't end before or between them.
 fn past_letters<'t>(by: &str, letters: &[u8], text: &'t str) -> Option<&'t str>
     ensures value { place_of result ≡ spec.past_letters by.now letters.now text.now }
     ensures no_longer { IfSome result (λ rest. length rest.now ≤ length text.now) }
@@ -30,7 +30,7 @@ fn past_letters<'t>(by: &str, letters: &[u8], text: &'t str) -> Option<&'t str>
     Some(rest)
 }
 
-/// What is left after blanks and a word, where the tag or the name ends.
+/// The rest after blanks and a word, if the tag or the name ends there.
 pub(crate) fn past_word<'t>(by: &str, word: &str, text: &'t str) -> Option<&'t str>
     ensures value { place_of result ≡ spec.past_word by.now word.now text.now }
     ensures no_longer { IfSome result (λ rest. length rest.now ≤ length text.now) }
@@ -43,7 +43,7 @@ pub(crate) fn past_word<'t>(by: &str, word: &str, text: &'t str) -> Option<&'t s
     }
 }
 
-/// An `endraw` tag at the front: the mark at its start, and its end.
+/// An `endraw` tag at the start: the mark at its start, and its end.
 fn endraw<'s>(syntax: &SyntaxConfig, text: &'s str) -> Option<(Whitespace, (Whitespace, &'s str))>
     ensures value { closing_of result ≡ spec.endraw syntax.now text.now }
     ensures no_longer { IfSome result (λ x. length x.1.1.now ≤ length text.now) }
@@ -78,8 +78,7 @@ fn to_endraw<'s>(
     None
 }
 
-/// After the word `raw`, what is left of the text up to the first `endraw` tag, and how that
-/// tag ends.
+/// After the word `raw`: the text before the first `endraw` tag, trimmed, and the end of that tag.
 pub(crate) fn raw_block<'s>(
     syntax: &SyntaxConfig,
     source: &SharedSource<'_>,

@@ -1,4 +1,4 @@
-//! A source that its raw texts share.
+//! A source whose raw texts share it.
 ghost use Rattle.std.specs.Prelude.{◌≡◌, [], ◌∷◌, IfOk, IfErr};
 ghost use Rattle.tm_values.specs.declared.error.ErrorKind.TheVariants.{OutOfMemory};
 
@@ -8,7 +8,7 @@ use tm_delimiters::Part;
 use tm_syntax::RawText;
 use tm_values::Error;
 
-/// A source that its raw texts share, and how many of its bytes are read.
+/// A source whose raw texts share it, and the number of its bytes that are read.
 #[derive(Clone, Copy)]
 pub(crate) struct SharedSource<'s> {
     text: &'s RcStr,
@@ -16,7 +16,7 @@ pub(crate) struct SharedSource<'s> {
 }
 
 impl<'s> SharedSource<'s> {
-    /// A source, of which this front is read.
+    /// A source of which the prefix `read` is read.
     pub(crate) fn new(text: &'s RcStr, read: &str) -> SharedSource<'s> {
         SharedSource {
             text,
@@ -24,7 +24,7 @@ impl<'s> SharedSource<'s> {
         }
     }
 
-    /// The text at the front of what is left to be read.
+    /// The part at the start of `rest`, the bytes that are left to read.
     pub(crate) fn part<'t>(&self, rest: &str, text: &'t str) -> Part<'t>
         ensures { result.text.now ≡ text.now }
     {
@@ -34,7 +34,8 @@ impl<'s> SharedSource<'s> {
         }
     }
 
-    /// The text of a part, which owns no memory where it stands in this source. OutOfMemory.
+    /// The raw text of a part. It needs no memory if it is found in this source. OutOfMemory if
+    /// memory runs out.
     #[inline(always)]
     pub(crate) fn raw_text(&self, alloc: Global, part: Part<'_>) -> Result<RawText, Error>
         ensures found { IfOk result (λ raw. raw ≡ part.entry.text.now) }

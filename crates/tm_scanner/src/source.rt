@@ -1,4 +1,4 @@
-//! A source as its tokens.
+//! Scanning the source of a template.
 ghost use Rattle.std.specs.Prelude.{◌≡◌, ℕ, List, IfOk, IfErr};
 ghost use Rattle.std.specs.Rc.{rc_str_bytes};
 ghost use Rattle.tm_values.specs.Answer.{Refused};
@@ -15,10 +15,10 @@ use tm_delimiters::{Side, SyntaxConfig, next_tag, trimmed};
 use tm_syntax::Token;
 use tm_values::Error;
 
-/// How many bytes of a source a token takes at least, mostly.
+/// The usual minimal number of source bytes for a token.
 const BYTES_PER_TOKEN: usize = 3;
 
-/// For how many tokens there is room from the start, at most.
+/// The maximal number of tokens that space is reserved for at the start.
 const MOST_ROOM: usize = 4096;
 
 /// The source without one newline at its end.
@@ -34,7 +34,7 @@ fn without_final_newline(source: &str) -> &str
     }
 }
 
-/// What is read of a source.
+/// The part of the source that is read.
 fn read_of<'s>(syntax: &SyntaxConfig, source: &'s str) -> &'s str
     ensures { result.now ≡ spec.read_of syntax.now source.now }
 {
@@ -45,7 +45,8 @@ fn read_of<'s>(syntax: &SyntaxConfig, source: &'s str) -> &'s str
     }
 }
 
-/// The tokens that a source spells; SyntaxError where it spells none, OutOfMemory.
+/// The tokens of a source. SyntaxError if it can't be split into tokens. OutOfMemory if memory runs
+/// out.
 pub fn scan(alloc: Global, syntax: &SyntaxConfig, source: &RcStr) -> Result<Vec<Token>, Error>
     ensures found { IfOk result
         (λ tokens. spec.SpellsTokens syntax.now (rc_str_bytes source.now) tokens.items) }
@@ -82,7 +83,7 @@ pub fn scan(alloc: Global, syntax: &SyntaxConfig, source: &RcStr) -> Result<Vec<
     Ok(tokens)
 }
 
-/// A source spells at most one list of tokens.
+/// A source has at most one list of tokens.
 pub fn one_list()
     ensures { (s : Syntax) (source : List ℕ) (ts us : List declared.Token) →
         spec.SpellsTokens s source ts → spec.SpellsTokens s source us → ts ≡ us }

@@ -1,4 +1,4 @@
-//! Texts in quotes.
+//! String literals.
 ghost use Rattle.std.specs.Prelude.{◌≡◌, ◌<◌, ◌≤◌, ℕ, List, length, IfOk, IfErr, IfSome};
 ghost use Rattle.tm_scanner.specs.Refuses.{Refuses};
 ghost use Rattle.tm_scanner.specs.Texts as spec;
@@ -9,7 +9,7 @@ use std::alloc::Global;
 use tm_delimiters::front::{ascii, strip};
 use tm_values::{Error, ErrorKind, Value};
 
-/// What a text begins and ends with.
+/// The quote that begins and ends a string literal.
 #[derive(Clone, Copy)]
 pub(crate) enum Quote {
     Double,
@@ -29,7 +29,7 @@ impl Quote {
     }
 }
 
-/// The quote at the front, and what is left after it.
+/// The quote at the start, and the rest after it.
 pub(crate) fn quote_at(text: &str) -> Option<(Quote, &str)>
     ensures value { step_of result ≡ spec.quote_at text.now }
     ensures shorter { Shortens result text.now }
@@ -42,7 +42,7 @@ pub(crate) fn quote_at(text: &str) -> Option<(Quote, &str)>
     }
 }
 
-/// What stands before the next quote or backslash, and what is left there.
+/// The text before the next quote or backslash, and the rest from there on.
 fn run(quote: Quote, text: &str) -> (&str, &str)
     ensures value { (result.0.now, result.1.now) ≡ spec.run quote text.now }
     ensures no_longer { length result.1.now ≤ length text.now }
@@ -53,7 +53,7 @@ fn run(quote: Quote, text: &str) -> (&str, &str)
     }
 }
 
-/// What is left after the quote, where it stands first.
+/// The rest after the quote, if the text begins with it.
 fn past_quote(quote: Quote, text: &str) -> Option<&str>
     ensures value { place_of result ≡ spec.past_quote quote text.now }
     ensures shorter { IfSome result (λ rest. length rest.now < length text.now) }
@@ -64,7 +64,7 @@ fn past_quote(quote: Quote, text: &str) -> Option<&str>
     }
 }
 
-/// A hexadecimal digit, and what is left after it.
+/// A hexadecimal digit, and the rest after it.
 fn hex_digit(text: &str) -> Option<(u32, &str)>
     ensures value { step_of result ≡ spec.hex_digit text.now }
     ensures small { IfSome result (λ x. x.0 < 16) }
@@ -74,7 +74,7 @@ fn hex_digit(text: &str) -> Option<(u32, &str)>
     Some((char::from(byte).to_digit(16)?, rest))
 }
 
-/// The code of four hexadecimal digits, and what is left after them.
+/// The code of four hexadecimal digits, and the rest after them.
 fn hex(text: &str) -> Option<(u32, &str)>
     ensures value { step_of result ≡ spec.hex text.now }
     ensures small { IfSome result (λ x. x.0 < 65536) }
@@ -87,7 +87,7 @@ fn hex(text: &str) -> Option<(u32, &str)>
     Some((4096 * a + 256 * b + 16 * c + d, text))
 }
 
-/// The second half of a pair of surrogates, and what is left after it.
+/// The second half of a surrogate pair, and the rest after it.
 fn low_surrogate(text: &str) -> Option<(u32, &str)>
     ensures value { step_of result ≡ spec.low_surrogate text.now }
     ensures small { IfSome result (λ x. x.0 < 1024) }
@@ -101,7 +101,7 @@ fn low_surrogate(text: &str) -> Option<(u32, &str)>
     }
 }
 
-/// The character of a code, or of two that are a pair, and what is left after it.
+/// The character of a code, or of two codes that are a surrogate pair, and the rest after it.
 fn unicode(text: &str) -> Option<(char, &str)>
     ensures value { step_of result ≡ spec.unicode text.now }
     ensures shorter { Shortens result text.now }
@@ -116,7 +116,7 @@ fn unicode(text: &str) -> Option<(char, &str)>
     }
 }
 
-/// What a byte after a backslash stands for.
+/// The character of a byte after a backslash.
 fn letter(byte: u8) -> Option<char>
     ensures { result ≡ spec.letter byte }
 {
@@ -134,7 +134,7 @@ fn letter(byte: u8) -> Option<char>
     }
 }
 
-/// The character that an escape stands for, and what is left after it.
+/// The character of an escape sequence, and the rest after it.
 fn escape(text: &str) -> Option<(char, &str)>
     ensures value { step_of result ≡ spec.escape text.now }
     ensures shorter { Shortens result text.now }
@@ -147,9 +147,10 @@ fn escape(text: &str) -> Option<(char, &str)>
     }
 }
 
-/// The text after its opening quote, and what is left after its closing one.
+/// The string literal after its opening quote, and the rest after its closing quote.
 ///
-/// SyntaxError where it has an escape that is none, or no end; OutOfMemory.
+/// SyntaxError if an escape sequence is invalid, or there is no closing quote. OutOfMemory if
+/// memory runs out.
 pub(crate) fn literal(alloc: Global, quote: Quote, text: &str) -> Result<(Value, &str), Error>
     ensures found { IfOk result (λ x. spec.IsLiteral quote text.now x.0 x.1.now) }
     ensures shorter { IfOk result (λ x. length x.1.now < length text.now) }

@@ -1,4 +1,4 @@
-//! The tokens of a tag's content.
+//! The tokens in a tag.
 ghost use Rattle.std.specs.Prelude.{◌≡◌, ◌<◌, ◌≤◌, ◌++◌, ℕ, List, length, IfOk, IfErr, IfSome, None, Some};
 ghost use Rattle.tm_scanner.specs.Refuses.{Refuses};
 ghost use Rattle.tm_values.specs.Answer.{Refused};
@@ -16,10 +16,10 @@ use tm_delimiters::{Whitespace, ending, next_end, past_blanks_to};
 use tm_syntax::{Sign, Token};
 use tm_values::{Error, ErrorKind, Value};
 
-/// How many brackets may be open at once.
+/// The maximal number of open brackets.
 const DEEPEST: usize = 150;
 
-/// The longer mark where the word stands after the shorter one, and what is left after it.
+/// The longer mark if the word follows the shorter one, and the rest after it.
 fn longer<'t>(text: &'t str, word: &str, longer: Sign, shorter: Sign) -> (Sign, &'t str)
     ensures value { (result.0, result.1.now)
         ≡ spec.longer_mark text.now word.now longer shorter }
@@ -31,7 +31,7 @@ fn longer<'t>(text: &'t str, word: &str, longer: Sign, shorter: Sign) -> (Sign, 
     }
 }
 
-/// The mark at the front, and what is left after it.
+/// The mark at the start, and the rest after it.
 fn mark(text: &str) -> Option<(Sign, &str)>
     ensures value { step_of result ≡ spec.mark text.now }
     ensures shorter { Shortens result text.now }
@@ -62,9 +62,9 @@ fn mark(text: &str) -> Option<(Sign, &str)>
     }
 }
 
-/// The name or reserved word at the front, and what is left after it.
+/// The name or reserved word at the start, and the rest after it.
 ///
-/// SyntaxError where none stands there, OutOfMemory.
+/// SyntaxError if there is none. OutOfMemory if memory runs out.
 fn word<'t>(alloc: Global, names: &mut NamePool, text: &'t str) -> Result<(Token, &'t str), Error>
     ensures found { IfOk result (λ x. spec.word text.now ≡ Some (x.0, x.1.now)) }
     ensures shorter { IfOk result (λ x. length x.1.now < length text.now) }
@@ -79,9 +79,9 @@ fn word<'t>(alloc: Global, names: &mut NamePool, text: &'t str) -> Result<(Token
     }
 }
 
-/// The number, mark, name or reserved word at the front, and what is left after it.
+/// The number, mark, name or reserved word at the start, and the rest after it.
 ///
-/// SyntaxError where none stands there, OutOfMemory.
+/// SyntaxError if there is none. OutOfMemory if memory runs out.
 fn plain<'t>(alloc: Global, names: &mut NamePool, text: &'t str) -> Result<(Token, &'t str), Error>
     ensures found { IfOk result (λ x. spec.plain text.now ≡ Some (x.0, x.1.now)) }
     ensures shorter { IfOk result (λ x. length x.1.now < length text.now) }
@@ -99,7 +99,7 @@ fn plain<'t>(alloc: Global, names: &mut NamePool, text: &'t str) -> Result<(Toke
     }
 }
 
-/// A text's last two parts, found by their lengths.
+/// The last two parts of a text, by their lengths.
 #[inline(always)]
 pub(crate) fn last_parts<'t>(text: &'t str, left: &str, back: &str) -> &'t str
     requires { IsRest (left.now ++ back.now) text.now }
@@ -108,10 +108,10 @@ pub(crate) fn last_parts<'t>(text: &'t str, left: &str, back: &str) -> &'t str
     &text[text.len() - (left.len() + back.len())..]
 }
 
-/// The token at the front of a text of two parts, and what is left after it. Only a text in quotes
-/// goes on into the second part.
+/// The token at the start of a text in two parts, and the rest after it. Only a string literal may
+/// continue in the second part.
 ///
-/// SyntaxError where none stands there, OutOfMemory.
+/// SyntaxError if there is none. OutOfMemory if memory runs out.
 pub(crate) fn token<'t>(
     alloc: Global,
     names: &mut NamePool,
@@ -137,7 +137,7 @@ pub(crate) fn token<'t>(
     }
 }
 
-/// How many brackets are open after a token, where they aren't too many.
+/// The number of open brackets after a token. None if there are too many.
 fn depth_after(token: &Token, depth: usize) -> Option<usize>
     ensures { result ≡ spec.depth_after token.now depth }
 {
@@ -193,7 +193,7 @@ fn depth_after(token: &Token, depth: usize) -> Option<usize>
     }
 }
 
-/// The end of the tag, where it stands and no bracket is open.
+/// The end of the tag, if the text begins with it and no bracket is open.
 fn past_end<'t>(by: &str, depth: usize, rest: &'t str) -> Option<(Whitespace, &'t str)>
     ensures value { step_of result ≡ spec.past_end by.now rest.now depth }
     ensures no_longer { IfSome result (λ x. length x.1.now ≤ length rest.now) }
@@ -201,8 +201,8 @@ fn past_end<'t>(by: &str, depth: usize, rest: &'t str) -> Option<(Whitespace, &'
     if depth == 0 { ending(by, rest) } else { None }
 }
 
-/// What stands before the first place where the tag's end stands and no bracket is open, what is
-/// left there, and what is known of the tag's end from then on.
+/// The text before the tag's end, the rest from there on, and what is known about the tag's end
+/// after that. The end counts only if no bracket is open.
 fn split_at_end<'t>(
     by: &str,
     depth: usize,
@@ -222,7 +222,7 @@ fn split_at_end<'t>(
     }
 }
 
-/// What is left after the blanks before that place.
+/// The rest after the blanks before that place.
 fn past_blanks_at<'t>(by: &str, depth: usize, text: &'t str) -> &'t str
     ensures value { result.now ≡ spec.past_blanks_at by.now depth text.now }
     ensures rest { IsRest result.now text.now }
@@ -235,9 +235,10 @@ fn past_blanks_at<'t>(by: &str, depth: usize, text: &'t str) -> &'t str
     }
 }
 
-/// Adds the tokens of a tag's content, of whose end something may be known; the tag's end.
+/// Pushes the tokens of a tag's content, and returns the tag's end. `known` is the end, if it was
+/// found before.
 ///
-/// SyntaxError where the content has something that is no token, or no end; OutOfMemory.
+/// SyntaxError if the content isn't tokens, or there is no end. OutOfMemory if memory runs out.
 pub(crate) fn content<'t>(
     alloc: Global,
     names: &mut NamePool,

@@ -1,4 +1,4 @@
--- Which streams are accepted.
+-- The streams that are accepted.
 use Rattle.std.specs.Prelude.{◌≡◌, ℕ, zero, suc, ◌+◌, List, [], ◌∷◌, drop, length, Option, Some, None, Bool, true, false, nat_eq, not, is_some}
 use Rattle.std.specs.Prelude.{◌&&◌, ◌||◌, option_and_then, slice_get}
 use Rattle.tm_trees.specs.Instructions.{CaptureMode, Instruction}
@@ -19,7 +19,7 @@ use Rattle.tm_shapes.specs.Flows.{Site, are, flow_of, is_closed, is_zero}
 use Rattle.tm_shapes.specs.Placed.{is_entered, is_placed}
 use Rattle.tm_shapes.specs.Search.{Found, Has, Seen, note, reach, search, wander}
 
--- ---------------------------------------------------------------- shapes that are the same
+-- ---------------------------------------------------------------- equal shapes
 abbrev pub same_place : Option ℕ → Option ℕ → Bool
 same_place None None = true
 same_place (Some n) (Some m) = nat_eq n m
@@ -68,7 +68,7 @@ same_parts ps qs = false
 abbrev pub same_shape : Shape → Shape → Bool
 same_shape s t = same_part s.part t.part && same_parts s.below t.below
 
--- ---------------------------------------------------------------- where instructions stand
+-- ---------------------------------------------------------------- the surroundings of instructions
 abbrev pub swaps : Option Instruction → Bool
 swaps (Some i.Swap) = true
 swaps o = false
@@ -81,12 +81,12 @@ abbrev pub before_it : ℕ → Option ℕ
 before_it zero = None
 before_it (suc n) = Some n
 
--- whether a place is the middle one of `Swap`, `LoadConst 1` and `Add`, and nothing jumps between these
+-- whether a place is the middle of `Swap`, `LoadConst 1` and `Add`, and nothing jumps between these
 abbrev pub is_between : List Instruction → ℕ → Bool
 is_between code n =
     swaps (option_and_then (slice_get code) (before_it n)) && adds (slice_get code (n + 1)) && not (is_entered code n || is_entered code (n + 1))
 
--- as what the 0 of each place is read
+-- how the 0 at each place is read
 abbrev pub Readings : Type 0
 Readings = ℕ → Reading
 
@@ -100,12 +100,12 @@ abbrev pub read_by : Option Bool → Reading
 read_by (Some true) = readings.Group
 read_by o = readings.Value
 
--- where a place is marked its 0 is a group
+-- the 0 at a marked place is read as a group
 abbrev pub read_groups : List Bool → Readings
 read_groups groups n = read_by (slice_get groups n)
 
--- How a search reads each 0, how many operands a `Return` leaves if that is asked, and how many the end; and whether it follows the entries of
--- macros.
+-- The parameters of a search: how each 0 is read, how many operands a `Return` leaves, if that is
+-- required, how many are left at the end, and whether the entries of macros are followed.
 pub record Asked : Type 0 where
   pub read : Readings
   pub returned : Option ℕ
@@ -123,7 +123,7 @@ site_of a code n = record {
   enters = a.enters;
 }
 
--- ---------------------------------------------------------------- where runs begin
+-- ---------------------------------------------------------------- the starts of runs
 -- places, and the shapes in which they are reached
 abbrev pub Seeds : Type 0
 Seeds = List (ℕ × Shape)
@@ -135,7 +135,7 @@ abbrev pub entry_seed : Option ℕ → ℕ → Seeds → Seeds
 entry_seed None place seeds = seeds
 entry_seed (Some n) place seeds = (place, entry_shape n) ∷ seeds
 
--- the entry of each macro that is built, after a literal with so many names
+-- the entry of each macro that is built after a literal list of names
 abbrev pub entry_seeds_from : Option ℕ → List Instruction → Seeds
 entry_seeds_from before [] = []
 entry_seeds_from before (i.BuildMacro x place caller ∷ more) = entry_seed before place (entry_seeds_from None more)
@@ -149,12 +149,12 @@ abbrev pub all_seeds : List Instruction → Seeds
 all_seeds code = (0, first_shape) ∷ entry_seeds code
 
 -- ---------------------------------------------------------------- the search
--- no shape for each place, and for the end
+-- no shape yet, for each place and for the end
 abbrev pub no_shapes : {A : Type 0} → List A → Shapes
 no_shapes [] = None ∷ []
 no_shapes (x ∷ xs) = None ∷ no_shapes xs
 
--- what is left where a stream ends: all is closed, and so many operands are there
+-- the end of a stream: everything is closed, and n operands are left
 abbrev pub ends_with : ℕ → Shape → Bool
 ends_with n s = is_closed s && are (Some n) s.part.operands
 
@@ -168,13 +168,14 @@ begun a code (e ∷ es) f = option_and_then (begun a code es) (reaching a code e
 abbrev pub nothing_found : List Instruction → Found
 nothing_found code = record { shapes = no_shapes code; work = [] }
 
--- The shapes of what these lead to, in as many steps as there are places, and the end.
+-- The shapes of everything that the seeds lead to; as many steps suffice as there are places,
+-- including the end.
 abbrev pub found : Asked → List Instruction → Seeds → Option Shapes
 found a code seeds =
     option_and_then (λ (f : Found). search same_shape code (site_of a code) (ends_with a.left) (length (no_shapes code)) f.work f.shapes)
     (begun a code seeds (nothing_found code))
 
--- ---------------------------------------------------------------- what is asked
+-- ---------------------------------------------------------------- parameters of a search
 abbrev pub left_by : Form → ℕ
 left_by forms.Template = 0
 left_by forms.Expression = 1
@@ -182,20 +183,20 @@ left_by forms.Expression = 1
 abbrev pub ask : Readings → Option ℕ → Bool → Form → Asked
 ask read returned enters form = record { read = read; returned = returned; left = left_by form; enters = enters }
 
--- with all that is reached
+-- a search of everything that is reached
 abbrev pub ask_all : Readings → Form → Asked
 ask_all read forms.Template = ask read (Some 0) true forms.Template
 ask_all read forms.Expression = ask read None true forms.Expression
 
--- with what is reached from some places alone, where so many operands are left at a `Return`
+-- a search of what is reached from some places, in which a `Return` leaves n operands
 abbrev pub ask_some : Readings → ℕ → Asked
 ask_some read n = ask read (Some n) false forms.Expression
 
--- in which a 0 may be taken as either
+-- a 0 may be taken as either
 abbrev pub ask_openly : Asked
 ask_openly = ask_all all_open forms.Expression
 
--- ---------------------------------------------------------------- as what each 0 is taken
+-- ---------------------------------------------------------------- how each 0 is taken
 abbrev pub noted : List Instruction → Seeds → Seen → Seen
 noted code [] f = f
 noted code (e ∷ es) f = noted code es (note code (site_of ask_openly code) e.0 e.1 f)
@@ -204,20 +205,21 @@ abbrev pub no_groups : {A : Type 0} → List A → List Bool
 no_groups [] = []
 no_groups (x ∷ xs) = false ∷ no_groups xs
 
--- the places whose 0 is taken as a group, where each place has the first shape in which it is met
+-- the places whose 0 is taken as a group, if each place has the first shape in which it is reached
 abbrev pub groups_in : List Instruction → List Bool
 groups_in code =
     let f = noted code (all_seeds code) (record { shapes = no_shapes code; work = []; groups = no_groups code }) in
     (wander code (site_of ask_openly code) (length (no_shapes code)) f.work f).groups
 
--- ---------------------------------------------------------------- all of it
--- In an expression a `Return` that the start reaches leaves one operand, and one that an entry reaches none.
+-- ---------------------------------------------------------------- all checks
+-- In an expression, a `Return` that the start reaches leaves one operand, and a `Return` that an
+-- entry reaches none.
 abbrev pub returns_fit : Readings → Form → List Instruction → Bool
 returns_fit read forms.Template code = true
 returns_fit read forms.Expression code =
     is_some (found (ask_some read 1) code start_seed) && is_some (found (ask_some read 0) code (entry_seeds code))
 
--- Whether there are shapes, each 0 read so.
+-- Whether there are shapes, with each 0 read in the given way.
 abbrev pub fits : Readings → Form → List Instruction → Bool
 fits read form code = is_some (found (ask_all read form) code (all_seeds code)) && returns_fit read form code
 
@@ -229,11 +231,11 @@ abbrev pub has_zero : List Instruction → Bool
 has_zero [] = false
 has_zero (x ∷ more) = loads_zero x || has_zero more
 
--- Whether there are shapes, each 0 read as it is taken.
+-- Whether there are shapes, with each 0 read as it is taken.
 abbrev pub fits_as_taken : Form → List Instruction → Bool
 fits_as_taken form code = has_zero code && fits (read_groups (groups_in code)) form code
 
--- or each as a value
+-- or with each read as a value
 abbrev pub fits_either : Form → List Instruction → Bool
 fits_either form code = fits_as_taken form code || fits all_values form code
 
@@ -242,7 +244,7 @@ abbrev pub accepts : Form → List Instruction → Bool
 accepts form code = is_placed code && fits_either form code
 
 -- ---------------------------------------------------------------- the rules
--- These shapes meet the rules where runs begin so.
+-- These shapes meet the rules for these seeds.
 pub record Fits (a : Asked) (code : List Instruction) (seeds : Seeds) (shapes : Shapes) : Type 0 where
   pub long : length shapes ≡ length (no_shapes code)
   pub starts : (k : ℕ) (e : ℕ × Shape) → slice_get seeds k ≡ Some e → shape_at shapes e.0 ≡ Some e.1
@@ -257,6 +259,6 @@ abbrev pub ReturnsFit : Readings → Form → List Instruction → Type 0
 ReturnsFit read forms.Template code = Unit {0}
 ReturnsFit read forms.Expression code = HasSome (ask_some read 1) code start_seed × HasSome (ask_some read 0) code (entry_seeds code)
 
--- Shapes meet the rules, each 0 read so.
+-- Some shapes meet the rules, with each 0 read in the given way.
 abbrev pub MeetsRules : Readings → Form → List Instruction → Type 0
 MeetsRules read form code = HasSome (ask_all read form) code (all_seeds code) × ReturnsFit read form code

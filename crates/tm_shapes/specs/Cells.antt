@@ -11,12 +11,12 @@ use Rattle.tm_shapes.specs.declared.kind.Kind.TheVariants.{Value as value}
 use Rattle.tm_shapes.specs.declared.kind.Frame.{Frame}
 use Rattle.tm_shapes.specs.Shapes.{Part}
 
--- the cell of a number
+-- the cell with this number
 abbrev pub cell_at : List Cell → ℕ → Option Cell
 cell_at cells zero = None
 cell_at cells (suc n) = slice_get cells n
 
--- Each cell stands once.
+-- Each cell is stored once.
 abbrev pub AllOnce : List Cell → Type 0
 AllOnce cells = (m n : ℕ) (c : Cell) → cell_at cells m ≡ Some c → cell_at cells n ≡ Some c → m ≡ n
 
@@ -31,7 +31,7 @@ abbrev pub Special : Kind → Type 0
 Special value = ⊥
 Special k = Unit {0}
 
--- So many values lie over a stack, in all these operands.
+-- The operands: v values above the stack with number n.
 abbrev pub Operands : List Cell → ℕ → ℕ → List Kind → Type 0
 Operands cells zero n [] = n ≡ 0
 Operands cells (suc v) n [] = ⊥
@@ -51,14 +51,14 @@ abbrev pub Captures : List Cell → ℕ → List CaptureMode → Type 0
 Captures cells n [] = n ≡ 0
 Captures cells n (m ∷ ms) = (b : ℕ) × IsCell cells n (capture_item m) b × Captures cells b ms
 
--- What is open in a part, but for its operands.
+-- What is open in a part, without its operands.
 pub record IsLevel (cells : List Cell) (level : Level) (part : Part) : Type 0 where
   pub frames : Frames cells level.frames part.frames
   pub captures : Captures cells level.captures part.captures
   pub count : level.open ≡ length part.captures
   pub escapes : level.escapes ≡ part.escapes
 
--- Parts, over which lie those of a number, with so many operands in all.
+-- The parts below, as the stack with number n, with `floor` operands in total.
 abbrev pub Parts : List Cell → ℕ → ℕ → List Part → Type 0
 Parts cells n floor [] = (n ≡ 0) × (floor ≡ 0)
 Parts cells n floor (q ∷ qs) =

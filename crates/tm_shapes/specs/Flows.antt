@@ -1,4 +1,4 @@
--- Where an instruction leads from a shape, and with which shapes: the table of instructions.
+-- Where each instruction leads from a shape, and in which shapes: the table of instructions.
 use Rattle.std.specs.Prelude.{length, ℕ, zero, suc, ◌+◌, pos, List, [], ◌∷◌, ◌++◌, Option, Some, None, Bool, true, false, nat_eq, not, ◌&&◌}
 use Rattle.tm_values.specs.Val.{Val, number}
 use Rattle.tm_syntax.specs.Choices.{choose}
@@ -15,8 +15,8 @@ use Rattle.tm_shapes.specs.declared.kind.Reading.{Reading}
 use Rattle.tm_shapes.specs.declared.kind.Reading.TheVariants as readings
 use Rattle.tm_shapes.specs.Shapes.{Part, no_part, Shape, entry_shape, pushed}
 
--- An instruction lacks what it takes or closes; it ends the run; or it leads to a place in a shape, or to either of two. The 0 that a place
--- pushed may be taken as a group.
+-- An operand is missing, or what it closes isn't open; or it ends the run; or it leads to a place
+-- in a shape, or to either of two. It may take the 0 that was pushed at a place as a group.
 pub data Flow : Type 0 where
   refused : Flow
   ends : Flow
@@ -24,8 +24,10 @@ pub data Flow : Type 0 where
   both : Flow → Flow → Flow
   takes : ℕ → Flow → Flow
 
--- Where an instruction stands: its place, those after it, whether a jump leads between the next two, whether it is the 1 between `Swap` and
--- `Add`, as what 0 is read, how many operands a `Return` leaves, if that is asked, and whether the entry of a macro is followed where it is built.
+-- The surroundings of an instruction: its place; the instructions after it; whether a jump leads
+-- between the next two; whether it is the 1 between `Swap` and `Add`; how a 0 is read; how many
+-- operands a `Return` leaves, if that is required; and whether the entry of a macro is followed
+-- when the macro is built.
 pub record Site : Type 0 where
   pub place : ℕ
   pub rest : List Instruction
@@ -56,7 +58,7 @@ pop_group (group o ∷ ks) f = f ks
 pop_group (nothing p ∷ ks) f = takes p (f ks)
 pop_group ks f = refused
 
--- so many values, or a group
+-- n values, or a group
 abbrev pub pop_counted : Option ℕ → List Kind → (List Kind → Flow) → Flow
 pop_counted (Some n) ks f = pops n ks f
 pop_counted None ks f = pop_group ks f
@@ -67,7 +69,7 @@ with_operands ks s = record s { part = record s.part { operands = ks } }
 abbrev pub next : Site → List Kind → Shape → Flow
 next at ks s = leads (at.place + 1) (with_operands ks s)
 
--- ---------------------------------------------------------------- what stands together
+-- ---------------------------------------------------------------- adjacent instructions
 abbrev pub is_one : Val → Bool
 is_one (number (pos n)) = nat_eq n 1
 is_one v = false
@@ -76,7 +78,7 @@ abbrev pub is_zero : Val → Bool
 is_zero (number (pos n)) = nat_eq n 0
 is_zero v = false
 
--- 1 and then `Add` stand next
+-- `LoadConst 1` and then `Add` come next
 abbrev pub adds_one : List Instruction → Bool
 adds_one (i.LoadConst v ∷ i.Add ∷ more) = is_one v
 adds_one more = false
@@ -90,14 +92,15 @@ builds_after (i.LoadConst v ∷ more) = builds more
 builds_after more = false
 
 -- ---------------------------------------------------------------- instructions
--- so many values are replaced by so many
+-- replaces n values by m values
 abbrev pub replaces : Site → ℕ → ℕ → Shape → Flow
 replaces at n m s = pops n s.part.operands (λ ks. next at (pushed m ks) s)
 
 abbrev pub replaces_counted : Site → Option ℕ → Shape → Flow
 replaces_counted at n s = pop_counted n s.part.operands (λ ks. next at (value ∷ ks) s)
 
--- Before it is known as what 0 is taken it is looked for at the bottom of a part alone, where the count of a loop with a condition stands.
+-- As long as the reading of a 0 is open, only one at the bottom of a part can be a group: the count
+-- of a loop with a condition is there.
 abbrev pub zero_of : Reading → ℕ → List Kind → Kind
 zero_of readings.Value place ks = value
 zero_of readings.Group place ks = group (Some place)
@@ -124,7 +127,7 @@ abbrev pub get_closure : Site → Shape → Flow
 get_closure at s =
     choose (builds_after at.rest) (λ _. next at (closure ∷ s.part.operands) s) (λ _. next at (value ∷ s.part.operands) s)
 
--- a macro, which is entered at a place over as many values
+-- follows the entry of a macro with n arguments, if entries are followed
 abbrev pub entering : Site → ℕ → ℕ → Flow → Flow
 entering at place n f = choose at.enters (λ _. both f (leads place (entry_shape n))) (λ _. f)
 
@@ -132,11 +135,11 @@ abbrev pub build_macro : Site → ℕ → Shape → List Kind → Flow
 build_macro at place s (names n ∷ closure ∷ ks) = entering at place n (next at (value ∷ ks) s)
 build_macro at place s ks = refused
 
--- `Swap`, `LoadConst 1` and `Add` stand in a row, and nothing jumps between
+-- `Swap`, `LoadConst 1` and `Add` are in a row, and nothing jumps between them
 abbrev pub in_row : Site → Bool
 in_row at = adds_one at.rest && not at.entered
 
--- A value over a group goes into it by such a row alone.
+-- A value above a group goes into it only by such a row.
 abbrev pub swap_group : Site → Shape → Option ℕ → List Kind → Flow
 swap_group at s o ks = choose (in_row at) (λ _. next at (opened o ∷ ks) s) (λ _. refused)
 
@@ -192,7 +195,7 @@ abbrev pub in_part : List Part → Flow → Flow
 in_part [] f = refused
 in_part (q ∷ qs) f = f
 
--- where the innermost scope is a loop's
+-- continues if the innermost scope is that of a loop
 abbrev pub on_loop : List Frame → List Part → Flow → Flow
 on_loop [] below f = in_part below f
 on_loop (scope ∷ fs) below f = refused
@@ -204,7 +207,7 @@ iterate at n s = on_loop s.part.frames s.below (both (next at (value ∷ s.part.
 abbrev pub did_not_iterate : Site → Shape → Flow
 did_not_iterate at s = on_loop s.part.frames s.below (next at (value ∷ s.part.operands) s)
 
--- the operands of a part that ends lie over those below
+-- when a part ends, its operands stay on top of those below
 abbrev pub over_part : List Kind → Part → List Part → Shape
 over_part ks q qs = record { part = record q { operands = ks ++ q.operands }; below = qs }
 
@@ -230,7 +233,7 @@ abbrev pub pop_escape : Site → Shape → ℕ → Flow
 pop_escape at s zero = refused
 pop_escape at s (suc n) = on at (with_escapes n s)
 
--- all that was opened is closed
+-- everything that was opened is closed
 abbrev pub is_closed : Shape → Bool
 is_closed s = is_empty s.part.frames && is_empty s.part.captures && nat_eq s.part.escapes 0 && is_empty s.below
 
@@ -244,7 +247,7 @@ returns at s = choose (is_closed s && are at.returned s.part.operands) (λ _. en
 abbrev pub unpack_lists : Site → ℕ → Shape → Flow
 unpack_lists at n s = pops n s.part.operands (λ ks. next at (group None ∷ ks) s)
 
--- Every other instruction is an operator of two operands.
+-- All other instructions are binary operators.
 abbrev pub flow_of : Site → Instruction → Shape → Flow
 flow_of at (i.EmitRaw t) s = replaces at 0 0 s
 flow_of at i.Emit s = replaces at 1 0 s

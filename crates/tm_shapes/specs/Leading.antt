@@ -1,4 +1,4 @@
--- What the parts of the table tell of a shape's stacks.
+-- What the parts of the table say about the stacks of a shape.
 use Rattle.std.specs.Prelude.{◌≡◌, ℕ, List, [], ◌∷◌, Option, None, Some}
 use Rattle.tm_shapes.specs.declared.cells.Cell.{Cell}
 use Rattle.tm_shapes.specs.declared.cells.Level.{Level}
@@ -15,34 +15,34 @@ use Rattle.tm_shapes.specs.Shown.{Shows}
 use Rattle.tm_shapes.specs.Sites.{IsSite}
 use Rattle.tm_shapes.specs.Told.{Tells}
 
--- At each site it is the flow from what the stacks show.
+-- At each site, the result is the flow from the shape in the stacks.
 abbrev pub TellsOf : List Cell → List Cell → Stacked → Made → (Site → Shape → Flow) → Type 0
 TellsOf old new shape made f = (site : Site) (s : Shape) → Shows old shape s → Tells new site.place made (f site s)
 
--- At this site it is.
+-- The same at this site.
 abbrev pub TellsThere : Stood → List Cell → List Cell → Stacked → Made → (Site → Shape → Flow) → Type 0
 TellsThere at old new shape made f =
     (site : Site) (s : Shape) → IsSite at site → Shows old shape s → Tells new site.place made (f site s)
 
--- How many names lie over a closure, and what stays without these; or no macro can be built.
+-- The number of names above a closure, and the shape without these; or no macro can be built.
 abbrev pub AreMacroParts : List Cell → Shape → Option (ℕ × Stacked) → Type 0
 AreMacroParts cells s None = (site : Site) (place : ℕ) → build_macro site place s s.part.operands ≡ refused
 AreMacroParts cells s (Some p) =
     (ks : List Kind) × (s.part.operands ≡ names p.0 ∷ closure ∷ ks) × Shows cells p.1 (with_operands ks s)
 
--- Of which place the count is that was opened, below 1, and what stays without these; or values are added.
+-- The place of an opened count below a 1, and the shape without these; or values are added.
 abbrev pub IsOpened : List Cell → Shape → Option (Option ℕ × Stacked) → Type 0
 IsOpened cells s None = (site : Site) → add site s s.part.operands ≡ replaces site 2 1 s
 IsOpened cells s (Some p) =
     (ks : List Kind) × (s.part.operands ≡ one ∷ opened p.0 ∷ ks) × Shows cells p.1 (with_operands ks s)
 
--- The innermost scope, and what is open without it over as many operands, or there is none.
+-- The innermost scope, and what is open without it; or there is none.
 abbrev pub IsTopFrame : List Cell → Level → Part → Option (Frame × Level) → Type 0
 IsTopFrame cells level part None = part.frames ≡ []
 IsTopFrame cells level part (Some p) =
     (fs : List Frame) × (part.frames ≡ p.0 ∷ fs) × (p.1.floor ≡ level.floor) × IsLevel cells p.1 (record part { frames = fs })
 
--- What stays without the innermost loop, or it can't end.
+-- The shape without the innermost loop; or it can't end.
 abbrev pub IsLoopEnded : List Cell → Shape → Option Stacked → Type 0
 IsLoopEnded cells s None = (site : Site) → pop_loop site s s.part.frames ≡ refused
 IsLoopEnded cells s (Some left) =

@@ -1,4 +1,4 @@
--- What is tested at every instruction of a stream, reached or not.
+-- Checks of every instruction in a stream, reached or not.
 use Rattle.std.specs.Prelude.{ℕ, ◌+◌, ◌-◌, List, [], ◌∷◌, ◌++◌, length, Option, Some, None, Bool, true, false, nat_eq, nat_lt, not, is_some, ◌&&◌, ◌||◌}
 use Rattle.tm_trees.specs.Instructions.{Instruction}
 use Rattle.tm_trees.specs.Instructions.instructions as i
@@ -9,7 +9,7 @@ use Rattle.tm_syntax.specs.Named.{same_name}
 use Rattle.tm_syntax.specs.Entries.{names_in}
 
 -- ---------------------------------------------------------------- targets
--- where an instruction may lead beside the next place
+-- the place that an instruction may lead to, besides the next one
 abbrev pub target : Instruction → Option ℕ
 target (i.Jump n) = Some n
 target (i.JumpIfFalse n) = Some n
@@ -38,7 +38,7 @@ targets_within size [] = true
 targets_within size (x ∷ more) = is_within size (target x) && targets_within size more
 
 -- ---------------------------------------------------------------- cache numbers
--- names with their numbers
+-- names with their cache numbers
 abbrev pub Numbered : Type 0
 Numbered = List (List ℕ × ℕ)
 
@@ -58,18 +58,18 @@ abbrev pub tests_in : List Instruction → Numbered
 tests_in [] = []
 tests_in (x ∷ more) = test_of x ++ tests_in more
 
--- a number is that of no other name
+-- no other name uses the number
 abbrev pub agrees : List ℕ → ℕ → Numbered → Bool
 agrees x k [] = true
 agrees x k (u ∷ more) = (not (nat_eq u.1 k) || same_name u.0 x) && agrees x k more
 
--- Each number is none, or that of a cache and of one name.
+-- Each number means no cache, or is a cache used by one name only.
 abbrev pub caches_fit : Numbered → Bool
 caches_fit [] = true
 caches_fit (u ∷ more) = (nat_eq u.1 no_cache || (nat_lt u.1 cache_count && agrees u.0 u.1 more)) && caches_fit more
 
 -- ---------------------------------------------------------------- macros
--- what stands before a place after an instruction
+-- the parts of a macro before the next place
 abbrev pub names_by : Bool → Before
 names_by true = befores.Names
 names_by false = befores.Nothing
@@ -83,16 +83,16 @@ abbrev pub is_names : Before → Bool
 is_names befores.Names = true
 is_names before = false
 
--- A macro is built after its other parts, and nothing leads between them.
+-- A macro is built directly after its other parts, and nothing jumps between them.
 abbrev pub build_fits : List Instruction → ℕ → Before → Instruction → Bool
 build_fits code n before (i.BuildMacro x place caller) = is_names before && not (is_entered code n || is_entered code (n - 1))
 build_fits code n before x = true
 
--- whether the parts of macros stand together in what is left of code from a place
+-- whether the parts of each macro in the rest of the code are adjacent
 abbrev pub parts_fit : List Instruction → ℕ → Before → List Instruction → Bool
 parts_fit code n before [] = true
 parts_fit code n before (x ∷ more) = build_fits code n before x && parts_fit code (n + 1) (before_next before x) more
 
--- ---------------------------------------------------------------- all of it
+-- ---------------------------------------------------------------- all checks
 abbrev pub is_placed : List Instruction → Bool
 is_placed code = targets_within (length code) code && caches_fit (filters_in code) && caches_fit (tests_in code) && parts_fit code 0 befores.Nothing code

@@ -4,7 +4,7 @@ use Rattle.tm_trees.specs.Instructions.{Instruction}
 use Rattle.tm_shapes.specs.Shapes.{Shape, Shapes, shape_at}
 use Rattle.tm_shapes.specs.Flows.{Flow, refused, ends, leads, both, takes, Site, flow_of}
 
--- the places that have shapes so far, and those of them that are still to be looked at
+-- the shapes so far, and the places that are left to visit
 pub record Found : Type 0 where
   pub shapes : Shapes
   pub work : List ℕ
@@ -13,7 +13,7 @@ abbrev pub put_shape : ℕ → Shape → Shapes → Shapes
 put_shape n s sh = slice_set sh n (Some s)
 
 module _ (same : Shape → Shape → Bool) (code : List Instruction) (site : ℕ → Site) (ends_well : Shape → Bool) where
-  -- A place is reached in a shape: refused past the end, and where it has another.
+  -- A place is reached in a shape. Refused if the place is past the end, or has another shape.
   abbrev pub met : Bool → Found → Option Found
   met true f = Some f
   met false f = None
@@ -41,13 +41,13 @@ module _ (same : Shape → Shape → Bool) (code : List Instruction) (site : ℕ
   abbrev pub look : ℕ → Found → Option Found
   look n f = look_by (slice_get code n) n (shape_at f.shapes n) f
 
-  -- The work is done in turn: so many steps are enough.
+  -- Visits places until none is left; the number of steps is limited.
   abbrev pub search : ℕ → List ℕ → Shapes → Option Shapes
   search k [] sh = Some sh
   search zero (n ∷ work) sh = None
   search (suc k) (n ∷ work) sh = option_and_then (λ g. search k g.work g.shapes) (look n (record { shapes = sh; work = work }))
 
--- The places have the very shapes to which it leads, and it isn't refused.
+-- The places have exactly the shapes that the flow leads to, and it isn't refused.
 abbrev pub Has : Shapes → Flow → Type 0
 Has shapes refused = ⊥
 Has shapes ends = Unit {0}
@@ -55,15 +55,15 @@ Has shapes (leads n s) = shape_at shapes n ≡ Some s
 Has shapes (both a b) = Has shapes a × Has shapes b
 Has shapes (takes p a) = Has shapes a
 
--- ---------------------------------------------------------------- as what each 0 is taken
--- The places that were met so far, those of them that are still to be looked at, and of which the 0 is taken as a group.
+-- ---------------------------------------------------------------- how each 0 is taken
+-- The places reached so far, those that are left to visit, and those whose 0 is taken as a group.
 pub record Seen : Type 0 where
   pub shapes : Shapes
   pub work : List ℕ
   pub groups : List Bool
 
 module _ (code : List Instruction) (site : ℕ → Site) where
-  -- A place keeps the first shape in which it is met, and none lies past the end.
+  -- A place keeps the first shape in which it is reached; places past the end are ignored.
   abbrev pub note_by : Option (Option Shape) → ℕ → Shape → Seen → Seen
   note_by (Some None) n s f = record f { shapes = put_shape n s f.shapes; work = n ∷ f.work }
   note_by o n s f = f
@@ -85,7 +85,7 @@ module _ (code : List Instruction) (site : ℕ → Site) where
   abbrev pub glance : ℕ → Seen → Seen
   glance n f = glance_by (slice_get code n) n (shape_at f.shapes n) f
 
-  -- in so many steps
+  -- in at most k steps
   abbrev pub wander : ℕ → List ℕ → Seen → Seen
   wander k [] f = f
   wander zero (n ∷ work) f = f

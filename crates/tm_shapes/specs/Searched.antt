@@ -1,4 +1,4 @@
--- The search as it stands in memory.
+-- The search as the program stores it.
 use Rattle.std.specs.Prelude.{◌≡◌, ℕ, List, [], ◌∷◌, length, Option, None, Some, Bool, Result, Ok, Err}
 use Rattle.tm_syntax.specs.Entries.{name_count}
 use Rattle.tm_trees.specs.Instructions.{Instruction}
@@ -22,17 +22,17 @@ use Rattle.tm_shapes.specs.declared.search.Seed.{Seed}
 use Rattle.tm_shapes.specs.declared.search.Seen.{Seen as Seeing}
 use Rattle.tm_shapes.specs.declared.shape.Shape.{Shape as Stacked}
 
--- ---------------------------------------------------------------- what is asked
+-- ---------------------------------------------------------------- parameters of a search
 abbrev pub reading_of : Readings → ℕ → Reading
 reading_of read.Values n = readings.Value
 reading_of (read.Groups marks) n = read_groups marks.now n
 reading_of read.Open n = readings.Open
 
--- They read each 0 the same.
+-- Both read each 0 alike.
 abbrev pub AreReadings : Readings → (ℕ → Reading) → Type 0
 AreReadings known reads = (n : ℕ) → reading_of known n ≡ reads n
 
--- A search in memory asks the same.
+-- The program's search has the same parameters.
 pub record IsAsked (question : Question) (a : Asked) : Type 0 where
   pub read : AreReadings question.read a.read
   pub returned : question.returned ≡ a.returned
@@ -47,18 +47,18 @@ abbrev pub seed_of : Option Seed → Seeds
 seed_of None = []
 seed_of (Some e) = (e.place, entry_shape e.values) ∷ []
 
--- how many names the literal of an instruction has, if it loads one
+-- the number of names in the literal that an instruction loads, if it loads one
 abbrev pub count_after : Instruction → Option ℕ
 count_after (i.LoadConst v) = Some (name_count v)
 count_after x = None
 
--- the entry of a macro, if one is built after a literal with so many names
+-- the entry of a macro, if the instruction builds one after a literal of that many names
 abbrev pub entry_of : Option ℕ → Instruction → Seeds
 entry_of before (i.BuildMacro x place caller) = entry_seed before place []
 entry_of before x = []
 
--- ---------------------------------------------------------------- what is found
--- Shapes by their stacks, where there are any.
+-- ---------------------------------------------------------------- results
+-- The stacks of each shape, if there is one.
 abbrev pub AllShown : List Cell → List (Option Stacked) → Shapes → Type 0
 AllShown cells [] [] = Unit {0}
 AllShown cells [] (o ∷ sh) = ⊥
@@ -81,7 +81,8 @@ abbrev pub unshaped : {A : Type 0} → List A → List (Option Stacked)
 unshaped [] = None ∷ []
 unshaped (x ∷ xs) = None ∷ unshaped xs
 
--- It is what is found, or nothing is; of what memory lacks nothing is said.
+-- The program's result is what the search finds, or BadStream if it finds nothing. OutOfMemory says
+-- nothing.
 abbrev pub Comes : {A : Type 0} → Finding → Option Found → Result A Refusal → Type 0
 Comes new o (Ok x) = (g : Found) × (o ≡ Some g) × IsFound new g
 Comes new o (Err refusals.BadStream) = o ≡ None

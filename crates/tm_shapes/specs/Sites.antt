@@ -1,4 +1,4 @@
--- Where instructions stand, as far as a flow asks.
+-- The surroundings of an instruction that a flow depends on.
 use Rattle.std.specs.Prelude.{◌≡◌, ℕ, ℤ, List, Option, None, Some, Bool, true, false, not, ◌&&◌, ◌||◌, slice_get}
 use Rattle.std.specs.Ordering.{int_eq}
 use Rattle.tm_values.specs.Val.{Val, number}
@@ -18,16 +18,16 @@ abbrev pub is_number : Val → ℤ → Bool
 is_number (number z) n = int_eq z n
 is_number v n = false
 
--- whether `LoadConst 1` and `Add` are next, and nothing jumps to these
+-- whether `LoadConst 1` and `Add` come next, and nothing jumps to them
 abbrev pub is_row : Stood → Bool
 is_row stood = adds_one stood.rest.now && not (is_marked stood.entered.now 1 || is_marked stood.entered.now 2)
 
--- whether it stands between `Swap` and `Add`, and nothing jumps to it or to `Add`
+-- whether it is between `Swap` and `Add`, and nothing jumps to it or to the `Add`
 abbrev pub is_between : Stood → Bool
 is_between stood =
     stood.is_after_swap && adds (slice_get stood.rest.now 0) && not (is_marked stood.entered.now 0 || is_marked stood.entered.now 1)
 
--- It is this site.
+-- The program's site is this site.
 pub record IsSite (stood : Stood) (at : Site) : Type 0 where
   pub place : stood.place ≡ at.place
   pub rest : stood.rest.now ≡ at.rest

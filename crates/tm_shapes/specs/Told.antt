@@ -1,4 +1,4 @@
--- What is told of shapes by their stacks.
+-- What the stacks say about shapes.
 use Rattle.std.specs.Prelude.{◌≡◌, ℕ, ◌+◌, List, [], ◌∷◌, Option, None, Some, Bool}
 use Rattle.tm_shapes.specs.declared.cells.Cell.{Cell}
 use Rattle.tm_shapes.specs.declared.flow.Flow.{Flow as Made}
@@ -10,24 +10,24 @@ use Rattle.tm_shapes.specs.Shown.{Shows}
 use Rattle.tm_shapes.specs.Flows.{Flow, ends, leads, both, takes, refused, over_part, pops, with_operands}
 use Rattle.tm_shapes.specs.Shapes.{Part, Shape}
 
--- The topmost operand and what stays without it, or there is none.
+-- The topmost operand and the shape without it; or there is none.
 abbrev pub IsPopped : List Cell → Shape → Option (Kind × Stacked) → Type 0
 IsPopped cells s None = s.part.operands ≡ []
 IsPopped cells s (Some p) = (ks : List Kind) × (s.part.operands ≡ p.0 ∷ ks) × Shows cells p.1 (with_operands ks s)
 
--- What stays without so many values, or there aren't so many.
+-- The shape without n values; or there aren't that many.
 abbrev pub IsWithout : List Cell → ℕ → Shape → Option Stacked → Type 0
 IsWithout cells n s None = (f : List Kind → Flow) → pops n s.part.operands f ≡ refused
 IsWithout cells n s (Some left) =
     (ks : List Kind) × ((f : List Kind → Flow) → pops n s.part.operands f ≡ f ks) × Shows cells left (with_operands ks s)
 
--- The part below, with the operands of the innermost one over its own, or there is none.
+-- The part below, with the operands of the innermost one on top of its own; or there is none.
 abbrev pub IsLower : List Cell → Shape → Option Stacked → Type 0
 IsLower cells s None = s.below ≡ []
 IsLower cells s (Some left) =
     (q : Part) × (qs : List Part) × (s.below ≡ q ∷ qs) × Shows cells left (over_part s.part.operands q qs)
 
--- A way is a flow from a place.
+-- A way is the flow from a place.
 abbrev pub TellsWay : List Cell → ℕ → Way → Flow → Type 0
 TellsWay cells n ways.Refused f = f ≡ refused
 TellsWay cells n ways.Ends f = f ≡ ends

@@ -1,12 +1,12 @@
-//! What stands before a place, of the parts of a macro.
+//! The parts of a macro that are directly before a place.
 
-/// What stands before a place, of the parts of a macro.
+/// The parts of a macro that are directly before a place.
 #[derive(Clone, Copy, PartialEq, Eq)]
 pub enum Before {
-    /// None of them.
+    /// None.
     Nothing,
     /// `GetClosure`.
     Closure,
-    /// That, and the names of parameters.
+    /// `GetClosure`, and the names of parameters.
     Names,
 }

@@ -1,5 +1,5 @@
-//! Stacks that share what lies below: each is the number of its topmost cell, and the same stack has
-//! one number, so that two are compared at once.
+//! Stacks that share their lower parts. A stack is the number of its topmost cell. Equal stacks
+//! have the same number, so comparing two is fast.
 ghost use Rattle.std.specs.Prelude.{◌≡◌, [], IfOk, Some};
 ghost use Rattle.tm_shapes.specs.Accepts.{same_shape};
 ghost use Rattle.tm_shapes.specs.Cells.{AllOnce, Grown, cell_at};
@@ -15,22 +15,22 @@ use std::marker::Model;
 /// What is open in a part.
 #[derive(Clone, Copy, PartialEq, Eq, PartialOrd, Ord)]
 pub(crate) struct Level {
-    /// The scopes.
+    /// The stack of scopes.
     pub(crate) frames: usize,
-    /// The captures.
+    /// The stack of captures.
     pub(crate) captures: usize,
-    /// How many captures there are.
+    /// The number of captures.
     pub(crate) open: usize,
-    /// How many escapes there are.
+    /// The number of escapes.
     pub(crate) escapes: usize,
-    /// How many operands lie below the part.
+    /// The number of operands below the part.
     pub(crate) floor: usize,
 }
 
-/// What lies on a stack.
+/// An item on a stack.
 #[derive(Clone, Copy, PartialEq, Eq, PartialOrd, Ord)]
 pub(crate) enum Item {
-    /// An operand of a kind other than a value, over so many values.
+    /// An operand whose kind isn't `Value`, and the number of values below it.
     Operand(Kind, usize),
     /// A scope.
     Frame(Frame),
@@ -38,20 +38,20 @@ pub(crate) enum Item {
     Capture,
     /// A capture whose text is dropped.
     Discard,
-    /// A part that another one lies over.
+    /// A part below another one.
     Part(Level),
 }
 
 /// An item, and the stack below it.
 #[derive(Clone, Copy, PartialEq, Eq, PartialOrd, Ord)]
 pub(crate) struct Cell {
-    /// What lies here.
+    /// The item.
     pub(crate) item: Item,
-    /// The number of the stack below, 0 for none.
+    /// The number of the stack below, or 0 if it is empty.
     pub(crate) below: usize,
 }
 
-/// The cells of all stacks, from the number 1, each once. A contract sees the cells.
+/// The cells of all stacks, numbered from 1, each stored once. A contract sees the cells.
 #[derive(Drop)]
 pub(crate) struct Cells {
     cells: Vec<Cell>,
@@ -81,7 +81,7 @@ impl Cells {
         }
     }
 
-    /// The cell of a number, where it has one.
+    /// The cell with this number, if there is one.
     pub(crate) fn get(&self, number: usize) -> Option<Cell>
         ensures found { result ≡ cell_at self.now number }
         ensures once { AllOnce self.now }
@@ -92,7 +92,7 @@ impl Cells {
         }
     }
 
-    /// The number of a cell, which it gets where it has none. AllocError when out of memory.
+    /// The number of a cell, which is added if it is new. AllocError if memory runs out.
     pub(crate) fn put(&mut self, cell: Cell) -> Result<usize, AllocError>
         ensures found { IfOk result (λ n. cell_at self.new n ≡ Some cell) }
         ensures grown { Grown self.old self.new }
@@ -111,12 +111,12 @@ impl Cells {
         }
     }
 
-    /// Whether two shapes are the same.
+    /// Whether two shapes are equal.
     pub(crate) fn is_same(&self, shape: &Shape, other: &Shape) -> bool
         ensures { (s t : Spec) → Shows self.now shape.now s → Shows self.now other.now t →
             result ≡ same_shape s t }
     {
-        // For the invariant, by which no cell stands twice.
+        // For the invariant that no cell is stored twice.
         let _cells = &self.cells;
         shape.is_same(other)
     }

@@ -1,4 +1,4 @@
-//! Streams that are accepted, as the machine runs them.
+//! Accepted streams, in the form that the machine runs.
 ghost use Rattle.std.specs.List.Sorted.{IsNonDecreasingBy};
 ghost use Rattle.std.specs.Prelude.{◌≡◌, ◌-◌, ◌^◌, ℕ, ◌<◌, [], IfOk, IfSome, ltb, slice_get, true};
 ghost use Rattle.tm_shapes.specs.Accepts.{accepts};
@@ -14,8 +14,9 @@ use tm_items::Items;
 use tm_syntax::{Instruction, LoopPlace};
 use tm_values::{Node, Value};
 
-/// A stream that is accepted, so never stuck: its instructions, where its loops begin, and where its macros are entered,
-/// each with how many arguments it takes. A contract sees the instructions.
+/// An accepted stream, which never gets stuck: its instructions, the places where its loops begin,
+/// and the entries of its macros, each with its number of arguments. A contract sees the
+/// instructions.
 pub struct Verified {
     form: Form,
     instructions: Items<Instruction>,
@@ -23,7 +24,7 @@ pub struct Verified {
     macros: Vec<(usize, usize)>,
 }
 
-// By hand: one call for each owner, in place of a drop of each part.
+// By hand: one call for each owner, instead of a drop of each part.
 impl Drop for Verified {
     fn drop(self) {
         let Verified {
@@ -57,13 +58,13 @@ impl Model for Verified {
 
 /// The code of a block, and whether another template has to replace it.
 pub struct BlockCode {
-    /// Whether it is refused where no template replaces it.
+    /// Whether it is refused if no template replaces it.
     pub required: bool,
-    /// What it runs.
+    /// Its code.
     pub code: Verified,
 }
 
-// By hand: one call for each owner, in place of a drop of each part.
+// By hand: one call for each owner, instead of a drop of each part.
 impl Drop for BlockCode {
     fn drop(self) {
         let BlockCode {
@@ -73,7 +74,7 @@ impl Drop for BlockCode {
     }
 }
 
-/// Where the loops of instructions begin, each at its number. AllocError when out of memory.
+/// The places where loops begin, in the order of their numbers. AllocError if memory runs out.
 fn places_of(alloc: Global, instructions: &[Instruction]) -> Result<Vec<LoopPlace>, AllocError>
     ensures { IfOk result (λ places. places.items ≡ loop_places 0 instructions.now) }
 {
@@ -89,7 +90,7 @@ fn places_of(alloc: Global, instructions: &[Instruction]) -> Result<Vec<LoopPlac
     Ok(places)
 }
 
-/// How many names a literal list of them has.
+/// The length of a literal list of names.
 #[tactic(auto, using(tm_values::proofs::Lists::round_trips))]
 pub(crate) fn count_of_names(names: &Value) -> usize
     ensures { result ≡ name_count names.now }
@@ -100,7 +101,7 @@ pub(crate) fn count_of_names(names: &Value) -> usize
     }
 }
 
-/// Where the macros of instructions are entered, with how many arguments each takes. AllocError when out of memory.
+/// The entries of macros, each with its number of arguments. AllocError if memory runs out.
 fn entries_by_place(
     alloc: Global,
     instructions: &[Instruction],
@@ -124,7 +125,7 @@ fn entries_by_place(
     Ok(found)
 }
 
-/// The same in a row, in the order of the places. AllocError when out of memory.
+/// The same as a list, in the order of the places. AllocError if memory runs out.
 fn entries_of(
     alloc: Global,
     instructions: &[Instruction],
@@ -142,7 +143,7 @@ fn entries_of(
 }
 
 impl Verified {
-    /// No instructions.
+    /// The empty stream.
     pub fn empty(alloc: Global) -> Verified
         ensures { result ≡ [] }
     {
@@ -154,8 +155,8 @@ impl Verified {
         }
     }
 
-    /// These instructions. That they are accepted is proved where this is called, so nothing is tested here.
-    /// AllocError when out of memory.
+    /// The stream of these instructions. The caller proves that they are accepted, so nothing is
+    /// checked here. AllocError if memory runs out.
     pub fn new(
         alloc: Global,
         instructions: Items<Instruction>,
@@ -174,7 +175,7 @@ impl Verified {
         })
     }
 
-    /// It is accepted; this takes no step.
+    /// It is accepted. This call does nothing.
     pub fn accepted(&self)
         ensures { IsAccepted self.now }
     {
@@ -188,7 +189,7 @@ impl Verified {
         self.instructions.as_slice()
     }
 
-    /// The instructions, for one who changes them: what comes of that is verified anew.
+    /// The instructions, moved out of the stream. A changed stream has to be verified again.
     pub fn into_instructions(self) -> Vec<Instruction>
         ensures { result.items ≡ self }
     {
@@ -201,7 +202,7 @@ impl Verified {
         instructions.into_vec()
     }
 
-    /// How many loops begin before a place: the number of the loop that begins there.
+    /// The number of loops that begin before a place: the number of the loop that begins there.
     pub fn loop_number(&self, place: usize) -> usize
         ensures { result ≡ loops_before place self.now }
     {
@@ -223,7 +224,7 @@ impl Verified {
         )
     }
 
-    /// Where the macro of a number is entered, and how many arguments it takes, where there is one.
+    /// The place and the number of arguments of the entry with this number, if there is one.
     pub fn entry(&self, number: usize) -> Option<(usize, usize)>
         ensures { result ≡ slice_get (entries self.now) number }
     {
@@ -233,7 +234,7 @@ impl Verified {
         }
     }
 
-    /// Where the loop of a number begins, which is within the instructions.
+    /// The place of the loop with this number, if there is one; it is within the instructions.
     pub fn loop_place(&self, number: usize) -> Option<LoopPlace>
         ensures found { result ≡ slice_get (loop_places 0 self.now) number }
         ensures within { IfSome result (λ found. found.place < 2 ^ 64 - 1) }

@@ -1,4 +1,4 @@
-//! Where an instruction leads from what stands at its place: the table of instructions.
+//! Where each instruction leads from the shape at its place: the table of instructions.
 ghost use Rattle.std.specs.Prelude.{◌≡◌, ◌∷◌, ◌+◌, List, None, Some, IfOk, length};
 ghost use Rattle.std.specs.Option.{option_map};
 ghost use Rattle.tm_syntax.specs.Entries.{names_in, texts_in};
@@ -25,33 +25,33 @@ use tm_values::Value;
 /// Where an instruction leads.
 #[derive(Clone, Copy)]
 pub(crate) enum Way {
-    /// It lacks what it takes or closes.
+    /// Nowhere: an operand is missing, or what it closes isn't open.
     Refused,
-    /// It ends the run.
+    /// To the end of the run.
     Ends,
     /// To the next place.
     On(Shape),
-    /// To a place.
+    /// To another place.
     To(usize, Shape),
     /// To the next place, or to another one.
     Either(Shape, usize, Shape),
 }
 
-/// Where an instruction leads, and of which place the 0 is taken as a group for that.
+/// Where an instruction leads, and the place whose 0 it takes as a group, if any.
 #[derive(Clone, Copy)]
 pub(crate) struct Flow {
     pub(crate) taken: Option<usize>,
     pub(crate) way: Way,
 }
 
-/// It takes no 0 as a group.
+/// A flow that takes no 0 as a group.
 fn plain(way: Way) -> Flow
     ensures { result ≡ record { taken = None; way = way } }
 {
     Flow { taken: None, way }
 }
 
-/// On to the next place with a value more than stays.
+/// Continues at the next place with a value pushed on `left`.
 fn valued(left: Shape) -> Result<Flow, AllocError>
     ensures { IfOk result (λ made. (cells : List Celled) →
         TellsOf cells cells left made (λ site s. next site (value ∷ s.part.operands) s)) }
@@ -59,7 +59,7 @@ fn valued(left: Shape) -> Result<Flow, AllocError>
     Ok(plain(Way::On(left.pushed(1)?)))
 }
 
-/// So many values are replaced by so many.
+/// Replaces `taken` values by `given` values.
 fn replaces(cells: &Cells, shape: Shape, taken: usize, given: usize) -> Result<Flow, AllocError>
     ensures { IfOk result (λ made.
         TellsOf cells.now cells.now shape made (λ site s. replaces site taken given s)) }
@@ -70,7 +70,7 @@ fn replaces(cells: &Cells, shape: Shape, taken: usize, given: usize) -> Result<F
     }
 }
 
-/// So many pairs are replaced by a value.
+/// Replaces `count` pairs by a value.
 fn replaces_pairs(cells: &Cells, shape: Shape, count: usize) -> Result<Flow, AllocError>
     ensures { IfOk result (λ made.
         TellsOf cells.now cells.now shape made (λ site s. replaces site (count + count) 1 s)) }
@@ -81,7 +81,7 @@ fn replaces_pairs(cells: &Cells, shape: Shape, count: usize) -> Result<Flow, All
     }
 }
 
-/// A group is replaced by a value.
+/// Replaces a group by a value.
 fn replaces_group(cells: &Cells, shape: Shape) -> Result<Flow, AllocError>
     ensures { IfOk result (λ made.
         TellsOf cells.now cells.now shape made (λ site s. replaces_counted site None s)) }
@@ -96,7 +96,7 @@ fn replaces_group(cells: &Cells, shape: Shape) -> Result<Flow, AllocError>
     }
 }
 
-/// So many values, or a group, are replaced by a value.
+/// Replaces `count` values, or a group if `count` is None, by a value.
 fn replaces_counted(cells: &Cells, shape: Shape, count: &Option<usize>) -> Result<Flow, AllocError>
     ensures { IfOk result (λ made.
         TellsOf cells.now cells.now shape made (λ site s. replaces_counted site count.now s)) }
@@ -107,7 +107,7 @@ fn replaces_counted(cells: &Cells, shape: Shape, count: &Option<usize>) -> Resul
     }
 }
 
-/// With an operand of this kind, which is no value.
+/// Pushes an operand of this kind, which isn't `Value`.
 fn on_with(cells: &mut Cells, shape: Shape, kind: Kind) -> Result<Flow, AllocError>
     requires { Special kind }
     ensures told { IfOk result (λ made.
@@ -117,7 +117,7 @@ fn on_with(cells: &mut Cells, shape: Shape, kind: Kind) -> Result<Flow, AllocErr
     Ok(plain(Way::On(shape.with(cells, kind)?)))
 }
 
-/// How many texts values are, where each is one.
+/// The number of values, if each of them is a text.
 fn text_count(values: &[Value]) -> Option<usize>
     ensures { result ≡ option_map length (texts_in values.now) }
 {
@@ -127,7 +127,7 @@ fn text_count(values: &[Value]) -> Option<usize>
     Some(values.len())
 }
 
-/// How many names a literal list of texts has.
+/// The length of a literal list of texts.
 pub(crate) fn name_count(value: &Value) -> Option<usize>
     ensures { result ≡ option_map length (names_in value.now) }
 {
@@ -188,7 +188,7 @@ fn get_closure(cells: &mut Cells, at: &Site<'_>, shape: Shape) -> Result<Flow, A
     }
 }
 
-/// The number of names and what stays without them and a closure, where these are on top.
+/// If a list of names and a closure are on top: the number of names, and the shape without these.
 fn macro_parts(cells: &Cells, shape: Shape) -> Option<(usize, Shape)>
     ensures { (s : Spec) → Shows cells.now shape s → AreMacroParts cells.now s result }
 {
@@ -220,7 +220,7 @@ fn build_macro(cells: &Cells, at: &Site<'_>, shape: Shape, place: usize) -> Resu
     }
 }
 
-/// A value over a group of a place goes into it by `Swap`, `LoadConst 1` and `Add` alone.
+/// A value above a group goes into it only by `Swap`, `LoadConst 1` and `Add` in a row.
 fn swap_group(
     cells: &mut Cells,
     at: &Site<'_>,
@@ -238,8 +238,8 @@ fn swap_group(
     }
 }
 
-/// A value over the 0 of a place goes into it by these, as into a group of none; else it is
-/// swapped with it as with a value.
+/// A value above a 0 goes into it by such a row, as into an empty group; otherwise the two are
+/// swapped like values.
 fn swap_zero(
     cells: &mut Cells,
     at: &Site<'_>,
@@ -260,7 +260,7 @@ fn swap_zero(
     }
 }
 
-/// A value is swapped with what lies below it, which is on top here.
+/// Swaps a value with the operand below it, which is on top here.
 fn swap_over(cells: &mut Cells, at: &Site<'_>, shape: Shape) -> Result<Flow, AllocError>
     ensures told { IfOk result (λ made. TellsThere at.now cells.old cells.new shape made
         (λ site s. swap_over site s s.part.operands)) }
@@ -287,8 +287,8 @@ fn swap(cells: &mut Cells, at: &Site<'_>, shape: Shape) -> Result<Flow, AllocErr
     }
 }
 
-/// Of which place the count of a group is that was opened, and what stays without it and the 1
-/// over it.
+/// If a 1 above an opened group is on top: the place of the group's count, and the shape without
+/// these.
 fn opened(cells: &Cells, shape: Shape) -> Option<(Option<usize>, Shape)>
     ensures { (s : Spec) → Shows cells.now shape s → IsOpened cells.now s result }
 {
@@ -361,7 +361,7 @@ fn push_frame(cells: &mut Cells, shape: Shape, frame: Frame) -> Result<Flow, All
     }))))
 }
 
-/// The innermost scope of the part, and those without it.
+/// The innermost scope of the part, and the others.
 fn top_frame(cells: &Cells, level: Level) -> Option<(Frame, Level)>
     ensures { (part : Part) → IsLevel cells.now level part →
         IsTopFrame cells.now level part result }
@@ -405,7 +405,7 @@ fn push_loop(cells: &mut Cells, shape: Shape, flags: &LoopFlags) -> Result<Flow,
     }
 }
 
-/// Whether the innermost scope is a loop's.
+/// Whether the innermost scope is that of a loop.
 fn is_in_loop(cells: &Cells, shape: Shape) -> bool
     ensures { (s : Spec) (f : Told) → Shows cells.now shape s →
         on_loop s.part.frames s.below f ≡ choose result (λ _. f) (λ _. refused) }
@@ -439,7 +439,7 @@ fn did_not_iterate(cells: &Cells, shape: Shape) -> Result<Flow, AllocError>
     }
 }
 
-/// What stays without the innermost loop, where what was opened in it is closed.
+/// The shape without the innermost loop, if everything opened in it is closed.
 fn without_loop(cells: &Cells, shape: Shape) -> Option<Shape>
     ensures { (s : Spec) → Shows cells.now shape s → IsLoopEnded cells.now s result }
 {
@@ -461,7 +461,7 @@ fn pop_loop(cells: &Cells, shape: Shape) -> Flow
     }
 }
 
-/// A capture on the stack of captures.
+/// A capture as an item.
 fn capture_item(mode: &CaptureMode) -> Item
     ensures { result ≡ capture_item mode.now }
 {
@@ -539,7 +539,7 @@ fn pop_escape(shape: Shape) -> Flow
     }
 }
 
-/// Whether as many operands are left as is asked.
+/// Whether the required number of operands is left.
 fn leaves(at: &Site<'_>, shape: Shape) -> bool
     ensures { (cells : List Celled) (s : Spec) → Shows cells shape s →
         result ≡ are at.now.returned s.part.operands }
@@ -561,7 +561,7 @@ fn returns(at: &Site<'_>, shape: Shape) -> Flow
     }
 }
 
-/// Where an instruction leads from a shape. AllocError when out of memory.
+/// Where an instruction leads from a shape. AllocError if memory runs out.
 pub(crate) fn flow_of(
     cells: &mut Cells,
     at: &Site<'_>,
@@ -627,7 +627,7 @@ pub(crate) fn flow_of(
         Instruction::EndCapture => end_capture(cells, shape),
         Instruction::PushAutoEscape => push_escape(cells, shape),
         Instruction::PopAutoEscape => Ok(pop_escape(shape)),
-        // An operator of two operands.
+        // A binary operator.
         _ => replaces(cells, shape, 2, 1),
     }
 }

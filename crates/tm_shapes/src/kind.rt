@@ -1,50 +1,51 @@
-//! What is known of an operand, and of a scope.
+//! What is known about an operand, and about a scope.
 
-/// What is known of an operand.
+/// What is known about an operand.
 #[derive(Clone, Copy, PartialEq, Eq, PartialOrd, Ord)]
 pub enum Kind {
     /// It is a value.
     Value,
-    /// It is the 0 that the `LoadConst` of a place pushed, which may stand for a group of none: before it is known as which
-    /// it is taken.
+    /// The 0 that the `LoadConst` at this place pushed. It may be an empty group; that isn't
+    /// decided yet.
     Zero(usize),
-    /// It is a count over as many values; with the place of the `LoadConst 0` from which it grew, where it grew from one.
+    /// A count above that many values; with the place of the `LoadConst 0` that began it, if any.
     Group(Option<usize>),
-    /// It is a closure, for the macro that is built next.
+    /// A closure, for the macro that is built next.
     Closure,
-    /// It is a list of so many names of parameters, for that macro.
+    /// A list of that many parameter names, for the macro that is built next.
     Names(usize),
-    /// Between `Swap` and `Add`: it is a count over one value more than it counts.
+    /// Between `Swap` and `Add`: a count above one value more than it counts.
     Opened(Option<usize>),
-    /// There it is 1, over that.
+    /// Between `Swap` and `Add`: the 1 above that count.
     One,
 }
 
-/// What a scope is.
+/// The kind of a scope.
 #[derive(Clone, Copy, PartialEq, Eq, PartialOrd, Ord)]
 pub enum Frame {
-    /// One of `PushWith`.
+    /// The scope of a `PushWith`.
     Scope,
-    /// A loop's that can't be called, with how many operands, captures and escapes of the part were there at its `PushLoop`.
+    /// The scope of a loop that can't be called, with the numbers of the part's operands, captures
+    /// and escapes at its `PushLoop`.
     Loop(usize, usize, usize),
 }
 
-/// As what a `LoadConst 0` is read.
+/// How a `LoadConst 0` is read.
 #[derive(Clone, Copy, PartialEq, Eq, PartialOrd, Ord)]
 pub enum Reading {
     /// As a value.
     Value,
-    /// As a group of none.
+    /// As an empty group.
     Group,
-    /// As either: how it is taken tells.
+    /// As either, depending on how it is used.
     Open,
 }
 
 /// What a stream is for.
 #[derive(Clone, Copy, PartialEq, Eq, Debug)]
 pub enum Form {
-    /// It writes, and leaves no operand.
+    /// It writes text, and leaves no operand.
     Template,
-    /// It leaves the one operand that it comes to.
+    /// It leaves one operand, its value.
     Expression,
 }

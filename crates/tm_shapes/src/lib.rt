@@ -1,5 +1,5 @@
-//! Streams that no compiler wrote. What stands at each place of a stream, whatever ran before it, is its shape; a stream is accepted
-//! where a search finds shapes.
+//! Checks streams that the compiler didn't write. The shape of a place says what is on the stacks
+//! there, whatever ran before. A stream is accepted if a search finds shapes for it.
 #![tactic(auto)]
 
 mod before;

@@ -4,7 +4,7 @@ ghost use Rattle.std.specs.Prelude.{◌≡◌, [], ◌∷◌, MatchOption, OnErr
 use std::alloc::{AllocError, Global};
 use std::marker::Model;
 
-/// Places that are to be looked at. A contract sees a list, the topmost first.
+/// The places that are left to visit. A contract sees a list, the topmost first.
 pub(crate) struct Pile {
     items: Vec<usize>,
 }
@@ -24,7 +24,7 @@ impl Drop for Pile {
 }
 
 impl Pile {
-    /// No places.
+    /// An empty stack.
     pub(crate) fn new(alloc: Global) -> Pile
         ensures { result ≡ [] }
     {
@@ -33,7 +33,7 @@ impl Pile {
         }
     }
 
-    /// Puts a place on top. AllocError when out of memory, and all stays as it was.
+    /// Pushes a place. AllocError if memory runs out; then nothing changes.
     pub(crate) fn push(&mut self, place: usize) -> Result<(), AllocError>
         ensures ok { OnOk result (self.new ≡ place ∷ self.old) }
         ensures err { OnErr result (self.new ≡ self.old) }
@@ -42,7 +42,7 @@ impl Pile {
         Ok(())
     }
 
-    /// Takes the topmost place.
+    /// Pops the topmost place.
     pub(crate) fn pop(&mut self) -> Option<usize>
         ensures { MatchOption result ((self.old ≡ []) × (self.new ≡ []))
             (λ top. self.old ≡ top ∷ self.new) }

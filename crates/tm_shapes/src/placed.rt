@@ -1,4 +1,4 @@
-//! What is tested at every instruction of a stream, reached or not.
+//! Checks of every instruction in a stream, reached or not.
 ghost use Rattle.std.specs.Prelude.{◌≡◌, ◌&&◌, IfOk, MatchOption, List, false, length, true};
 ghost use Rattle.tm_shapes.specs.declared.before.Before.TheVariants.{Nothing};
 ghost use Rattle.tm_trees.specs.Instructions.{Instruction as Made};
@@ -12,7 +12,7 @@ use crate::site::is_marked;
 use std::alloc::{AllocError, Global};
 use tm_syntax::{CACHES, Instruction, NO_CACHE, Name};
 
-/// Where an instruction may lead beside the next place.
+/// The place that an instruction may lead to, besides the next one.
 fn target(instruction: &Instruction) -> Option<usize>
     ensures { result ≡ target instruction.now }
 {
@@ -27,7 +27,7 @@ fn target(instruction: &Instruction) -> Option<usize>
     }
 }
 
-/// Marks a place, if there is one; false where it isn't among these.
+/// Marks a place, if there is one. Returns false if it is out of range.
 fn mark(marks: &mut Vec<bool>, place: Option<usize>) -> bool
     ensures within { result ≡ is_among (length marks.old.items) place }
     ensures marked { result ≡ true → marks.new.items ≡ with_mark place marks.old.items }
@@ -45,8 +45,8 @@ fn mark(marks: &mut Vec<bool>, place: Option<usize>) -> bool
     }
 }
 
-/// Whether a jump or a macro's entry leads to a place, for each place and the end; None where one leads past it. AllocError
-/// when out of memory.
+/// For each place and the end: whether a jump or a macro's entry leads there. None if one leads
+/// past the end. AllocError if memory runs out.
 pub(crate) fn entered_places(
     alloc: Global,
     code: &[Instruction],
@@ -64,14 +64,14 @@ pub(crate) fn entered_places(
     Ok(Some(marks))
 }
 
-/// The names of cache numbers so far. A contract sees them.
+/// The names that use each cache number so far. A contract sees them.
 #[derive(Drop)]
 struct CacheNames<'a> {
     names: Vec<Option<&'a Name>>,
 }
 
 impl<'a> CacheNames<'a> {
-    /// No names. AllocError when out of memory.
+    /// No names. AllocError if memory runs out.
     fn new(alloc: Global) -> Result<CacheNames<'a>, AllocError>
         ensures { IfOk result (λ made. names_of made.names.items ≡ no_names) }
     {
@@ -80,7 +80,8 @@ impl<'a> CacheNames<'a> {
         })
     }
 
-    /// Whether a number is none, or that of a cache and of no other name; it is of this name then.
+    /// Whether the number means no cache, or is a cache that no other name uses; then this name
+    /// uses it.
     fn take(&mut self, name: &'a Name, number: u8) -> bool
         ensures { taken name.now number (names_of self.old.names.items) ≡
             told result (names_of self.new.names.items) }
@@ -103,7 +104,7 @@ impl<'a> CacheNames<'a> {
     }
 }
 
-/// The names of cache numbers of filters, and those of tests.
+/// The names that use cache numbers, for filters and for tests.
 #[derive(Drop)]
 struct Caches<'a> {
     filters: CacheNames<'a>,
@@ -111,7 +112,8 @@ struct Caches<'a> {
 }
 
 impl<'a> Caches<'a> {
-    /// Whether the number of an instruction, if it has one, is none, or that of a cache and of no other name.
+    /// Whether the instruction has no cache number, or one that means no cache, or one that no
+    /// other name uses.
     fn take(&mut self, instruction: &'a Instruction) -> bool
         ensures taken { result ≡ true → CachesTaken instruction.now
             (names_of self.old.filters.names.items) (names_of self.old.tests.names.items)
@@ -127,7 +129,8 @@ impl<'a> Caches<'a> {
     }
 }
 
-/// Whether each cache number is none, or that of a cache and of one name, filters and tests apart. AllocError when out of memory.
+/// Whether each cache number means no cache, or is a cache used by one name only; filters and tests
+/// are separate. AllocError if memory runs out.
 pub(crate) fn caches_fit(alloc: Global, code: &[Instruction]) -> Result<bool, AllocError>
     ensures { IfOk result (λ fit.
         fit ≡ (caches_fit (filters_in code.now) && caches_fit (tests_in code.now))) }
@@ -144,7 +147,7 @@ pub(crate) fn caches_fit(alloc: Global, code: &[Instruction]) -> Result<bool, Al
     Ok(true)
 }
 
-/// What stands before a place after an instruction.
+/// The parts of a macro before the next place.
 fn before_next(before: Before, instruction: &Instruction) -> Before
     ensures { result ≡ before_next before instruction.now }
 {
@@ -158,7 +161,8 @@ fn before_next(before: Before, instruction: &Instruction) -> Before
     }
 }
 
-/// Whether a macro that is built at a place is built after its other parts, and nothing leads between them.
+/// Whether a macro that is built here comes directly after its other parts, and nothing jumps
+/// between them.
 fn build_fits(before: Before, instruction: &Instruction, entered: &[bool], place: usize) -> bool
     ensures { (code : List Made) → AreMarks code entered.now →
         result ≡ build_fits code place before instruction.now }
@@ -172,7 +176,7 @@ fn build_fits(before: Before, instruction: &Instruction, entered: &[bool], place
     }
 }
 
-/// Whether the parts of macros stand together, and nothing leads between them.
+/// Whether the parts of each macro are adjacent, and nothing jumps between them.
 pub(crate) fn parts_fit(code: &[Instruction], entered: &[bool]) -> bool
     requires { AreMarks code.now entered.now }
     ensures { result ≡ parts_fit code.now 0 Nothing code.now }

@@ -1,12 +1,12 @@
-//! Why no shapes are found.
+//! Why the search found no shapes.
 use std::alloc::AllocError;
 
-/// Why no shapes are found.
+/// Why the search found no shapes.
 #[derive(Clone, Copy, PartialEq, Eq)]
 pub(crate) enum Refusal {
-    /// There are none.
+    /// There are no shapes.
     BadStream,
-    /// Memory is out.
+    /// Memory ran out.
     OutOfMemory,
 }
 

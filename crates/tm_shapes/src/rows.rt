@@ -1,4 +1,4 @@
-//! Rows: streams that no compiler wrote, and whether they are accepted.
+//! Worked examples: streams that the compiler didn't write, and whether they are accepted.
 ghost use Rattle.std.specs.Prelude.{◌≡◌, [], ◌∷◌, None, codes, false, true};
 ghost use Rattle.tm_values.specs.Val.{boolean, text};
 ghost use Rattle.tm_trees.specs.Instructions.modes.{Capture, Discard};
@@ -9,8 +9,8 @@ ghost use Rattle.tm_shapes.specs.StreamRows.{added, called_again, counted, filte
 ghost use Rattle.tm_shapes.specs.StreamRows.{left_by_loop, looping, macro_before, macro_value, nothing_in, one_value, one_way_or, parts_apart};
 ghost use Rattle.tm_shapes.specs.StreamRows.{taking_from_under, test, through, unreached_macro, zero_or_value};
 
-/// Ends and targets: a target is a place or the end, where all is closed and so many operands are
-/// left; a stream needs no end.
+/// Ends and targets. A target is a place or the end, where everything is closed and the required
+/// number of operands is left. A stream need not reach its end.
 pub fn end_rows()
     ensures empty { accepts forms.Template [] ≡ true }
     ensures end { accepts forms.Template (i.Jump 1 ∷ []) ≡ true }
@@ -20,7 +20,8 @@ pub fn end_rows()
     ensures value { accepts forms.Expression (one_value ∷ []) ≡ true }
 {}
 
-/// What an instruction takes or closes is there, and where ways meet all is the same.
+/// The operands of an instruction exist, what it closes is open, and where paths meet, the shapes
+/// are equal.
 pub fn shape_rows()
     ensures emit { accepts forms.Template (i.Emit ∷ []) ≡ false }
     ensures escape { accepts forms.Template (i.PopAutoEscape ∷ []) ≡ false }
@@ -37,7 +38,7 @@ pub fn shape_rows()
         (one_value ∷ i.ExportLocals ∷ i.DiscardTop ∷ []) ≡ true }
 {}
 
-/// Captures are the same by their modes, and loops by what was there at their `PushLoop`.
+/// Captures are equal if their modes are, and loops if the stacks were equal at their `PushLoop`.
 pub fn way_rows()
     ensures modes { accepts forms.Template
         (one_way_or (i.BeginCapture Capture) (i.BeginCapture Discard)) ≡ false }
@@ -46,7 +47,8 @@ pub fn way_rows()
     ensures loops { accepts forms.Template loop_over_one_or_none ≡ false }
 {}
 
-/// 0 is a value, or a group of none; a value goes into a group by `Swap`, `LoadConst 1` and `Add` in a row.
+/// A 0 is a value or an empty group. A value goes into a group by `Swap`, `LoadConst 1` and `Add`
+/// in a row.
 pub fn group_rows()
     ensures values { accepts forms.Template added ≡ true }
     ensures plain { accepts forms.Template (one_value ∷ i.BuildList None ∷ i.Emit ∷ []) ≡ false }
@@ -58,7 +60,8 @@ pub fn group_rows()
     ensures literal { accepts forms.Template zero_or_value ≡ true }
 {}
 
-/// A `Return` leaves what the form asks where the start reaches it, and nothing where a macro's entry does.
+/// A `Return` leaves what the form requires if the start reaches it, and nothing if a macro's entry
+/// does.
 pub fn form_rows()
     ensures start { accepts forms.Expression (one_value ∷ i.Return ∷ []) ≡ true }
     ensures none { accepts forms.Expression (i.Return ∷ []) ≡ false }
@@ -67,7 +70,7 @@ pub fn form_rows()
     ensures entered { accepts forms.Expression (macro_value one_value) ≡ false }
 {}
 
-/// A loop that can be called takes nothing from under it; another one may.
+/// A loop that can be called pops nothing from below itself; another one may.
 pub fn loop_rows()
     ensures recursive { accepts forms.Template (taking_from_under true) ≡ false }
     ensures not_recursive { accepts forms.Template (taking_from_under false) ≡ true }
@@ -76,8 +79,8 @@ pub fn loop_rows()
     ensures nothing_open { accepts forms.Template (left_by_loop i.FastSuper) ≡ true }
 {}
 
-/// Targets, entries and parts of macros, jumps between these, and cache numbers count also where
-/// nothing reaches them.
+/// Targets, entries, the parts of macros, jumps between these, and cache numbers are checked even
+/// if nothing reaches them.
 pub fn placed_rows()
     ensures target { accepts forms.Template (i.Jump 2 ∷ i.Jump 9 ∷ []) ≡ false }
     ensures unreached { accepts forms.Template unreached_macro ≡ false }

@@ -24,26 +24,27 @@ use crate::site::{Site, is_marked};
 use std::alloc::{AllocError, Global};
 use tm_syntax::Instruction;
 
-/// A stream, and whether a jump or a macro's entry leads to a place, for each of its places and its end.
+/// A stream. For each of its places and its end, `entered` says whether a jump or a macro's entry
+/// leads there.
 #[derive(Clone, Copy)]
 pub(crate) struct Stream<'a> {
     pub(crate) code: &'a [Instruction],
     pub(crate) entered: &'a [bool],
 }
 
-/// As what the 0 of each place is read.
+/// How the 0 at each place is read.
 #[derive(Clone, Copy)]
 pub(crate) enum Readings<'a> {
-    /// Each as a value.
+    /// All as values.
     Values,
-    /// Those of marked places as groups.
+    /// Those at marked places as groups, the others as values.
     Groups(&'a [bool]),
-    /// Each as either.
+    /// All as either.
     Open,
 }
 
-/// How a search reads each 0, how many operands a `Return` leaves if that is asked, and how many the end; and whether it follows
-/// the entries of macros.
+/// The parameters of a search: how each 0 is read, how many operands a `Return` leaves, if that is
+/// required, how many are left at the end, and whether the entries of macros are followed.
 #[derive(Clone, Copy)]
 pub(crate) struct Asked<'a> {
     pub(crate) read: Readings<'a>,
@@ -52,7 +53,7 @@ pub(crate) struct Asked<'a> {
     pub(crate) enters: bool,
 }
 
-/// Where a run begins: a place, and over how many values.
+/// The start of a run: its place, and the number of values on the stack.
 #[derive(Clone, Copy)]
 pub(crate) struct Seed {
     pub(crate) place: usize,
@@ -60,7 +61,7 @@ pub(crate) struct Seed {
 }
 
 impl<'a> Readings<'a> {
-    /// As what the 0 of a place is read.
+    /// How the 0 at a place is read.
     fn of(&self, place: usize) -> Reading
         ensures { result ≡ reading_of self.now place }
     {
@@ -73,7 +74,7 @@ impl<'a> Readings<'a> {
     }
 }
 
-/// Whether a `Swap` stands before a place.
+/// Whether the instruction before a place is `Swap`.
 fn is_after_swap(code: &[Instruction], place: usize) -> bool
     ensures { result ≡ swaps (option_and_then (slice_get code.now) (before_it place)) }
 {
@@ -87,7 +88,7 @@ fn is_after_swap(code: &[Instruction], place: usize) -> bool
 }
 
 impl<'a> Asked<'a> {
-    /// Whether this may stand at the end.
+    /// Whether a stream may end in this shape.
     fn ends_with(&self, shape: &Shape) -> bool
         ensures { (cells : List Celled) (s : Spec) → Shows cells shape.now s →
             result ≡ ends_with self.now.left s }
@@ -97,7 +98,7 @@ impl<'a> Asked<'a> {
 }
 
 impl<'a> Stream<'a> {
-    /// Where the instruction at a place stands.
+    /// The site of the instruction at a place.
     fn site(&self, asked: &Asked<'_>, place: usize) -> Site<'a>
         requires place { place < length self.now.code.now }
         requires marks { AreMarks self.now.code.now self.now.entered.now }
@@ -117,7 +118,7 @@ impl<'a> Stream<'a> {
     }
 }
 
-/// No shape for each place, and for the end. AllocError when out of memory.
+/// No shape yet, for each place and for the end. AllocError if memory runs out.
 fn no_shapes(alloc: Global, code: &[Instruction]) -> Result<Vec<Option<Shape>>, AllocError>
     ensures { IfOk result (λ shapes. shapes.items ≡ unshaped code.now) }
 {
@@ -129,14 +130,14 @@ fn no_shapes(alloc: Global, code: &[Instruction]) -> Result<Vec<Option<Shape>>, 
     Ok(shapes)
 }
 
-/// The shape of a place, where it has one.
+/// The shape of a place, if it has one.
 fn shape_at(shapes: &[Option<Shape>], place: usize) -> Option<Shape>
     ensures { result ≡ option_and_then itself (slice_get shapes.now place) }
 {
     *shapes.get(place)?
 }
 
-/// The shapes so far, and the places that are still to be looked at.
+/// The shapes so far, and the places that are left to visit.
 #[derive(Drop)]
 struct Found {
     cells: Cells,
@@ -145,7 +146,7 @@ struct Found {
 }
 
 impl Found {
-    /// A place is reached in a shape: refused past the end, and where it has another.
+    /// Reaches a place in a shape. Refused if the place is past the end, or has another shape.
     fn reach(&mut self, place: usize, shape: Shape) -> Result<(), Refusal>
         ensures reached { (question : Question) (code : List Instruction) (f : Finding) (s : Spec) →
             IsFound self.old f → Shows self.old.cells shape s →
@@ -164,7 +165,7 @@ impl Found {
         }
     }
 
-    /// What an instruction at a place leads to is reached.
+    /// Reaches the places that an instruction leads to.
     fn follow(&mut self, place: usize, way: Way) -> Result<(), Refusal>
         requires { place < 2 ^ 64 - 1 }
         ensures { (question : Question) (code : List Instruction) (f : Finding) (x : Led) →
@@ -183,7 +184,7 @@ impl Found {
         }
     }
 
-    /// A place is looked at.
+    /// Visits a place.
     fn look(&mut self, stream: &Stream<'_>, asked: &Asked<'_>, place: usize) -> Result<(), Refusal>
         requires marks { AreMarks stream.now.code.now stream.now.entered.now }
         requires long { length stream.now.code.now ≤ length stream.now.entered.now }
@@ -206,7 +207,8 @@ impl Found {
     }
 }
 
-/// Whether shapes are found for all that these seeds lead to. BadStream where there are none, OutOfMemory when out of memory.
+/// Finds shapes for everything that the seeds lead to. BadStream if there are none. OutOfMemory if
+/// memory runs out.
 pub(crate) fn search(
     alloc: Global,
     stream: &Stream<'_>,
@@ -235,7 +237,7 @@ pub(crate) fn search(
     Ok(())
 }
 
-/// The places that were met so far, those of them that are still to be looked at, and of which the 0 is taken as a group.
+/// The places reached so far, those that are left to visit, and those whose 0 is taken as a group.
 #[derive(Drop)]
 struct Seen {
     cells: Cells,
@@ -245,7 +247,7 @@ struct Seen {
 }
 
 impl Seen {
-    /// A place keeps the first shape in which it is met, and none lies past the end.
+    /// Notes the shape of a place. A place keeps the first shape; places past the end are ignored.
     fn note(&mut self, place: usize, shape: Shape) -> Result<(), AllocError>
         ensures noted { OnOk result ((question : Question) (code : List Instruction)
             (f : Seeing) (s : Spec) → IsSeen self.old f →
@@ -263,7 +265,7 @@ impl Seen {
         }
     }
 
-    /// The 0 of a place is taken as a group, if there is one.
+    /// Marks the 0 at a place as taken as a group, if there is one.
     fn take(&mut self, taken: Option<usize>)
         ensures groups { self.new.groups.items ≡ with_mark taken self.old.groups.items }
         ensures cells { self.new.cells ≡ self.old.cells }
@@ -277,7 +279,7 @@ impl Seen {
         }
     }
 
-    /// What an instruction at a place leads to is noted.
+    /// Notes the places that an instruction leads to.
     fn trace(&mut self, place: usize, flow: Flow) -> Result<(), AllocError>
         requires { place < 2 ^ 64 - 1 }
         ensures { OnOk result ((question : Question) (code : List Instruction)
@@ -297,7 +299,7 @@ impl Seen {
         }
     }
 
-    /// A place is looked at.
+    /// Visits a place.
     fn glance(
         &mut self,
         stream: &Stream<'_>,
@@ -323,7 +325,8 @@ impl Seen {
     }
 }
 
-/// The places whose 0 is taken as a group, where each place has the first shape in which it is met. AllocError when out of memory.
+/// The places whose 0 is taken as a group, if each place has the first shape in which it is
+/// reached. AllocError if memory runs out.
 pub(crate) fn groups_in(
     alloc: Global,
     stream: &Stream<'_>,

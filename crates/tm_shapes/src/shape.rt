@@ -1,4 +1,4 @@
-//! What stands at a place, by its stacks.
+//! The shape of a place, as stacks.
 ghost use Rattle.std.specs.Prelude.{◌≡◌, ◌≤◌, ◌+◌, ◌∷◌, List, IfOk, IfSome, length};
 ghost use Rattle.tm_shapes.specs.Accepts.{same_shape};
 ghost use Rattle.tm_shapes.specs.Cells.{AllOnce, Grown, IsLevel, Special};
@@ -12,22 +12,22 @@ use crate::cells::{Cell, Cells, Item, Level};
 use crate::kind::Kind;
 use std::alloc::AllocError;
 
-/// What stands at a place: operands, what is open in the innermost part, and the parts below.
+/// The shape of a place: its operands, what is open in the innermost part, and the parts below.
 #[derive(Clone, Copy, PartialEq, Eq)]
 pub(crate) struct Shape {
-    /// So many values lie on top.
+    /// The number of values on top.
     values: usize,
-    /// What is below them.
+    /// The stack below them.
     top: usize,
-    /// How many operands there are in all.
+    /// The number of operands in total.
     height: usize,
-    /// What is open.
+    /// What is open in the innermost part.
     pub(crate) level: Level,
     /// The parts below.
     pub(crate) below: usize,
 }
 
-/// Nothing is open over so many operands.
+/// Nothing is open; `floor` operands are below.
 fn no_level(floor: usize) -> Level
     ensures none { (cells : List Celled) → IsLevel cells result no_part }
     ensures floor { result.floor ≡ floor }
@@ -42,7 +42,7 @@ fn no_level(floor: usize) -> Level
 }
 
 impl Shape {
-    /// Where a run begins over so many values, and nothing is open.
+    /// The start of a run with that many values and nothing open.
     pub(crate) fn over(values: usize) -> Shape
         ensures { (cells : List Celled) → Shows cells result (entry_shape values) }
     {
@@ -55,7 +55,7 @@ impl Shape {
         }
     }
 
-    /// How many operands the innermost part has.
+    /// The number of operands in the innermost part.
     pub(crate) fn operands(&self) -> usize
         ensures counted { (cells : List Celled) (s : Spec) → Shows cells self.now s →
             result ≡ length s.part.operands }
@@ -64,7 +64,7 @@ impl Shape {
         self.height.saturating_sub(self.level.floor)
     }
 
-    /// With so many values more. AllocError where these are more than memory holds.
+    /// Pushes `count` values. AllocError if the number overflows.
     pub(crate) fn pushed(self, count: usize) -> Result<Shape, AllocError>
         ensures { IfOk result (λ made. (cells : List Celled) (s : Spec) → Shows cells self s →
             Shows cells made (with_operands (pushed count s.part.operands) s)) }
@@ -82,7 +82,7 @@ impl Shape {
         }
     }
 
-    /// With an operand of this kind, which is no value. AllocError when out of memory.
+    /// Pushes an operand of this kind, which isn't `Value`. AllocError if memory runs out.
     pub(crate) fn with(self, cells: &mut Cells, kind: Kind) -> Result<Shape, AllocError>
         requires { Special kind }
         ensures shown { IfOk result (λ made. (s : Spec) → Shows cells.old self s →
@@ -105,7 +105,7 @@ impl Shape {
         })
     }
 
-    /// The topmost operand of the innermost part, and what stays without it.
+    /// Pops the topmost operand of the innermost part.
     pub(crate) fn pop(self, cells: &Cells) -> Option<(Kind, Shape)>
         ensures popped { (s : Spec) → Shows cells.now self s → IsPopped cells.now s result }
         ensures lower { IfSome result (λ p. p.1.height + 1 ≡ self.height) }
@@ -141,7 +141,7 @@ impl Shape {
         }
     }
 
-    /// What stays without so many values on top, where there are so many in the innermost part.
+    /// Pops `count` values, if the innermost part has that many on top.
     pub(crate) fn without(self, cells: &Cells, count: usize) -> Option<Shape>
         ensures { (s : Spec) → Shows cells.now self s → IsWithout cells.now count s result }
     {
@@ -168,14 +168,14 @@ impl Shape {
         Some(shape)
     }
 
-    /// With this open.
+    /// Replaces what is open in the innermost part.
     pub(crate) fn at_level(self, level: Level) -> Shape
         ensures { result ≡ record self { level = level } }
     {
         Shape { level, ..self }
     }
 
-    /// In a part of its own, over this one. AllocError when out of memory.
+    /// Begins a new innermost part. AllocError if memory runs out.
     pub(crate) fn in_part(self, cells: &mut Cells) -> Result<Shape, AllocError>
         ensures shown { IfOk result (λ made. (s : Spec) → Shows cells.old self s →
             Shows cells.new made (record { part = no_part; below = s.part ∷ s.below })) }
@@ -192,7 +192,8 @@ impl Shape {
         })
     }
 
-    /// Without the innermost part, whose operands lie over those below, where there is another one.
+    /// Ends the innermost part, whose operands stay on top of those below. None if there is no part
+    /// below.
     pub(crate) fn without_part(self, cells: &Cells) -> Option<Shape>
         ensures { (s : Spec) → Shows cells.now self s → IsLower cells.now s result }
     {
@@ -209,14 +210,14 @@ impl Shape {
         }
     }
 
-    /// Whether all that was opened is closed.
+    /// Whether everything that was opened is closed.
     pub(crate) fn is_closed(&self) -> bool
         ensures { (cells : List Celled) (s : Spec) → Shows cells self.now s → result ≡ is_closed s }
     {
         self.level.frames == 0 && self.level.open == 0 && self.level.escapes == 0 && self.below == 0
     }
 
-    /// Whether it is the same shape.
+    /// Whether both shapes are equal.
     pub(crate) fn is_same(&self, other: &Shape) -> bool
         ensures { (cells : List Celled) (s t : Spec) → AllOnce cells → Shows cells self.now s →
             Shows cells other.now t → result ≡ same_shape s t }

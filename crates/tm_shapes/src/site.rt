@@ -1,4 +1,4 @@
-//! Where an instruction stands.
+//! The surroundings of an instruction.
 ghost use Rattle.std.specs.Prelude.{◌≡◌};
 ghost use Rattle.tm_shapes.specs.Flows.{builds, builds_after, is_one, is_zero};
 ghost use Rattle.tm_shapes.specs.Sites.{is_between, is_marked, is_number, is_row};
@@ -7,22 +7,22 @@ use crate::kind::Reading;
 use tm_syntax::Instruction;
 use tm_values::{Node, Value};
 
-/// Where an instruction stands, as far as a flow asks.
+/// The surroundings of an instruction that a flow depends on.
 #[derive(Clone, Copy)]
 pub(crate) struct Site<'a> {
     /// Its place.
     pub(crate) place: usize,
     /// The instructions after it.
     pub(crate) rest: &'a [Instruction],
-    /// Whether a jump or a macro's entry leads to a place, for its place and those after it.
+    /// For its place and those after it: whether a jump or a macro's entry leads there.
     pub(crate) entered: &'a [bool],
-    /// Whether a `Swap` stands before it.
+    /// Whether the instruction before it is `Swap`.
     pub(crate) is_after_swap: bool,
-    /// As what 0 is read.
+    /// How a 0 is read.
     pub(crate) reading: Reading,
-    /// How many operands a `Return` leaves, if that is asked.
+    /// How many operands a `Return` leaves, if that is required.
     pub(crate) returned: Option<usize>,
-    /// Whether the entry of a macro is followed where it is built.
+    /// Whether the entry of a macro is followed when the macro is built.
     pub(crate) enters: bool,
 }
 
@@ -36,7 +36,7 @@ pub(crate) fn is_marked(marks: &[bool], place: usize) -> bool
     }
 }
 
-/// Whether a value is this number.
+/// Whether the value is this number.
 fn is_number(value: &Value, number: i128) -> bool
     ensures { result ≡ is_number value.now number }
 {
@@ -46,7 +46,7 @@ fn is_number(value: &Value, number: i128) -> bool
     }
 }
 
-/// Whether a value is 1.
+/// Whether the value is 1.
 #[tactic(auto, using(crate::proofs::Zeros::one_is))]
 pub(crate) fn is_one(value: &Value) -> bool
     ensures { result ≡ is_one value.now }
@@ -54,7 +54,7 @@ pub(crate) fn is_one(value: &Value) -> bool
     is_number(value, 1)
 }
 
-/// Whether a value is 0.
+/// Whether the value is 0.
 #[tactic(auto, using(crate::proofs::Zeros::zero_is))]
 pub(crate) fn is_zero(value: &Value) -> bool
     ensures { result ≡ is_zero value.now }
@@ -63,7 +63,7 @@ pub(crate) fn is_zero(value: &Value) -> bool
 }
 
 impl<'a> Site<'a> {
-    /// Whether a macro is built next.
+    /// Whether the next instruction builds a macro.
     pub(crate) fn builds(&self) -> bool
         ensures { result ≡ builds self.now.rest.now }
     {
@@ -73,7 +73,7 @@ impl<'a> Site<'a> {
         }
     }
 
-    /// Whether one is built after the next instruction, a `LoadConst`.
+    /// Whether the instruction after the next one, a `LoadConst`, builds a macro.
     pub(crate) fn builds_after(&self) -> bool
         ensures { result ≡ builds_after self.now.rest.now }
     {
@@ -87,7 +87,7 @@ impl<'a> Site<'a> {
         }
     }
 
-    /// Whether `LoadConst 1` and `Add` are next, and nothing jumps to these.
+    /// Whether `LoadConst 1` and `Add` come next, and nothing jumps to them.
     pub(crate) fn is_row(&self) -> bool
         ensures { result ≡ is_row self.now }
     {
@@ -99,7 +99,7 @@ impl<'a> Site<'a> {
         }
     }
 
-    /// Whether it stands between `Swap` and `Add`, and nothing jumps to it or to `Add`.
+    /// Whether it is between `Swap` and `Add`, and nothing jumps to it or to the `Add`.
     pub(crate) fn is_between(&self) -> bool
         ensures { result ≡ is_between self.now }
     {

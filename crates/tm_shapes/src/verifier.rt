@@ -1,4 +1,4 @@
-//! Streams that are accepted.
+//! Verifying streams.
 ghost use Rattle.std.specs.Prelude.{◌≡◌, ◌≤◌, ◌++◌, IfErr, IfOk, OnOk, ℕ, false, length, true};
 ghost use Rattle.tm_shapes.specs.Accepts.{Readings as Reads, accepts, all_seeds, fits, fits_as_taken, fits_either, has_zero, returns_fit};
 ghost use Rattle.tm_shapes.specs.Accepts.{ask_all, ask_some, loads_zero};
@@ -19,7 +19,7 @@ use tm_items::Items;
 use tm_syntax::Instruction;
 use tm_values::{Error, ErrorKind};
 
-/// How many names the literal of an instruction has, if it loads one.
+/// The number of names in the literal that an instruction loads, if it loads one.
 fn count_after(instruction: &Instruction) -> Option<usize>
     ensures { result ≡ count_after instruction.now }
 {
@@ -29,7 +29,7 @@ fn count_after(instruction: &Instruction) -> Option<usize>
     }
 }
 
-/// The entry of a macro, if one is built after a literal with so many names.
+/// The entry of a macro, if the instruction builds one after a literal of that many names.
 fn entry_of(before: Option<usize>, instruction: &Instruction) -> Option<Seed>
     ensures { seed_of result ≡ entry_of before instruction.now }
 {
@@ -42,7 +42,7 @@ fn entry_of(before: Option<usize>, instruction: &Instruction) -> Option<Seed>
     }
 }
 
-/// Adds a place where runs begin, if there is one. AllocError when out of memory.
+/// Appends a seed, if there is one. AllocError if memory runs out.
 fn add_seed(seeds: &mut Vec<Seed>, seed: Option<Seed>) -> Result<(), AllocError>
     ensures { OnOk result (seeds_of seeds.new.items ≡ seeds_of seeds.old.items ++ seed_of seed) }
 {
@@ -52,8 +52,8 @@ fn add_seed(seeds: &mut Vec<Seed>, seed: Option<Seed>) -> Result<(), AllocError>
     Ok(())
 }
 
-/// Where runs begin: the start, and the entry of each macro that is built, after a literal with so many names. AllocError when out
-/// of memory.
+/// The seeds of a stream: its start, and the entry of each macro that is built after a literal list
+/// of names. AllocError if memory runs out.
 fn all_seeds(alloc: Global, code: &[Instruction]) -> Result<Vec<Seed>, AllocError>
     ensures { IfOk result (λ seeds. seeds_of seeds.items ≡ all_seeds code.now) }
 {
@@ -80,7 +80,7 @@ fn loads_zero(instruction: &Instruction) -> bool
     }
 }
 
-/// Whether a 0 is loaded.
+/// Whether any instruction loads a 0.
 fn has_zero(code: &[Instruction]) -> bool
     ensures { result ≡ has_zero code.now }
 {
@@ -92,7 +92,7 @@ fn has_zero(code: &[Instruction]) -> bool
     false
 }
 
-/// With all that is reached.
+/// A search of everything that is reached.
 fn ask_all<'a>(read: &Readings<'a>, form: Form) -> Asked<'a>
     ensures { (reads : Reads) → AreReadings read.now reads → IsAsked result (ask_all reads form) }
 {
@@ -108,7 +108,7 @@ fn ask_all<'a>(read: &Readings<'a>, form: Form) -> Asked<'a>
     }
 }
 
-/// With what is reached from some places alone, where so many operands are left at a `Return`.
+/// A search of what is reached from some places, in which a `Return` leaves `left` operands.
 fn ask_some<'a>(read: &Readings<'a>, left: usize) -> Asked<'a>
     ensures { (reads : Reads) → AreReadings read.now reads → IsAsked result (ask_some reads left) }
 {
@@ -120,8 +120,8 @@ fn ask_some<'a>(read: &Readings<'a>, left: usize) -> Asked<'a>
     }
 }
 
-/// Whether in an expression a `Return` that the start reaches leaves one operand, and one that an entry reaches none.
-/// BadStream where that isn't so, OutOfMemory when out of memory.
+/// In an expression, a `Return` that the start reaches must leave one operand, and a `Return` that
+/// an entry reaches none. BadStream if that isn't so. OutOfMemory if memory runs out.
 fn returns_fit(
     alloc: Global,
     stream: &Stream<'_>,
@@ -146,7 +146,8 @@ fn returns_fit(
     }
 }
 
-/// Whether there are shapes, each 0 read so. BadStream where there are none, OutOfMemory when out of memory.
+/// Finds shapes, with each 0 read in the given way. BadStream if there are none. OutOfMemory if
+/// memory runs out.
 fn fits(
     alloc: Global,
     stream: &Stream<'_>,
@@ -170,8 +171,8 @@ fn fits(
     }
 }
 
-/// Whether a 0 is loaded, and there are shapes with each read as it is taken. BadStream where that isn't so, OutOfMemory
-/// when out of memory.
+/// Finds shapes with each 0 read as it is taken; some 0 must be loaded. BadStream if there are
+/// none. OutOfMemory if memory runs out.
 fn fits_as_taken(
     alloc: Global,
     stream: &Stream<'_>,
@@ -193,8 +194,8 @@ fn fits_as_taken(
     fits(alloc, stream, seeds, &Readings::Groups(&groups), form)
 }
 
-/// Whether there are shapes, each 0 read as it is taken, or each as a value. BadStream where there are none, OutOfMemory when
-/// out of memory.
+/// Finds shapes with each 0 read as it is taken, or with all read as values. BadStream if there are
+/// none. OutOfMemory if memory runs out.
 fn fits_either(alloc: Global, stream: &Stream<'_>, form: Form) -> Result<(), Refusal>
     requires marks { AreMarks stream.now.code.now stream.now.entered.now }
     requires long { length stream.now.code.now ≤ length stream.now.entered.now }
@@ -210,7 +211,7 @@ fn fits_either(alloc: Global, stream: &Stream<'_>, form: Form) -> Result<(), Ref
     }
 }
 
-/// Whether a stream is accepted. BadStream where it isn't, OutOfMemory when out of memory.
+/// Checks whether a stream is accepted. BadStream if it isn't. OutOfMemory if memory runs out.
 fn check(alloc: Global, code: &[Instruction], form: Form) -> Result<(), Refusal>
     ensures accepted { OnOk result (accepts form code.now ≡ true) }
     ensures refused { IfErr result (λ e. e ≡ BadStream → accepts form code.now ≡ false) }
@@ -229,7 +230,8 @@ fn check(alloc: Global, code: &[Instruction], form: Form) -> Result<(), Refusal>
     fits_either(alloc, &stream, form)
 }
 
-/// The stream of these instructions, if it is accepted. BadStream where it isn't, OutOfMemory when out of memory.
+/// The stream of these instructions, if it is accepted. BadStream if it isn't. OutOfMemory if
+/// memory runs out.
 fn verified(
     alloc: Global,
     instructions: Items<Instruction>,
@@ -243,8 +245,9 @@ fn verified(
     Ok(Verified::new(alloc, instructions, form)?)
 }
 
-/// Gives a stream if it is accepted, so never stuck. BadStream where it isn't, OutOfMemory when out of memory; the
-/// instructions are dropped then. Time is about in proportion to the number of instructions.
+/// Verifies a stream: an accepted one never gets stuck. BadStream if it isn't accepted. OutOfMemory
+/// if memory runs out. The instructions are dropped on an error. The time is roughly proportional
+/// to the number of instructions.
 pub fn verify(alloc: Global, instructions: Vec<Instruction>, form: Form) -> Result<Verified, Error>
     ensures accepted { IfOk result (λ made.
         (made ≡ instructions.items) × (accepts form instructions.items ≡ true)) }

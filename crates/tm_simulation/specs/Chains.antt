@@ -1,4 +1,4 @@
--- How chains of kinds arise, and environments whose objects state only some of them.
+-- How chains of kinds arise, and environments whose objects state only some chains.
 use Rattle.std.specs.Prelude.{◌≡◌, ◌⊎◌, ℕ, Bool, true, false, List, [], ◌∷◌, Option, None, Some, Ok, Err, slice_get}
 use Rattle.std.specs.List.{All}
 use Rattle.tm_values.specs.Answer.{Answer}
@@ -29,16 +29,17 @@ is_raised kinds.BadSerialization = true
 is_raised kinds.OutOfFuel = true
 is_raised _ = false
 
--- An object of the caller that the environment has: a function of a number, a filter or a test of a name, or the method object for a
--- value's method of a name.
+-- One of the caller's objects in the environment: a function by number, a filter or a test by name,
+-- or the object for a method that a value lacks.
 pub data IsObject (host : HostValue) (f : Object) : Type 0 where
   is_function : (n : ℕ) → slice_get host.functions n ≡ Some (callers f) → IsObject host f
   is_filter : (x : List ℕ) → find x host.filters ≡ Some f → IsObject host f
   is_test : (x : List ℕ) → find x host.tests ≡ Some f → IsObject host f
   is_method : (v : Val) (x : List ℕ) → method_object host.unknown_method v x ≡ Some f → IsObject host f
 
--- A chain arises in a render: it raises a kind, a kind wraps a chain that arises, or an object of the caller states it, or its formatter,
--- or what joins the names of templates.
+-- A chain arises in a render if it is a raised kind, a kind that wraps a chain that arises, or
+-- stated by one of the caller's objects, its formatter, or its function that joins the names of
+-- templates.
 pub data Arises (host : HostValue) : List ErrorKind → Type 0 where
   raised : {kind : ErrorKind} → is_raised kind ≡ true → Arises host (kind ∷ [])
   wrapped : {kind : ErrorKind} {chain : List ErrorKind} → is_wrapping kind ≡ true → Arises host chain → Arises host (kind ∷ chain)
@@ -48,17 +49,17 @@ pub data Arises (host : HostValue) : List ErrorKind → Type 0 where
       host.formatter ≡ Some f → f v view ≡ Err chain → Arises host chain
   by_join : {chain : List ErrorKind} (name parent : List ℕ) → host.join name parent ≡ Err chain → Arises host chain
 
--- a property of a chain, where there is one
+-- a property of a chain, unless the chain is empty
 abbrev pub IfAny : (List ErrorKind → Type 0) → List ErrorKind → Type 0
 IfAny Has [] = Unit {0}
 IfAny Has (k ∷ ks) = Has (k ∷ ks)
 
--- Each chain of one kind that a render raises has the property, and so has what wraps a chain that has it.
+-- The property holds for each kind that a render raises, and wrapping preserves it.
 pub record HasRaised (Has : List ErrorKind → Type 0) : Type 0 where
   pub raised : (kind : ErrorKind) → is_raised kind ≡ true → Has (kind ∷ [])
   pub wrapped : (kind : ErrorKind) (chain : List ErrorKind) → is_wrapping kind ≡ true → Has chain → Has (kind ∷ chain)
 
--- a fault alone that has the property
+-- if it is a fault, it has the property
 abbrev pub AnswersOnly : {A : Type 0} → (List ErrorKind → Type 0) → Answer A → Type 0
 AnswersOnly Has (Ok a) = Unit {0}
 AnswersOnly Has (Err chain) = Has chain
@@ -68,11 +69,11 @@ RepliesOnly Has (gives v) = Unit {0}
 RepliesOnly Has (faults chain) = Has chain
 RepliesOnly Has (asks_for c) = Unit {0}
 
--- Whatever it is called with, and whatever it sees, an object of the caller replies so.
+-- Whatever its arguments and whatever it sees, the faults of the object have the property.
 abbrev pub ObjectStates : (List ErrorKind → Type 0) → Object → Type 0
 ObjectStates Has f = (args : List Val) (view : View) → RepliesOnly Has (f args view).reply
 
--- Of the language's own functions nothing is asked.
+-- Built-in functions have no condition.
 abbrev pub FunctionStates : (List ErrorKind → Type 0) → Function → Type 0
 FunctionStates Has (callers f) = ObjectStates Has f
 FunctionStates Has (languages g) = Unit {0}
@@ -88,12 +89,12 @@ FormatterStates Has (Some f) = (v : Val) (view : View) → AnswersOnly Has (f v 
 abbrev pub JoinStates : (List ErrorKind → Type 0) → (List ℕ → List ℕ → Answer (List ℕ)) → Type 0
 JoinStates Has join = (name parent : List ℕ) → AnswersOnly Has (join name parent)
 
--- The same of the object of a name.
+-- The same for the object of a name.
 abbrev pub NamedStates : (List ErrorKind → Type 0) → List ℕ × Object → Type 0
 NamedStates Has named = ObjectStates Has named.1
 
--- The functions, the filters, the tests, the method object and the formatter of the caller, and what joins names, state only faults that
--- have the property.
+-- The caller's functions, filters, tests, method object, formatter and function that joins names
+-- state only faults with the property.
 pub record StatesOnly (Has : List ErrorKind → Type 0) (host : HostValue) : Type 0 where
   pub functions : All (FunctionStates Has) host.functions
   pub filters : All (NamedStates Has) host.filters
@@ -109,16 +110,17 @@ ends_in_memory [] = false
 ends_in_memory (k ∷ []) = is_memory k
 ends_in_memory (k ∷ c ∷ cs) = ends_in_memory (c ∷ cs)
 
--- a kind that may stand before the fault of something else
+-- a kind that may wrap another fault
 abbrev pub MayWrap : ErrorKind → Type 0
 MayWrap kind = (kind ≡ kinds.EvalBlock) ⊎ (kind ≡ kinds.BadInclude) ⊎ (kind ≡ kinds.InvalidOperation)
 
--- No object and no formatter of the caller, nor what joins names, states a fault that ends in OutOfMemory.
+-- Neither the caller's objects nor its formatter nor its function that joins names states a fault
+-- that ends in OutOfMemory.
 abbrev pub StatesNoMemory : HostValue → Type 0
 StatesNoMemory host = StatesOnly (λ chain. ends_in_memory chain ≡ false) host
 
--- ---------------------------------------------------------------- kinds of other things
--- the kinds of faults of sources, delimiters, writers and streams of instructions, which no render raises
+-- ---------------------------------------------------------------- foreign kinds
+-- the kinds for sources, delimiters, writers and streams of instructions, which no render raises
 abbrev pub is_foreign : ErrorKind → Bool
 is_foreign kinds.SyntaxError = true
 is_foreign kinds.InvalidDelimiter = true

@@ -16,7 +16,7 @@ abbrev pub AllUncached : List Instruction → Type 0
 AllUncached [] = Unit {0}
 AllUncached (x ∷ is) = (is_uncached x ≡ true) × AllUncached is
 
--- So it is with each stream of a program.
+-- The same for each stream of a program.
 abbrev pub HasNoCaches : Program → Type 0
 HasNoCaches p = (s : StreamId) → AllUncached (p.code s)
 

@@ -1,5 +1,5 @@
-//! Proofs: the code of trees comes to what the trees mean. The functions here are laws: they run
-//! nothing, and their contracts say what is proved.
+//! Proofs that the code of trees does what the trees mean. The functions here are laws: they run
+//! nothing, and their contracts state what is proved.
 #![tactic(auto)]
 
 ghost use Rattle.std.specs.Prelude.{◌≡◌, ◌≤◌, ◌++◌, ℕ, None, suc, List, [], ◌∷◌, Bool, true, false};
@@ -30,15 +30,16 @@ ghost use Rattle.tm_simulation.specs.Reached.{RunsTo, Renders, HasLevels};
 ghost use Rattle.tm_simulation.specs.Uncached.{HasNoCaches, with_numbers};
 ghost use Rattle.tm_simulation.specs.Reached.{text_in, final_in, final_of};
 
-/// The code of trees, from any world, comes to what the trees mean: its text, its world, and its end.
+/// Running the code of trees, from any world, yields what the trees mean: the same text, world and
+/// end.
 pub fn code_comes_to_its_meaning()
     ensures { (trees : Trees) (p : Program) (w : World) → IsCompiled trees p →
         Renders p w (final_of (rendered p.host trees w)) }
 {}
 
-/// So does the code of a stream in any run of its own: heard or not, from any world, over any open
-/// captures and whatever the writer has got, where the levels are enough. Of the captures the
-/// innermost one's text alone changes.
+/// The same holds for the code of a stream in a run of its own: heard or not, from any world, over
+/// any open captures, and whatever the writer has received, if there are enough levels. Of the
+/// captures, only the text of the innermost one changes.
 pub fn nested_code_comes_to_its_meaning()
     ensures { (trees : Trees) (p : Program) (n : ℕ) (k : Callee) (heard : Bool)
         (captures : List Capture) (told : List ℕ) (w : World) →
@@ -47,7 +48,7 @@ pub fn nested_code_comes_to_its_meaning()
         RunsTo p k heard captures told w (final_in captures told meant) }
 {}
 
-/// A run comes to the same end, with the same text, once the names of its streams have their cache numbers.
+/// A run has the same end and the same text if the names in its streams have their cache numbers.
 pub fn cache_numbers_change_no_run()
     ensures { (p : Program) (k : Callee) (heard : Bool) (captures : List Capture) (told : List ℕ)
         (w : World) (end : Final) → HasNoCaches p →
@@ -55,7 +56,7 @@ pub fn cache_numbers_change_no_run()
         RunsTo (with_numbers p) k heard captures told w end }
 {}
 
-/// What a run means is the same with any levels that are enough.
+/// The meaning of a run doesn't depend on the number of levels, if there are enough.
 pub fn levels_change_no_meaning()
     ensures { (host : HostValue) (trees : Trees) (n m : ℕ) (k : Callee) (heard : Bool) (out : List ℕ)
         (w : World) → HasLevels host (suc n) w → HasLevels host (suc m) w →
@@ -63,8 +64,8 @@ pub fn levels_change_no_meaning()
         final_of (nests_of host trees (suc m) k heard out w) }
 {}
 
-/// Nor does it matter how many parents a stream may ask for, where that is as many as there are
-/// names left to be loaded.
+/// Nor does it depend on the limit on how many parents a stream may load, if that is at least the
+/// number of names left to load.
 pub fn names_change_no_meaning()
     ensures { (host : HostValue) (trees : Trees) (n m k : ℕ) (s : StreamId) (heard : Bool)
         (out : List ℕ) (w : World) → HasLevels host (suc n) w →
@@ -74,8 +75,9 @@ pub fn names_change_no_meaning()
         final_of (run_of host nests trees k s (new_run heard w) out w) }
 {}
 
-/// The run of an expression's stream evaluates it: it writes nothing, and is done with its value
-/// alone left, or ends in its fault. So what the stream means that a world names is that value.
+/// The run of an expression's stream evaluates the expression: it writes nothing, and leaves its
+/// value alone, or ends in its fault. So the meaning of the stream that a world names is that
+/// value.
 pub fn an_expression_leaves_its_value()
     ensures run { (host : HostValue) (trees : Trees) (n : ℕ) (s : StreamId) (e : Expr)
         (heard : Bool) (out : List ℕ) (w : World) → trees s ≡ expression e →
@@ -88,45 +90,46 @@ pub fn an_expression_leaves_its_value()
         evaluated host trees w ≡ eval u (new_run true w) e w }
 {}
 
-/// A parent that is given leaves a name fewer to be loaded, so every run ends.
+/// Loading a parent leaves one name less to load, so every run ends.
 pub fn a_parent_leaves_a_name_fewer()
     ensures { (host : HostValue) (v : Val) (inside : Bool) (w left : World) (t : TemplateId) →
         load host v None inside w ≡ Good t left → suc (names_left host left) ≤ names_left host w }
 {}
 
-/// The code of trees is never stuck.
+/// The code of trees never gets stuck.
 pub fn code_is_never_stuck()
     ensures { (trees : Trees) (p : Program) (w left : World) (got : List ℕ) → IsCompiled trees p →
         Renders p w (final got (Stuck left)) → ⊥ }
 {}
 
-/// A render keeps its state: it is the same one, no fuel comes back, and the scopes that stood are there; where the render is no fault
-/// there are no others, and only the names of the innermost one may differ.
+/// A render keeps its state: the id is the same, fuel never increases, and the scopes from before
+/// remain. If the render doesn't fail, there are no other scopes, and only the names of the
+/// innermost one may differ.
 pub fn a_render_keeps_its_state()
     ensures { (host : HostValue) (trees : Trees) (w : World) → Stays w (rendered host trees w) }
 {}
 
-/// So does any run: the scopes below its own are the very same ones.
+/// The same holds for any run: the scopes below its own are unchanged.
 pub fn a_run_keeps_its_state()
     ensures { (host : HostValue) (trees : Trees) (n : ℕ) (k : Callee) (heard : Bool) (out : List ℕ)
         (w : World) → Stays w (nests_of host trees n k heard out w) }
 {}
 
-/// A render loses nothing, also where it ends in a fault: no record, no kept value, no name loaded, and no template of a block's list;
-/// the places in these lists and the block are as they were, and where it ends in no fault so is the escape.
+/// A render loses nothing, even if it fails: no record, no kept value, no loaded name, and no
+/// template in a block's list. The places in these lists and the block are as before, and so is the
+/// escape, if the render doesn't fail.
 pub fn a_render_loses_nothing()
     ensures { (host : HostValue) (trees : Trees) (w : World) → OnlyAdds w (rendered host trees w) }
 {}
 
-/// A render ends in the stream in which it began, or in the root of a parent, also where it ends in
-/// a fault.
+/// A render ends in the stream in which it began, or in the root of a parent, even if it fails.
 pub fn a_render_ends_in_its_stream_or_a_root()
     ensures { (host : HostValue) (trees : Trees) (w : World) →
         EndsThere w.stream (rendered host trees w) }
 {}
 
-/// Whatever its run comes to, also a fault, a block's tag leaves the scopes, the stream, the block, the escape and the places in lists of
-/// blocks as they were before it, and no list loses a template.
+/// However its run ends, even by a fault, a block tag restores the scopes, the stream, the block,
+/// the escape and the places in lists of blocks, and no list loses a template.
 pub fn a_block_puts_back_what_it_replaced()
     ensures { (host : HostValue) (trees : Trees) (n : ℕ) (tree : StreamTree) (run : Run) (b : List ℕ)
         (out : List ℕ) (w : World) →
@@ -141,9 +144,9 @@ pub fn a_super_puts_back_what_it_replaced()
         PutsBack w (in_place_of u run out (enter_super host w)).world }
 {}
 
-/// An include leaves all this as it was, and the lists of blocks and the loaded names too, whatever
-/// comes of it. The scopes are the very ones that stood; where the template runs in the caller's
-/// own, only the names of the innermost one may differ.
+/// An include restores all of this, and the lists of blocks and the loaded names too, however it
+/// ends. The scopes are the same as before. If the template runs in the caller's own scopes, only
+/// the names of the innermost one may differ.
 pub fn an_include_gives_back_what_it_replaced()
     ensures back { (host : HostValue) (trees : Trees) (n : ℕ) (tree : StreamTree) (run : Run)
         (out : List ℕ) (apart : Bool) (v : Val) (missing : Bool) (w : World) →
@@ -155,8 +158,8 @@ pub fn an_include_gives_back_what_it_replaced()
         (in_place_of u run out (enter_include host true v missing w)).world.scopes ≡ w.scopes }
 {}
 
-/// An import, of a module or of names, leaves the scopes that stood but for the names of the
-/// innermost one, whose closure stays; where it ends in a fault there may be more over them.
+/// An import, of a module or of names, leaves the scopes as before, except for the names of the
+/// innermost one; its closure is unchanged. If the import fails, there may be more scopes on top.
 pub fn an_import_leaves_the_scopes()
     ensures module { (host : HostValue) (trees : Trees) (n : ℕ) (tree : StreamTree) (run : Run)
         (e : Expr) (t : AssignmentTarget) (w : World) →
@@ -166,11 +169,11 @@ pub fn an_import_leaves_the_scopes()
         LeavesScopes w (import_names (under host (nests_of host trees n) tree) run e xs w) }
 {}
 
-/// Depth never passes the recursion limit, or 1 where that is 0, which is a fresh state's: the scopes
-/// that a render leaves, or any run, also at a fault, lie no deeper than the limit, or than those with
-/// which it began where these lie deeper. So do those that a call leaves which a state is asked for
-/// where no template runs: of a block, of what a name stands for, of a filter, of a test, of a value
-/// that is formatted, and of an expression.
+/// Depth never exceeds the recursion limit, or 1, the depth of a fresh state, if the limit is 0.
+/// The scopes that a render or any run leaves, even if it fails, are no deeper than the limit, or
+/// than those at its start if these are deeper. The same holds for the calls that a state is asked
+/// for while no template runs: of a block, of a name, of a filter, of a test, of formatting a
+/// value, and of an expression.
 pub fn depth_never_passes_the_limit()
     ensures render { (host : HostValue) (trees : Trees) (w : World) →
         Within host w (rendered host trees w).world }
@@ -190,15 +193,15 @@ pub fn depth_never_passes_the_limit()
         Within host w (world_of (maps_in (evaluated host trees w))) }
 {}
 
-/// The chain of a render's fault arises in it: what ends it is a kind that renders raise, or a chain that an object of the caller states,
-/// and before that stand kinds that wrap.
+/// Each fault of a render arises in it. The chain ends in a kind that renders raise, or in a chain
+/// that one of the caller's objects states. Before that there are only kinds that wrap.
 pub fn a_fault_arises()
     ensures { (host : HostValue) (trees : Trees) (w : World) →
         IfAny (Arises host) (chain_of (rendered host trees w)) }
 {}
 
-/// So does that of a call that a state is asked for where no template runs: of a block, of what a
-/// name stands for, of a filter, of a test, of a value that is formatted, and of an expression.
+/// The same holds for the calls that a state is asked for while no template runs: of a block, of a
+/// name, of a filter, of a test, of formatting a value, and of an expression.
 pub fn a_fault_of_a_call_arises()
     ensures block { (host : HostValue) (trees : Trees) (b : List ℕ) (w : World) →
         IfAny (Arises host) (chain_of (rendered_block host trees b w)) }
@@ -215,35 +218,38 @@ pub fn a_fault_of_a_call_arises()
         IfAny (Arises host) (fault_of (maps_in (evaluated host trees w))) }
 {}
 
-/// So it has each property that the raised kinds have, that the kinds that wrap leave, and that the objects of the caller keep.
+/// So a fault has each property that the raised kinds have, that wrapping preserves, and that the
+/// faults of the caller's objects have.
 pub fn a_fault_has_what_is_raised_or_stated()
     ensures { (has : List ErrorKind → Bool) (host : HostValue) (trees : Trees) (w : World) →
         HasRaised (λ chain. has chain ≡ true) → StatesOnly (λ chain. has chain ≡ true) host →
         IfAny (λ chain. has chain ≡ true) (chain_of (rendered host trees w)) }
 {}
 
-/// A render's fault ends in OutOfMemory only where an object of the caller states one that does.
+/// A fault of a render ends in OutOfMemory only if one of the caller's objects states such a fault.
 pub fn want_of_memory_is_stated()
     ensures { (host : HostValue) (trees : Trees) (w : World) → StatesNoMemory host →
         ends_in_memory (chain_of (rendered host trees w)) ≡ false }
 {}
 
-/// A chain ends in OutOfMemory whatever stands before that, and no chain does that ends in another kind.
+/// A chain whose last kind is OutOfMemory ends in OutOfMemory, whatever comes before it; a chain
+/// with another last kind doesn't.
 pub fn the_last_kind_counts()
     ensures memory { (ks : List ErrorKind) → ends_in_memory (ks ++ kinds.OutOfMemory ∷ []) ≡ true }
     ensures other { (ks : List ErrorKind) (kind : ErrorKind) → (kind ≡ kinds.OutOfMemory → ⊥) →
         ends_in_memory (ks ++ kind ∷ []) ≡ false }
 {}
 
-/// Running out of memory, in public contracts, is OutOfMemory after EvalBlock, BadInclude and InvalidOperation alone.
+/// In public contracts, running out of memory is OutOfMemory, wrapped only by EvalBlock, BadInclude
+/// and InvalidOperation.
 pub fn want_of_memory_ends_in_memory()
     ensures wrapped { (ks : List ErrorKind) → All MayWrap ks → is_want_of_memory (ks ++ kinds.OutOfMemory ∷ []) ≡ true }
     ensures only { (ks : List ErrorKind) → is_want_of_memory (ks ++ kinds.OutOfMemory ∷ []) ≡ true → All MayWrap ks }
     ensures ends { (chain : List ErrorKind) → is_want_of_memory chain ≡ true → ends_in_memory chain ≡ true }
 {}
 
-/// In a render's fault stand SyntaxError, InvalidDelimiter, WriteFailure and BadStream only where an object of the caller states a fault
-/// with one of them.
+/// A fault of a render contains SyntaxError, InvalidDelimiter, WriteFailure or BadStream only if
+/// one of the caller's objects states a fault with that kind.
 pub fn foreign_kinds_are_stated()
     ensures stated { (host : HostValue) (trees : Trees) (w : World) → StatesOnly HasNoForeign host →
         HasNoForeign (chain_of (rendered host trees w)) }

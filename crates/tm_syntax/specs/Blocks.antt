@@ -1,4 +1,4 @@
--- Statements as one thing, the blocks among them, and what a stream runs.
+-- The statements of a tree as one value, the blocks in them, and what a stream runs.
 use Rattle.std.specs.Prelude.{List, [], ◌∷◌, ◌++◌, Bool}
 use mathlib.Core.Former.{Count}
 use Rattle.tm_syntax.specs.declared.tree.Stmt.{Stmt, If', For', Block', CaptureBlock', With', AutoEscape', Macro', CallBlock', Row_of-Stmt}
@@ -32,7 +32,7 @@ pub record FoundBlock : Type 0 where
 abbrev pub found_block : Bool → Body → FoundBlock
 found_block required body = record { required = required; body = body }
 
--- the blocks of statements at any depth, each after those that stand in it
+-- the blocks in statements at any depth; each comes after the blocks nested in it
 abbrev mutual
   pub blocks_of : Stmt → Named FoundBlock
   blocks_of (If' c _ body other) = blocks_in body ++ blocks_else other
@@ -54,7 +54,7 @@ abbrev mutual
   blocks_else (otherwise _ body) = blocks_in body
 
 -- ---------------------------------------------------------------- streams
--- What a stream runs: statements, or an expression, whose value is left.
+-- What a stream runs: statements, or an expression, whose value is left on the stack.
 pub data StreamTree : Type 0 where
   statements : Body → StreamTree
   expression : Expr → StreamTree
@@ -64,7 +64,7 @@ abbrev pub stream_blocks : StreamTree → Named FoundBlock
 stream_blocks (statements body) = blocks_in body.row
 stream_blocks (expression e) = []
 
--- its code without places
+-- the code, before places are assigned
 abbrev pub fragment_of : StreamTree → Fragment
 fragment_of (statements body) = statements_code [] body.row
 fragment_of (expression e) = expr_code e
@@ -73,7 +73,7 @@ fragment_of (expression e) = expr_code e
 abbrev pub code_of : StreamTree → List Instruction
 code_of tree = numbered (assembled (fragment_of tree))
 
--- the stream that a source's tree is
+-- the stream of a source's tree
 abbrev pub stream_of : Tree → StreamTree
 stream_of (trees.Statements ss) = statements (body_of (row_of ss))
 stream_of (trees.Expression e) = expression e

@@ -1,5 +1,5 @@
--- The cache numbers of names in a stream's code: the first 50 names of filters have 0 to 49, in order of first occurrence, and so have
--- those of tests. All others have none, which is 255.
+-- The cache numbers in the code of a stream: the first 50 filter names are numbered 0 to 49, in
+-- order of first occurrence, and so are the test names. All others have 255, which means no cache.
 use Rattle.std.specs.Prelude.{ℕ, ◌+◌, List, [], ◌∷◌, ◌++◌, length, Option, Some, None, nat_lt, if◌then◌else◌}
 use Rattle.tm_syntax.specs.declared.instruction.Instruction.{Instruction}
 use Rattle.tm_syntax.specs.declared.instruction.Instruction.TheVariants as i
@@ -11,12 +11,12 @@ no_cache = 255
 abbrev pub cache_count : ℕ
 cache_count = 50
 
--- where a name stands first, counted from a number
+-- the index of the first occurrence of a name, counted from n
 abbrev pub place_from : ℕ → List ℕ → List (List ℕ) → Option ℕ
 place_from n x [] = None
 place_from n x (y ∷ ys) = if same_name x y then Some n else place_from (n + 1) x ys
 
--- the number of a name, given those that have one, each at its number
+-- the number of a name, given the numbered names in order
 abbrev pub number_by : Option ℕ → List (List ℕ) → ℕ
 number_by (Some n) names = n
 number_by None names = if nat_lt (length names) cache_count then length names else no_cache
@@ -24,7 +24,7 @@ number_by None names = if nat_lt (length names) cache_count then length names el
 abbrev pub number_in : List ℕ → List (List ℕ) → ℕ
 number_in x names = number_by (place_from 0 x names) names
 
--- those that have one after it
+-- the numbered names after it
 abbrev pub joined_by : Option ℕ → List ℕ → List (List ℕ) → List (List ℕ)
 joined_by (Some n) x names = names
 joined_by None x names = if nat_lt (length names) cache_count then names ++ x ∷ [] else names
@@ -32,7 +32,7 @@ joined_by None x names = if nat_lt (length names) cache_count then names ++ x �
 abbrev pub joined : List ℕ → List (List ℕ) → List (List ℕ)
 joined x names = joined_by (place_from 0 x names) x names
 
--- code with its numbers, after code in which these filters and tests have theirs
+-- numbers the code, given the filters and tests that are numbered already
 abbrev pub numbered_from : List (List ℕ) → List (List ℕ) → List Instruction → List Instruction
 numbered_from fs ts [] = []
 numbered_from fs ts (i.ApplyFilter x n k ∷ is) = i.ApplyFilter x n (number_in x fs) ∷ numbered_from (joined x fs) ts is

@@ -66,7 +66,7 @@ binary_code binaries.FloorDivide = i.IntDiv ∷ []
 binary_code binaries.Remainder = i.Rem ∷ []
 binary_code binaries.Power = i.Pow ∷ []
 
--- so many values are replaced by what a name answers to them; filters and tests have no cache numbers yet
+-- the application of a name to n values; filters and tests have no cache numbers yet
 abbrev pub application_code : Application → List ℕ → Option ℕ → List Instruction
 application_code applications.Method x n = i.CallMethod x n ∷ []
 application_code applications.Filter x n = i.ApplyFilter x n no_cache ∷ []
@@ -74,7 +74,7 @@ application_code applications.Test x n = i.PerformTest x n no_cache ∷ []
 application_code applications.NegatedTest x n = i.PerformTest x n no_cache ∷ i.Not ∷ []
 
 -- ---------------------------------------------------------------- arguments
--- A row of so many values becomes one, where there are any.
+-- A row of n values becomes one value, unless it is empty.
 abbrev pub rows_of : ℕ → ℕ
 rows_of zero = 0
 rows_of (suc n) = 1
@@ -87,7 +87,7 @@ abbrev pub map_of_row : ℕ → List Instruction
 map_of_row zero = []
 map_of_row (suc n) = i.BuildKwargs (suc n) ∷ []
 
--- how many arguments there are by their places
+-- the number of positional arguments
 abbrev pub count : {n : _} → Row_of-Argument n → ℕ
 count no_argument = 0
 count (argument a more) = count more + 1
@@ -100,8 +100,8 @@ abbrev pub has_spread : {n : _} → Row_of-Argument n → Bool
 has_spread no_argument = false
 has_spread (argument a more) = is_spread a || has_spread more
 
--- Where values are spread, each row of plain arguments is a list: how many wait to be one after an argument, and how many lists that
--- argument brings.
+-- If some arguments are spread, each row of plain arguments becomes a list: the length of the
+-- pending row after an argument, and the number of lists that the argument adds.
 abbrev pub row_after : ℕ → Argument → ℕ
 row_after n (plain a) = n + 1
 row_after n (spread a) = 0
@@ -110,7 +110,7 @@ abbrev pub lists_at : ℕ → Argument → ℕ
 lists_at n (plain a) = 0
 lists_at n (spread a) = rows_of n + 1
 
--- how many lists there are, with so many more values at the end
+-- the number of lists, with `more` further values at the end
 abbrev pub count_lists : {n : _} → ℕ → Row_of-Argument n → ℕ → ℕ
 count_lists before no_argument more = rows_of (before + more)
 count_lists before (argument a rest) more = lists_at before a + count_lists (row_after before a) rest more
@@ -123,7 +123,7 @@ abbrev pub has_spread_keyword : {n : _} → Row_of-Keyword n → Bool
 has_spread_keyword no_keyword = false
 has_spread_keyword (keyword_and k more) = is_spread_keyword k || has_spread_keyword more
 
--- the same of arguments by their names, each row of which is a map
+-- the same for keyword arguments, each row of which becomes a map
 abbrev pub keywords_after : ℕ → Keyword → ℕ
 keywords_after n (keyword x a) = n + 1
 keywords_after n (spread_keywords a) = 0
@@ -132,16 +132,17 @@ abbrev pub maps_at : ℕ → Keyword → ℕ
 maps_at n (keyword x a) = 0
 maps_at n (spread_keywords a) = rows_of n + 1
 
--- How arguments by their names end, after a row of so many: how many maps there are, and the code of these.
+-- The end of the keyword arguments, after a row of the given length: how many maps it adds, and its
+-- code.
 pub record RowEnd : Type 0 where
   pub maps : ℕ → ℕ
   pub code : ℕ → Fragment
 
--- the row becomes a map, where there is any
+-- the row becomes a map, unless it is empty
 abbrev pub row_end : RowEnd
 row_end = record { maps = rows_of; code = λ n. straight (map_of_row n) }
 
--- `caller` is after it, whose value this code pushes
+-- `caller` follows the row; the code c pushes its value
 abbrev pub caller_end : Fragment → RowEnd
 caller_end c = record {
   maps = λ n. rows_of (suc n);
@@ -152,7 +153,7 @@ abbrev pub count_maps : {n : _} → RowEnd → ℕ → Row_of-Keyword n → ℕ
 count_maps end before no_keyword = end.maps before
 count_maps end before (keyword_and k rest) = maps_at before k + count_maps end (keywords_after before k) rest
 
--- maps are merged where one is spread
+-- if a map is spread, all maps are merged
 abbrev pub merged_code : Bool → ℕ → List Instruction
 merged_code false n = []
 merged_code true n = i.MergeKwargs n ∷ []
@@ -161,24 +162,25 @@ abbrev pub merged_count : Bool → ℕ → ℕ
 merged_count false n = n
 merged_count true n = 1
 
--- arguments by their names are one argument together
+-- the number of values that the keyword arguments become
 abbrev pub together : {n : _} → RowEnd → Row_of-Keyword n → ℕ
 together end ks = merged_count (has_spread_keyword ks) (count_maps end 0 ks)
 
--- a call's count is on top of the values where some are spread
+-- if an argument is spread, the count of a call is on top of the stack
 abbrev pub count_by : Bool → ℕ → Option ℕ
 count_by false n = Some n
 count_by true n = None
 
--- how many values a call is passed, with so many before the arguments
+-- the number of values that a call gets, including `before` values under its arguments
 abbrev pub passed_count : {n m : _} → RowEnd → ℕ → Row_of-Argument n → Row_of-Keyword m → Option ℕ
 passed_count end before given named = count_by (has_spread given) (count given + together end named + before)
 
--- maps of arguments by their names become one keyword map, where there are any
+-- the maps of the keyword arguments become one keyword map, unless there are none
 abbrev pub merging : {n : _} → RowEnd → Row_of-Keyword n → Fragment → Fragment
 merging end ks maps = maps ⨾ straight (merged_code (has_spread_keyword ks) (count_maps end 0 ks))
 
--- What a call is passed, with so many values before the arguments: these, and those by their names as one; or the lists of all.
+-- The values of a call, above `before` values: the positional arguments and the keyword map, or, if
+-- some are spread, the items of all lists.
 abbrev pub passing_by : {n m : _} → RowEnd → Bool → ℕ → Row_of-Argument n → Row_of-Keyword m → Fragment → Fragment →
     (Fragment → Fragment) → Fragment
 passing_by end false before given named by_place by_name lists = by_place ⨾ by_name
@@ -198,7 +200,7 @@ abbrev pub count_pairs : {n : _} → Row_of-Pair n → ℕ
 count_pairs no_pair = 0
 count_pairs (with_pair k v more) = count_pairs more + 1
 
--- where a comparison in a row is false, its right side is dropped
+-- if a comparison in a chain is false, its right operand is dropped
 abbrev pub drop_right : Fragment
 drop_right = straight (i.Swap ∷ i.DiscardTop ∷ [])
 
@@ -217,7 +219,8 @@ abbrev mutual
   expr_code (chained a _ ss) = expr_code a ⨾ steps_code ss
   expr_code (conditional a _ cs) = conditions_code cs (expr_code a)
 
-  -- The last condition first: each before the code of a value, and what stands for the value after it.
+  -- The last condition comes first. Each condition is before the code of the value, and its
+  -- alternative after it.
   pub conditions_code : {n : _} → Row_of-Condition n → Fragment → Fragment
   conditions_code no_condition value = value
   conditions_code (with_condition c e more) value = conditions_code more (expr_code c ⨾ either value (expr_code e))
@@ -238,17 +241,18 @@ abbrev mutual
   arguments_code no_argument = straight []
   arguments_code (argument a more) = argument_code a ⨾ arguments_code more
 
-  -- an argument after a row of so many, which a spread one ends
+  -- an argument after a row of length `before`; a spread argument ends the row
   pub listed_code : ℕ → Argument → Fragment
   listed_code before (plain a) = expr_code a
   listed_code before (spread a) = straight (list_of_row before) ⨾ expr_code a
 
-  -- after a row of so many the lists of all, with so many arguments by their names in the last
+  -- after a row of length `before`, the lists of all arguments; the last one includes `more`
+  -- keyword values
   pub lists_code : {n : _} → ℕ → Row_of-Argument n → ℕ → Fragment → Fragment
   lists_code before no_argument more by_name = by_name ⨾ straight (list_of_row (before + more))
   lists_code before (argument a rest) more by_name = listed_code before a ⨾ lists_code (row_after before a) rest more by_name
 
-  -- a name and its value, after a row of so many, which a spread one ends
+  -- a name and its value, after a row of length `before`; a spread map ends the row
   pub keyword_code : ℕ → Keyword → Fragment
   keyword_code before (keyword x a) = straight (i.LoadConst (text x false) ∷ []) ⨾ expr_code a
   keyword_code before (spread_keywords a) = straight (map_of_row before) ⨾ expr_code a
@@ -272,7 +276,8 @@ abbrev mutual
   step_code (and_then a) = over IfFalseOrPop (expr_code a)
   step_code (or_else a) = over IfTrueOrPop (expr_code a)
 
-  -- A comparison and those after it: each but the last leaves its right side below its answer, and jumps out where that is false.
+  -- A comparison and those after it: each but the last leaves its right operand below its result,
+  -- and jumps out if the result is false.
   pub links_code : {n : _} → BinaryOperator → Row_of-Comparison n → Fragment
   links_code op no_comparison = straight (binary_code op)
   links_code op (with_comparison op1 a more) = straight
@@ -282,22 +287,23 @@ abbrev mutual
   steps_code no_step = straight []
   steps_code (step s ss) = step_code s ⨾ steps_code ss
 
--- arguments by their names as one, where there are any
+-- the keyword arguments as one value, if there are any
 abbrev pub named_code : {n : _} → Row_of-Keyword n → Fragment
 named_code ks = merging row_end ks (keywords_code row_end 0 ks)
 
--- what a call is passed, with so many values before the arguments
+-- the values of a call, above `before` values
 abbrev pub passing_code : {n m : _} → RowEnd → ℕ → Row_of-Argument n → Row_of-Keyword m → Fragment
 passing_code end before given named =
     passing end before given named (arguments_code given) (keywords_code end 0 named)
     (λ by_name. lists_code before given (together end named) by_name)
 
--- ---------------------------------------------------------------- calls that end so
--- a value is called with what is after its arguments alone
+-- ---------------------------------------------------------------- calls with a given end
+-- a call of the value on top, with the end as its only argument
 abbrev pub called_alone : RowEnd → Fragment
 called_alone end = end.code 0 ⨾ straight (i.CallObject (Some (end.maps 0 + 1)) ∷ [])
 
--- The last step of a value is its call, whose arguments end so; a step that is no call is called after.
+-- If the last step of a value is a call, the end is added to its arguments; otherwise the step's
+-- value is called.
 abbrev pub step_call_code : RowEnd → Step → Fragment
 step_call_code end (Apply' k x _ given _ named) = passing_code end 1 given named ⨾ straight
     (application_code k x (passed_count end 1 given named))
@@ -310,14 +316,14 @@ steps_call_code end no_step = called_alone end
 steps_call_code end (step s no_step) = step_call_code end s
 steps_call_code end (step s (step t more)) = step_code s ⨾ steps_call_code end (step t more)
 
--- An expression that is a call, whose arguments end so; what is no call is called after.
+-- If an expression is a call, the end is added to its arguments; otherwise its value is called.
 abbrev pub call_code : RowEnd → Expr → Fragment
 call_code end (Call' f _ given _ named) = passing_code end 0 given named ⨾ straight
     (i.CallFunction f (passed_count end 0 given named) ∷ [])
 call_code end (chained a _ ss) = expr_code a ⨾ steps_call_code end ss
 call_code end e = expr_code e ⨾ called_alone end
 
--- comparisons in a row after the right side of the first
+-- chained comparisons, after the right operand of the first
 abbrev pub row_code : {n : _} → BinaryOperator → Row_of-Comparison n → Fragment
 row_code op cs = fork (links_code op cs) drop_right
 
@@ -335,7 +341,7 @@ abbrev mutual
   targets_code no_target = straight []
   targets_code (target t ts) = target_code t ⨾ targets_code ts
 
--- a value and what it is given to
+-- a value and its assignment
 abbrev pub set_code : AssignmentTarget → Expr → Fragment
 set_code t e = expr_code e ⨾ target_code t
 
@@ -343,27 +349,27 @@ abbrev pub assignments_code : List Assignment → Fragment
 assignments_code [] = straight []
 assignments_code (a ∷ more) = set_code a.target a.value ⨾ assignments_code more
 
--- filters of the value on top, from the left
+-- filters of the value on top, from left to right
 abbrev pub filters_code : List Step → Fragment
 filters_code [] = straight []
 filters_code (f ∷ more) = step_code f ⨾ filters_code more
 
--- what becomes of the text of a capture, which is on top
+-- what happens to the text of a capture, which is on top
 abbrev pub use_code : CaptureUse → Fragment
 use_code uses.Emit = straight (i.Emit ∷ [])
 use_code (uses.Assign t) = target_code t
 
--- ---------------------------------------------------------------- templates that run here
--- what stands in a scope of its own, where a template runs
+-- ---------------------------------------------------------------- includes and imports
+-- runs a template in a new scope
 abbrev pub included_code : Expr → Fragment
 included_code e = straight (i.PushWith ∷ []) ⨾ expr_code e ⨾ straight (i.IncludeModule ∷ [])
 
--- the names that the template leaves, each looked up
+-- looks up the imported names
 abbrev pub lookups_code : List Imported → Fragment
 lookups_code [] = straight []
 lookups_code (x ∷ xs) = straight (i.Lookup x.name ∷ []) ⨾ lookups_code xs
 
--- their values are given from the last to the first
+-- binds their values, from the last to the first
 abbrev pub stores_code : List Imported → Fragment
 stores_code [] = straight []
 stores_code (x ∷ xs) = stores_code xs ⨾ straight (i.StoreLocal x.target ∷ [])
@@ -381,19 +387,19 @@ close_all (o ∷ os) = close o ++ close_all os
 abbrev pub for_flags : Bool → LoopFlags
 for_flags recursive = record { variable = true; recursive = recursive }
 
--- of the pass that takes the items whose condition is true
+-- for the loop that selects the items whose condition is true
 abbrev pub pass_flags : LoopFlags
 pass_flags = record { variable = false; recursive = false }
 
--- where the condition is true an item stays below the count, which is one more then
+-- if the condition is true, the item stays below the count, which grows by one
 abbrev pub take_item : Fragment
 take_item = over IfFalse (straight (i.Swap ∷ i.LoadConst (number (pos 1)) ∷ i.Add ∷ []) ⨾ next_round)
 
--- of a round that takes its item where the condition is true, and drops it else
+-- a round of that loop: keeps the item if the condition is true, and drops it otherwise
 abbrev pub pass_round : AssignmentTarget → Expr → Fragment
 pass_round t c = straight (i.DupTop ∷ []) ⨾ target_code t ⨾ expr_code c ⨾ take_item ⨾ straight (i.DiscardTop ∷ [])
 
--- what is iterated: with a condition the items for which that is true
+-- the value that is iterated over; with a condition, the selected items
 abbrev pub iterable_code : AssignmentTarget → Expr → Option Expr → Fragment
 iterable_code t e None = expr_code e
 iterable_code t e (Some c) =
@@ -401,7 +407,7 @@ iterable_code t e (Some c) =
     (straight (i.PopLoopFrame ∷ i.BuildList None ∷ []))
 
 -- ---------------------------------------------------------------- macros
--- what stands for a value on top that is undefined
+-- the default of the value on top, if that is undefined
 abbrev pub default_code : Option Expr → Fragment
 default_code None = straight []
 default_code (Some e) = straight (i.DupTop ∷ i.IsUndefined ∷ []) ⨾ over IfFalse (straight (i.DiscardTop ∷ []) ⨾ expr_code e)
@@ -409,7 +415,7 @@ default_code (Some e) = straight (i.DupTop ∷ i.IsUndefined ∷ []) ⨾ over If
 abbrev pub parameter_code : Parameter → Fragment
 parameter_code p = default_code p.default ⨾ straight (i.StoreLocal p.name ∷ [])
 
--- the values of arguments are bound from the last to the first
+-- binds the arguments, from the last to the first
 abbrev pub parameters_code : List Parameter → Fragment
 parameters_code [] = straight []
 parameters_code (p ∷ ps) = parameters_code ps ⨾ parameter_code p
@@ -423,7 +429,7 @@ macro_head x ps body = record {
 }
 
 -- ---------------------------------------------------------------- statements
--- in a loop's body, where these were opened since it began, innermost first
+-- in the body of a loop; os was opened since the body began, innermost first
 abbrev mutual
   pub statement_code : List Opened → Stmt → Fragment
   statement_code os (EmitRaw t) = straight (i.EmitRaw t ∷ [])
@@ -461,20 +467,20 @@ abbrev mutual
   statements_code os no_statement = straight []
   statements_code os (statement s ss) = statement_code os s ⨾ statements_code os ss
 
-  -- the code where a condition is true, and the other
+  -- the code that runs if a condition is true, and the else part
   pub branches_code : List Opened → Fragment → Otherwise → Fragment
   branches_code os first no_else = over IfFalse first
   branches_code os first (otherwise _ body) = either first (statements_code os body)
 
-  -- after a loop's rounds
+  -- after the rounds of a loop
   pub after_loop_code : List Opened → Otherwise → Fragment
   after_loop_code os no_else = straight (i.PopLoopFrame ∷ [])
   after_loop_code os (otherwise _ body) = straight (i.PushDidNotIterate ∷ i.PopLoopFrame ∷ []) ⨾ over IfFalse (statements_code os body)
 
--- statements on their own, before names have cache numbers
+-- a stream's statements, before names get cache numbers
 abbrev pub unnumbered_code : {n : _} → Row_of-Stmt n → List Instruction
 unnumbered_code ss = assembled (statements_code [] ss)
 
--- statements on their own
+-- a stream's statements
 abbrev pub stream_code : {n : _} → Row_of-Stmt n → List Instruction
 stream_code ss = numbered (unnumbered_code ss)

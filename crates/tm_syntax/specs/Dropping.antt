@@ -1,4 +1,4 @@
--- How much an expression weighs, and what changes where one of its parts is exchanged.
+-- The weight of an expression, and how it changes when a part is exchanged.
 use Rattle.std.specs.Prelude.{ℕ, suc, ◌+◌, ◌<◌, ◌≤◌, ◌≡◌, Bool, true, false, List, [], ◌∷◌}
 use Rattle.tm_syntax.specs.Forms.{unary, chained, conditional, with_condition, with_comparison, with_pair, plain, spread, keyword}
 use Rattle.tm_syntax.specs.Forms.{spread_keywords, item, slice, binary, compare, and_then, or_else}
@@ -15,7 +15,8 @@ use Rattle.tm_syntax.specs.declared.tree.Keyword.{Keyword}
 use Rattle.tm_syntax.specs.declared.tree.Pair.{Pair}
 use Rattle.tm_syntax.specs.declared.tree.Step.{Step, Attribute, Apply', Call' as Called, Row_of-Comparison, end_of-Comparison as no_comparison}
 
--- each expression that may hold others counts one, and so does what stands in a row: leaves weigh nothing
+-- each expression that may hold others counts one, and so does each item of a row: leaves weigh
+-- nothing
 abbrev mutual
   pub weight : Expr → ℕ
   weight (Var x) = 0
@@ -89,8 +90,9 @@ abbrev pub total : {X : Type 0} → (X → ℕ) → List X → ℕ
 total μ [] = 0
 total μ (x ∷ xs) = suc (μ x + total μ xs)
 
--- Whether an expression of a whole was exchanged for another one: the weights of the whole and of the other one before and after it.
--- What was taken may hold others. Where nothing was, nothing that may is left in the whole.
+-- Whether a part of an expression was exchanged, with the weights of the whole and of the other
+-- expression before and after. A part that was taken may hold others. If none was taken, the whole
+-- contains only leaves.
 abbrev pub Exchanged : Bool → ℕ → ℕ → Expr → Expr → Type 0
 Exchanged was whole whole' other other' = record {
   no_more : whole' + weight other' ≤ whole + weight other;

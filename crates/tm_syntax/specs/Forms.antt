@@ -1,4 +1,4 @@
--- The forms of a tree that hold boxes, as patterns: a box is what it holds.
+-- The forms of a tree that hold boxes, as patterns that look through the box.
 use Rattle.std.specs.Prelude.{ℕ, List, Bool, true, false}
 use mathlib.Core.Former.{arity, this, one_more}
 use Rattle.tm_items.specs.formers.items.Items as items
@@ -61,7 +61,7 @@ and_then a = And' tt (more_of-Expr a end_of-Expr)
 pattern abbrev pub or_else : Expr → Step
 or_else a = Or' tt (more_of-Expr a end_of-Expr)
 
--- whether an expression is the call of a name
+-- whether an expression is a call of a function by name
 abbrev pub is_named_call : Expr → Bool
 is_named_call (Call' f n given m named) = true
 is_named_call _ = false

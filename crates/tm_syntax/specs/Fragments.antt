@@ -1,4 +1,4 @@
--- Code without places, and the instructions of code that stands at a place.
+-- Code without places, and its instructions once it has a place.
 use Rattle.std.specs.Prelude.{ℕ, ◌+◌, List, [], ◌∷◌, ◌++◌, map as each, Bool, false}
 use Rattle.tm_values.specs.Val.{Val, text, list, vals_of}
 use Rattle.tm_syntax.specs.declared.instruction.LoopFlags.{LoopFlags}
@@ -7,7 +7,8 @@ use Rattle.tm_syntax.specs.declared.instruction.Instruction.TheVariants as i
 use Rattle.tm_syntax.specs.declared.jump.JumpKind.{JumpKind}
 use Rattle.tm_syntax.specs.declared.jump.JumpKind.TheVariants as kinds
 
--- A macro's name, the names of its parameters, the names that its closure has, and whether it takes `caller`.
+-- A macro's name, the names of its parameters, the names in its closure, and whether it takes
+-- `caller`.
 pub record MacroHead : Type 0 where
   pub name : List ℕ
   pub parameters : List (List ℕ)
@@ -18,23 +19,24 @@ infixr 60 ◌⨾◌
 pub data Fragment : Type 0 where
   -- instructions that neither jump nor begin a loop
   straight : List Instruction → Fragment
-  -- one, and then the other
+  -- one after the other
   ◌⨾◌ : Fragment → Fragment → Fragment
-  -- a jump out of the innermost of the next two
+  -- a jump out of the innermost `bounded` or `fork` around it
   jump_out : JumpKind → Fragment
-  -- what jumps out of it goes on after it
+  -- jumps out of it go to its end
   bounded : Fragment → Fragment
-  -- What jumps out of the first goes on with the second, over which the first jumps at its end.
+  -- Jumps out of the first fragment go to the second; the end of the first jumps over the second.
   fork : Fragment → Fragment → Fragment
-  -- a loop: each round, and what stands after the last
+  -- a loop: its round, and what follows the last round
   looped : LoopFlags → Fragment → Fragment → Fragment
-  -- to what stands after the innermost loop's rounds, and to its next round
+  -- a jump to the end of the innermost loop's rounds, and one to its next round
   break_loop : Fragment
   next_round : Fragment
-  -- A macro as a value. Its body is jumped over, and entered by calls alone: neither loops nor jumps around it are seen in it.
+  -- A macro as a value. Code around it jumps over its body, and only calls enter it. Its body
+  -- doesn't see the loops and jumps around it.
   declares : MacroHead → Fragment → Fragment
 
--- a jump over code, and either of two
+-- a jump over code, and a choice between two fragments
 abbrev pub over : JumpKind → Fragment → Fragment
 over j c = bounded (jump_out j ⨾ c)
 
@@ -46,12 +48,12 @@ either c d = fork (jump_out kinds.IfFalse ⨾ c) d
 abbrev pub name_list : List (List ℕ) → Val
 name_list xs = list (vals_of (each (λ x. text x false) xs))
 
--- A closure with these names, and the macro that is entered at a place.
+-- Builds a closure with these names, and the macro that is entered at the place.
 abbrev pub building : List (List ℕ) → MacroHead → ℕ → List Instruction
 building [] m place = i.GetClosure ∷ i.LoadConst (name_list m.parameters) ∷ i.BuildMacro m.name place m.caller ∷ []
 building (x ∷ xs) m place = i.Enclose x ∷ building xs m place
 
--- what stands after the body of a macro that is entered at a place
+-- what follows the body of a macro that is entered at the place
 abbrev pub after_body : MacroHead → ℕ → List Instruction
 after_body m place = i.Return ∷ building m.free m place
 
@@ -60,7 +62,7 @@ abbrev pub beyond_all : ℕ → List Instruction → ℕ
 beyond_all pc [] = pc
 beyond_all pc (x ∷ is) = beyond_all (pc + 1) is
 
--- the place after code that stands at a place
+-- the place after the code, if it begins at pc
 abbrev pub beyond : ℕ → Fragment → ℕ
 beyond pc (straight is) = beyond_all pc is
 beyond pc (c ⨾ d) = beyond (beyond pc c) d
@@ -72,7 +74,7 @@ beyond pc break_loop = pc + 1
 beyond pc next_round = pc + 1
 beyond pc (declares m c) = beyond_all (beyond (pc + 1) c) (after_body m (pc + 1))
 
--- where jumps out go, where the innermost loop's next item is asked for, and what stands after its rounds
+-- the targets of jumps out, of the next round of the innermost loop, and of its end
 pub record Labels : Type 0 where
   pub out : ℕ
   pub again : ℕ
@@ -84,7 +86,8 @@ outward out l = record l { out = out }
 abbrev pub inward : ℕ → ℕ → Labels → Labels
 inward again after l = record l { again = again; after = after }
 
--- of code on its own: where a loop is left or goes on outside of one, which no source spells, it ends there
+-- labels for code on its own; a break or continue outside of a loop, which no source contains,
+-- jumps to its end
 abbrev pub ending_at : ℕ → Labels
 ending_at end = record { out = end; again = end; after = end }
 

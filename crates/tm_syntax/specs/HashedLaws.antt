@@ -1,4 +1,4 @@
--- Names by their hashes are in a total order, which tells them apart as their texts do.
+-- The order of names by hash is total, and tells names apart exactly if their texts differ.
 use Rattle.std.proofs.Common.{◌≡◌, ◌∙◌, ℕ, List, ap, subst, true, true≢false, nat_eq}
 use Rattle.std.specs.Bool.{one_answer}
 use Rattle.std.specs.Cmp.{IsTotalOrder, IsPartialOrder, Equal-is, nat_cmp_total, on_total, po, then_total, tied_itself}

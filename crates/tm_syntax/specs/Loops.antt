@@ -1,5 +1,5 @@
--- Loops and macros by their numbers: in the order of the source, in their own stream, where the pass that takes the items of a condition
--- counts as a loop before its own, and a macro counts before those in it.
+-- Loops and macros are numbered in the order of the source, for each stream. The loop that selects
+-- the items of a condition counts before the loop itself, and a macro before those inside it.
 use Rattle.std.specs.Prelude.{ℕ, zero, suc, ◌+◌, List, [], ◌∷◌, ◌++◌, Option, Some, None, Bool, false}
 use Rattle.tm_syntax.specs.declared.instruction.Instruction.{Instruction}
 use Rattle.tm_syntax.specs.declared.instruction.Instruction.TheVariants as i
@@ -14,12 +14,12 @@ use Rattle.tm_syntax.specs.declared.tree.Stmt.{more_of-Stmt as statement, Held-S
 use Rattle.tm_syntax.specs.declared.tree.Stmt.{Some' as otherwise}
 use Rattle.tm_syntax.specs.Blocks.{Body, body_of, StreamTree, statements, expression}
 
--- ---------------------------------------------------------------- of trees
+-- ---------------------------------------------------------------- trees
 abbrev pub passes : Option Expr → ℕ
 passes None = 0
 passes (Some c) = 1
 
--- How many loops and macros stand before: the numbers of the next ones.
+-- How many loops and macros come before: the numbers of the next ones.
 pub record Numbers : Type 0 where
   pub loops : ℕ
   pub macros : ℕ
@@ -27,14 +27,14 @@ pub record Numbers : Type 0 where
 abbrev pub first_numbers : Numbers
 first_numbers = record { loops = 0; macros = 0 }
 
--- before the body of a loop, and of a macro, given what stands before it
+-- the numbers before the body of a loop, and of a macro, given those before the statement
 abbrev pub within_loop : Option Expr → Numbers → Numbers
 within_loop c at = record at { loops = at.loops + passes c + 1 }
 
 abbrev pub within_macro : Numbers → Numbers
 within_macro at = record at { macros = at.macros + 1 }
 
--- what stands before what follows
+-- the numbers after statements
 abbrev mutual
   pub past : Numbers → Stmt → Numbers
   past at (If' c _ body other) = past_else (pasts at body) other
@@ -54,19 +54,20 @@ abbrev mutual
   past_else at no_else = at
   past_else at (otherwise _ body) = pasts at body
 
--- A loop of a tree: whether it can be called, its target, its body, and what stands before that.
+-- A loop of a tree: whether it can be called, its target, its body, and the numbers before the
+-- body.
 pub record FoundLoop : Type 0 where
   pub recursive : Bool
   pub target : AssignmentTarget
   pub body : Body
   pub at : Numbers
 
--- a pass can't be called
+-- the loop that selects items can't be called
 abbrev pub with_pass : Option Expr → FoundLoop → List FoundLoop → List FoundLoop
 with_pass None l ls = l ∷ ls
 with_pass (Some c) l ls = record l { recursive = false } ∷ l ∷ ls
 
--- the loops, each at its number
+-- the loops, in the order of their numbers
 abbrev mutual
   pub loops_of : Numbers → Stmt → List FoundLoop
   loops_of at (If' c _ body other) = loops_in at body ++ loops_else (pasts at body) other
@@ -88,13 +89,13 @@ abbrev mutual
   loops_else at no_else = []
   loops_else at (otherwise _ body) = loops_in at body
 
--- A macro of a tree: its parameters, its body, and what stands before that.
+-- A macro of a tree: its parameters, its body, and the numbers before the body.
 pub record FoundMacro : Type 0 where
   pub parameters : List Parameter
   pub body : Body
   pub at : Numbers
 
--- the macros, each at its number
+-- the macros, in the order of their numbers
 abbrev mutual
   pub macros_of : Numbers → Stmt → List FoundMacro
   macros_of at (If' c _ body other) = macros_in at body ++ macros_else (pasts at body) other
@@ -116,8 +117,8 @@ abbrev mutual
   macros_else at no_else = []
   macros_else at (otherwise _ body) = macros_in at body
 
--- ---------------------------------------------------------------- of streams
--- those of a stream's statements, each at its number; an expression has none
+-- ---------------------------------------------------------------- streams
+-- the loops of a stream's statements, in the order of their numbers; an expression has none
 abbrev pub stream_loops : StreamTree → List FoundLoop
 stream_loops (statements body) = loops_in first_numbers body.row
 stream_loops (expression e) = []
@@ -126,7 +127,7 @@ abbrev pub stream_macros : StreamTree → List FoundMacro
 stream_macros (statements body) = macros_in first_numbers body.row
 stream_macros (expression e) = []
 
--- ---------------------------------------------------------------- of code
+-- ---------------------------------------------------------------- code
 -- the loop that an instruction begins
 abbrev pub begins : Instruction → Option LoopFlags
 begins (i.PushLoop flags) = Some flags
@@ -136,7 +137,7 @@ abbrev pub with_place : Option LoopFlags → ℕ → List LoopPlace → List Loo
 with_place None pc ls = ls
 with_place (Some flags) pc ls = record { place = pc; flags = flags } ∷ ls
 
--- the loops that begin in code that stands at a place, each at its number
+-- the loops in code that begins at pc, in the order of their numbers
 abbrev pub loop_places : ℕ → List Instruction → List LoopPlace
 loop_places pc [] = []
 loop_places pc (x ∷ is) = with_place (begins x) pc (loop_places (pc + 1) is)

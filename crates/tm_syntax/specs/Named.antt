@@ -1,4 +1,4 @@
--- Names with what they stand for, in the order of the names.
+-- Names with their items, in the order of the names.
 use Rattle.std.specs.Prelude.{ℕ, List, [], ◌∷◌, Option, Bool, nat_eq, map}
 use Rattle.std.specs.BTreeMap.{insert_entry, is_at}
 use Rattle.std.specs.Borrow.{Bor}
@@ -19,19 +19,19 @@ name_cmp = slice_cmp nat_cmp
 abbrev pub same_name : List ℕ → List ℕ → Bool
 same_name = pointwise nat_eq
 
--- what a name stands for
+-- the item of a name
 abbrev pub find : {A : Type 0} → List ℕ → Named A → Option A
 find x ps = lookup (is_at (name_cmp x)) ps
 
--- the same names, and this one with what it stands for now
+-- binds the name to the item
 abbrev pub put : {A : Type 0} → List ℕ → A → Named A → Named A
 put x a ps = insert_entry name_cmp ps x a
 
--- the other names, with what they stand for
+-- removes the name
 abbrev pub without : {A : Type 0} → List ℕ → Named A → Named A
 without x ps = remove_entry (is_at (name_cmp x)) ps
 
--- pairs put one after the other
+-- binds each of the pairs, one after the other
 abbrev pub put_each : {A : Type 0} → Named A → Named A → Named A
 put_each [] ps = ps
 put_each (p ∷ more) ps = put_each more (put p.0 p.1 ps)
@@ -39,11 +39,11 @@ put_each (p ∷ more) ps = put_each more (put p.0 p.1 ps)
 abbrev pub by_name : {A : Type 0} → Named A → Named A
 by_name ps = put_each ps []
 
--- the texts that are lent
+-- the borrowed texts
 abbrev pub texts_of : List (Bor (List ℕ)) → List (List ℕ)
 texts_of lent = map (λ text. text.now) lent
 
--- the pairs that are lent
+-- the borrowed pairs
 abbrev pub pairs_of : {A : Type 0} → List (Bor (List ℕ) × Bor A) → Named A
 pairs_of {A = A} lent = map (λ (p : Bor (List ℕ) × Bor A). (p.0.now, p.1.now)) lent
 

@@ -1,5 +1,6 @@
--- The names that a tree reads where no open scope has assigned them before: one walk over the tree, in the order of its source. Where names
--- are asked for with what is nested in them, the attributes after a name are given with it, as `a.b.c`.
+-- The names that a tree reads before any open scope has assigned them, from one walk over the tree
+-- in the order of its source. With `nested`, a name includes the attributes after it, such as
+-- `a.b.c`.
 use Rattle.std.specs.Prelude.{ℕ, List, [], ◌∷◌, ◌++◌, Option, Some, None, Bool, true, false, cond, ◌||◌, codes, is_some}
 use Rattle.std.specs.List.{list_any}
 use Rattle.std.specs.BTreeMap.{is_at}
@@ -36,17 +37,17 @@ use Rattle.tm_syntax.specs.declared.tree.Stmt.TheBlock.{hidden-the_row-Stmt-0 as
 use Rattle.tm_syntax.specs.declared.tree.Tree.{Tree}
 use Rattle.tm_syntax.specs.declared.tree.Tree.TheVariants as trees
 
--- ---------------------------------------------------------------- what a walk knows
+-- ---------------------------------------------------------------- the state of a walk
 -- the names that are assigned in a scope
 abbrev pub Scope : Type 0
 Scope = Named (Unit {0})
 
--- The scopes that are open, the innermost first, and the names that were found, in their order.
+-- The open scopes, the innermost first, and the names found so far.
 pub record Walk : Type 0 where
   pub assigned : List Scope
   pub found : List (List ℕ)
 
--- Before a tree its own scope is open, and nothing was found.
+-- At the start, the tree's own scope is open, and nothing is found yet.
 abbrev pub beginning : Walk
 beginning = record { assigned = [] ∷ []; found = [] }
 
@@ -58,22 +59,22 @@ abbrev pub with_assigned : List ℕ → List Scope → List Scope
 with_assigned x [] = put x tt [] ∷ []
 with_assigned x (scope ∷ outer) = put x tt scope ∷ outer
 
--- a name is assigned in the innermost scope
+-- assigns a name in the innermost scope
 abbrev pub assign : List ℕ → Walk → Walk
 assign x k = record k { assigned = with_assigned x k.assigned }
 
--- these names, and this one at its place among them unless it is there
+-- inserts a name into ordered names, unless it is there
 abbrev pub with_name : List ℕ → List (List ℕ) → List (List ℕ)
 with_name x names = cond (list_any (is_at (name_cmp x)) names) names (insert_key name_cmp names x)
 
--- Where no open scope has assigned a name, this text is found.
+-- Adds the text to the names that were found, unless an open scope has assigned x.
 abbrev pub read_as : List ℕ → List ℕ → Walk → Walk
 read_as x text k = cond (is_assigned x k.assigned) k (record k { found = with_name text k.found })
 
 abbrev pub read : List ℕ → Walk → Walk
 read x k = read_as x x k
 
--- A scope opens; when it closes, what was assigned in it is forgotten, and what was found stays.
+-- Opens a scope. When it closes, its assignments are forgotten, but the names that were found stay.
 abbrev pub open_scope : Walk → Walk
 open_scope k = record k { assigned = [] ∷ k.assigned }
 
@@ -85,7 +86,7 @@ abbrev pub close_scope : Walk → Walk
 close_scope k = record k { assigned = outer_of k.assigned }
 
 -- ---------------------------------------------------------------- names in expressions
--- the name that a call begins with: `super` is none that is read
+-- the function name of a call; `super` doesn't count as a name that is read
 abbrev pub read_function : List ℕ → Walk → Walk
 read_function f k = cond (same_name f (codes "super")) k (read f k)
 
@@ -107,7 +108,7 @@ abbrev pub method_of : Step → Option (List ℕ)
 method_of (Apply' kind x _ given _ named) = cond (is_method kind) (Some x) None
 method_of _ = None
 
--- a name, and an attribute of it
+-- a name and an attribute of it
 abbrev pub dot : List ℕ → List ℕ → List ℕ
 dot x a = x ++ codes "." ++ a
 
@@ -115,12 +116,12 @@ abbrev pub with_member : Option (List ℕ) → List ℕ → List ℕ
 with_member None x = x
 with_member (Some a) x = dot x a
 
--- with an attribute a name goes on, and with a method it ends
+-- an attribute extends the name, and a method ends it
 abbrev pub dotted_on : Option (List ℕ) → Option (List ℕ) → List ℕ → (List ℕ → List ℕ) → List ℕ
 dotted_on (Some a) last x rest = rest (dot x a)
 dotted_on None last x rest = with_member last x
 
--- a name with the attributes that stand first after it, and a method directly after these
+-- a name with the attributes directly after it, and a method directly after these
 abbrev pub dotted : {n : _} → List ℕ → Row_of-Step n → List ℕ
 dotted x no_step = x
 dotted x (step s more) = dotted_on (attribute_of s) (method_of s) x (λ y. dotted y more)
@@ -129,7 +130,7 @@ dotted x (step s more) = dotted_on (attribute_of s) (method_of s) x (λ y. dotte
 abbrev pub read_chain : {n : _} → Bool → List ℕ → Row_of-Step n → Walk → Walk
 read_chain nested x ss k = read_as x (cond nested (dotted x ss) x) k
 
--- what a chain begins with: a name, or else what was walked over before
+-- the start of a chain: a name, or another expression, which was walked already
 abbrev pub read_first : {n : _} → Bool → Option (List ℕ) → Row_of-Step n → Walk → Walk → Walk
 read_first nested (Some x) ss k walked = read_chain nested x ss k
 read_first nested None ss k walked = walked
@@ -163,7 +164,7 @@ abbrev mutual
   walk_arguments nested no_argument k = k
   walk_arguments nested (argument a more) k = walk_arguments nested more (walk_argument nested a k)
 
-  -- the name of an argument is none that is read
+  -- the name of an argument isn't read
   pub walk_keyword : Bool → Keyword → Walk → Walk
   walk_keyword nested (keyword x a) k = walk_expr nested a k
   walk_keyword nested (spread_keywords a) k = walk_expr nested a k
@@ -180,7 +181,7 @@ abbrev mutual
   walk_comparisons nested no_comparison k = k
   walk_comparisons nested (with_comparison op a more) k = walk_comparisons nested more (walk_expr nested a k)
 
-  -- the names of attributes, methods, filters and tests are none that are read
+  -- the names of attributes, methods, filters and tests aren't read
   pub walk_step : Bool → Step → Walk → Walk
   walk_step nested (Attribute x) k = k
   walk_step nested (item a) k = walk_expr nested a k
@@ -201,7 +202,7 @@ abbrev pub walk_filters : Bool → List Step → Walk → Walk
 walk_filters nested [] k = k
 walk_filters nested (f ∷ more) k = walk_filters nested more (walk_step nested f k)
 
--- ---------------------------------------------------------------- names that are assigned
+-- ---------------------------------------------------------------- assigned names
 abbrev mutual
   pub walk_target : Bool → AssignmentTarget → Walk → Walk
   walk_target nested (To x) k = assign x k
@@ -212,7 +213,7 @@ abbrev mutual
   walk_targets nested no_target k = k
   walk_targets nested (target t more) k = walk_targets nested more (walk_target nested t k)
 
--- a target, and then the value that it is given
+-- a target, and then its value
 abbrev pub walk_set : Bool → AssignmentTarget → Expr → Walk → Walk
 walk_set nested t e k = walk_expr nested e (walk_target nested t k)
 
@@ -226,7 +227,7 @@ walk_use nested uses.Emit k = k
 walk_use nested (uses.Assign t) k = walk_target nested t k
 
 -- ---------------------------------------------------------------- statements
--- an expression, where there is one
+-- an expression, if there is one
 abbrev pub walk_condition : Bool → Option Expr → Walk → Walk
 walk_condition nested None k = k
 walk_condition nested (Some c) k = walk_expr nested c k
@@ -236,16 +237,16 @@ abbrev pub walk_parameters : Bool → List Parameter → Walk → Walk
 walk_parameters nested [] k = k
 walk_parameters nested (p ∷ more) k = walk_parameters nested more (walk_condition nested p.default (assign p.name k))
 
--- the names that a template leaves are none that are read
+-- the imported names aren't read
 abbrev pub walk_imports : List Imported → Walk → Walk
 walk_imports [] k = k
 walk_imports (x ∷ xs) k = walk_imports xs (assign x.target k)
 
--- what stands before a loop's body, in the scope of the loop
+-- the head of a loop, in the scope of the loop
 abbrev pub walk_head : Bool → AssignmentTarget → Option Expr → Walk → Walk
 walk_head nested t c k = assign (codes "loop") (walk_condition nested c (walk_target nested t k))
 
--- a statement, statements in their order, and what stands where a condition is false or a loop has no items
+-- a statement, a list of statements, and an else part
 abbrev mutual
   pub walk : Bool → Stmt → Walk → Walk
   walk nested (EmitRaw t) k = k
@@ -281,17 +282,17 @@ abbrev mutual
   walk_else nested no_else k = k
   walk_else nested (otherwise _ body) k = walk_all nested body k
 
--- the names that statements on their own read, in their order
+-- the names that a stream's statements read, in order
 abbrev pub undeclared : {n : _} → Bool → Row_of-Stmt n → List (List ℕ)
 undeclared nested ss = (walk_all nested ss beginning).found
 
--- those that a source reads
+-- the names that a source's tree reads
 abbrev pub undeclared_in : Bool → Tree → List (List ℕ)
 undeclared_in nested (trees.Statements ss) = undeclared nested (row_of ss)
 undeclared_in nested (trees.Expression e) = (walk_expr nested e beginning).found
 
 -- ---------------------------------------------------------------- the names of a macro
--- what a macro reads, walked over alone
+-- the names that a macro reads, if it is walked alone
 abbrev pub read_by : {n : _} → List Parameter → Row_of-Stmt n → List (List ℕ)
 read_by ps body = (walk_all false body (walk_parameters false ps beginning)).found
 
@@ -307,10 +308,10 @@ abbrev pub parameter_names : List Parameter → List (List ℕ)
 parameter_names [] = []
 parameter_names (p ∷ ps) = p.name ∷ parameter_names ps
 
--- The names that a macro's closure has: those that it reads, but for `caller`.
+-- The names in the closure of a macro: those that it reads, except `caller`.
 abbrev pub free_names : {n : _} → List Parameter → Row_of-Stmt n → List (List ℕ)
 free_names ps body = without (codes "caller") (read_by ps body)
 
--- A macro takes `caller` where it reads it, or has a parameter of that name.
+-- A macro takes `caller` if it reads it, or has a parameter of that name.
 abbrev pub takes_caller : {n : _} → List Parameter → Row_of-Stmt n → Bool
 takes_caller ps body = is_among (codes "caller") (read_by ps body) || is_among (codes "caller") (parameter_names ps)

@@ -4,31 +4,31 @@ use crate::raw_text::RawText;
 use crate::tree::BinaryOperator;
 use tm_values::Value;
 
-/// How many caches a run has for filters, and how many for tests, by numbers from 0.
+/// The number of caches that a run has for filters, and likewise for tests, numbered from 0.
 pub const CACHES: u8 = 50;
 
-/// The number of what has no cache.
+/// The cache number that means "no cache".
 pub const NO_CACHE: u8 = 255;
 
-/// What becomes of a capture's text.
+/// What happens to the text of a capture.
 #[derive(Clone, Copy, PartialEq, Eq)]
 pub enum CaptureMode {
-    /// It becomes a value.
+    /// It is pushed as a value.
     Capture,
     /// It is dropped.
     Discard,
 }
 
-/// What kind of loop begins.
+/// The kind of a loop.
 #[derive(Clone, Copy, PartialEq, Eq)]
 pub struct LoopFlags {
-    /// Whether its scope has the name `loop`.
+    /// Whether the loop binds `loop` in its scope.
     pub variable: bool,
-    /// Whether it can be called.
+    /// Whether the loop can be called, as `loop(..)`.
     pub recursive: bool,
 }
 
-/// Where a loop begins, and what kind it is.
+/// Where a loop begins, and its kind.
 #[derive(Clone, Copy, PartialEq, Eq)]
 pub struct LoopPlace {
     /// The place of its `PushLoop`.
@@ -37,149 +37,151 @@ pub struct LoopPlace {
     pub flags: LoopFlags,
 }
 
-/// One instruction. docs/MACHINE.md says what each takes, leaves and is charged.
+/// One instruction. docs/MACHINE.md lists its operands, its results and its charge.
 #[derive(Drop)]
 pub enum Instruction {
-    /// Writes a text as it stands.
+    /// Writes a text unchanged.
     EmitRaw(RawText),
-    /// Pops a value and writes it.
+    /// Pops a value and emits it.
     Emit,
-    /// Pushes the value of a name, undefined where there is none.
+    /// Looks up a name and pushes its value, or undefined if it isn't bound.
     Lookup(Name),
     /// Pushes a literal.
     LoadConst(Value),
-    /// Replaces a value by its attribute.
+    /// Pops a value and pushes its attribute of that name.
     GetAttr(Name),
-    /// Replaces a value and a key by the value's item there.
+    /// Pops a key and the value below it, and pushes the value's item at that key.
     GetItem,
-    /// Replaces a value, a start, a stop and a step by the value's slice.
+    /// Pops a step, a stop, a start and the value below them, and pushes the slice of the value.
     Slice,
-    /// Replaces so many values by a list of them. Without a count that is on top of them, a number.
+    /// Pops that many values and pushes a list of them. Without a count, pops the count first.
     BuildList(Option<usize>),
-    /// Replaces so many values by a tuple of them.
+    /// Pops that many values and pushes a tuple of them.
     BuildTuple(usize),
-    /// Replaces so many keys, each with its value, by a map of them.
+    /// Pops that many keys, each with its value, and pushes a map of them.
     BuildMap(usize),
-    /// Replaces so many names, each with its value, by a keyword map of them.
+    /// Pops that many names, each with its value, and pushes a keyword map of them.
     BuildKwargs(usize),
-    /// Replaces so many maps by one keyword map of their pairs.
+    /// Pops that many maps and pushes one keyword map with all their pairs.
     MergeKwargs(usize),
-    /// Replaces so many values by the items of all of them, and on top how many these are.
+    /// Pops that many lists and pushes all their items, and then the number of these items.
     UnpackLists(usize),
-    /// Replaces two values by whether they are equal.
+    /// Pops two values and pushes whether they are equal.
     Eq,
-    /// Replaces two values by whether they differ.
+    /// Pops two values and pushes whether they differ.
     Ne,
-    /// Replaces two values by whether the first is less.
+    /// Pops two values and pushes whether the first is less than the second.
     Lt,
-    /// Replaces two values by whether the first is less or equal.
+    /// Pops two values and pushes whether the first is less than or equal to the second.
     Lte,
-    /// Replaces two values by whether the first is greater.
+    /// Pops two values and pushes whether the first is greater than the second.
     Gt,
-    /// Replaces two values by whether the first is greater or equal.
+    /// Pops two values and pushes whether the first is greater than or equal to the second.
     Gte,
-    /// Replaces two values by whether the first is in the second.
+    /// Pops two values and pushes whether the first is in the second.
     In,
-    /// Replaces two values by the second one and, over it, whether they compare so.
+    /// Compares two values, and replaces them with the second value and, above it, the result.
     CompareAndPreserve(BinaryOperator),
-    /// Replaces two values by their sum.
+    /// Pops two values and pushes their sum.
     Add,
-    /// Replaces two values by their difference.
+    /// Pops two values and pushes their difference.
     Sub,
-    /// Replaces two values by their printed texts, one after the other.
+    /// Pops two values and pushes their printed texts, concatenated.
     StringConcat,
-    /// Replaces two values by their product.
+    /// Pops two values and pushes their product.
     Mul,
-    /// Replaces two values by what `/` gives, which is nothing.
+    /// The operator `/`, which always fails: there are no fractions.
     Div,
-    /// Replaces two values by their whole quotient.
+    /// Pops two values and pushes their integer quotient.
     IntDiv,
-    /// Replaces two values by their remainder.
+    /// Pops two values and pushes the remainder of their division.
     Rem,
-    /// Replaces two values by the first raised to the second.
+    /// Pops two values and pushes the first raised to the power of the second.
     Pow,
-    /// Replaces a value by the number with the other sign.
+    /// Pops a number and pushes its negation.
     Neg,
-    /// Replaces a value by whether it is false.
+    /// Pops a value and pushes whether it is false.
     Not,
-    /// Replaces a value by whether it is undefined.
+    /// Pops a value and pushes whether it is undefined.
     IsUndefined,
-    /// Turns the two topmost values round.
+    /// Swaps the two topmost values.
     Swap,
-    /// Pushes the topmost value once more.
+    /// Pushes the topmost value again.
     DupTop,
-    /// Drops a value.
+    /// Pops a value and drops it.
     DiscardTop,
-    /// Goes to a place.
+    /// Jumps to a place.
     Jump(usize),
-    /// Pops a value, and goes to a place where it is false.
+    /// Pops a value, and jumps to a place if it is false.
     JumpIfFalse(usize),
-    /// Goes to a place where the topmost value is false, else pops it.
+    /// Jumps to a place if the topmost value is false, and pops it otherwise.
     JumpIfFalseOrPop(usize),
-    /// Goes to a place where the topmost value is true, else pops it.
+    /// Jumps to a place if the topmost value is true, and pops it otherwise.
     JumpIfTrueOrPop(usize),
-    /// Replaces so many values by what the function of a name answers to them. Here and below a
-    /// missing count is on top of the values, a number.
+    /// Pops that many arguments, calls the function of that name with them, and pushes the result.
+    /// Here and below, without a count, the count is popped first.
     CallFunction(Name, Option<usize>),
-    /// Replaces so many values by what the first one's method of a name answers to the others.
+    /// Pops that many values, calls the method of that name of the first one with the others, and
+    /// pushes the result.
     CallMethod(Name, Option<usize>),
-    /// Replaces so many values by what the first one, a function, answers to the others.
+    /// Pops that many values, calls the first one with the others, and pushes the result.
     CallObject(Option<usize>),
-    /// Replaces so many values by what the filter of a name answers to them. Its cache number is below
-    /// `CACHES`, or `NO_CACHE`.
+    /// Pops that many values, applies the filter of that name to them, and pushes the result. The
+    /// cache number is below `CACHES`, or `NO_CACHE`.
     ApplyFilter(Name, Option<usize>, u8),
-    /// Replaces so many values by whether what the test of a name answers to them is true. Its cache number
-    /// is as a filter's.
+    /// Pops that many values, applies the test of that name to them, and pushes whether the result
+    /// is true. The cache number is like that of a filter.
     PerformTest(Name, Option<usize>, u8),
-    /// Runs the block of a name.
+    /// Runs the block of that name.
     CallBlock(Name),
-    /// Runs the next block after the one that runs, in place.
+    /// Runs the next block after the running one, in place.
     FastSuper,
-    /// Pops the name of the parent, which runs after the stream.
+    /// Pops the name of the parent template, which runs after the stream.
     LoadBlocks,
-    /// Pops a template's name, or several, and runs the first of which there is one, in a scope of its own;
-    /// whether none may be there.
+    /// Pops the name of a template, or a list of names, and runs the first one that exists, in its
+    /// own scope. The flag says whether they may all be missing.
     Include(bool),
-    /// The same in the scopes that stand, where one has to be there.
+    /// Like `Include`, but runs in the current scopes, and one of the templates must exist.
     IncludeModule,
-    /// Replaces the text of a capture by the module of the innermost scope's names and that text.
+    /// Pops the text of a capture, and pushes a module of the names of the innermost scope and that
+    /// text.
     ExportLocals,
-    /// Pops a value, and gives it to a name of the innermost scope.
+    /// Pops a value and binds the name to it in the innermost scope.
     StoreLocal(Name),
-    /// Lets the innermost scope's own closure, which is made where there is none, have a name with its present value,
-    /// unless it has the name.
+    /// Binds the name to its present value in the closure of the innermost scope, unless the
+    /// closure has the name. Makes the closure if the scope has none.
     Enclose(Name),
-    /// Pushes the number of the innermost scope's own closure, or none where it has none.
+    /// Pushes the number of the closure of the innermost scope, or `none` if it has no closure.
     GetClosure,
-    /// Replaces a closure and the names of arguments by a macro of a name, which is entered at a place; at last whether
-    /// it takes `caller`.
+    /// Pops the names of the arguments and a closure, and pushes a macro of that name, whose entry
+    /// is the given place. The flag says whether it takes `caller`.
     BuildMacro(Name, usize, bool),
-    /// Ends a macro's run.
+    /// Ends the run of a macro.
     Return,
-    /// Replaces a value by its items, the first on top, of which there are so many.
+    /// Pops a value and pushes its items, the first on top. The value must have that many items.
     UnpackList(usize),
-    /// Pops a namespace and a value below it, and gives the value to its attribute.
+    /// Pops a namespace and the value below it, and sets the attribute of that name to the value.
     SetAttr(Name),
     /// Opens a scope.
     PushWith,
-    /// Leaves the innermost scope.
+    /// Closes the innermost scope.
     PopFrame,
-    /// Pops a value, and begins a loop over its items in a scope of its own.
+    /// Pops a value, and begins a loop over its items in a new scope.
     PushLoop(LoopFlags),
-    /// Pushes the next item of the innermost loop, or goes to a place where none is left.
+    /// Pushes the next item of the innermost loop, or jumps to a place if none is left.
     Iterate(usize),
-    /// Pushes whether the innermost loop has no items.
+    /// Pushes whether the innermost loop had no items.
     PushDidNotIterate,
-    /// Leaves the innermost loop.
+    /// Ends the innermost loop.
     PopLoopFrame,
-    /// Pops a value, and calls the innermost loop with it, which writes in place.
+    /// Pops a value and calls the innermost loop with it. The loop writes in place.
     FastRecurse,
-    /// Begins a capture, which takes what is written from here on.
+    /// Begins a capture of everything that is written from here on.
     BeginCapture(CaptureMode),
-    /// Ends the innermost capture, and pushes its text, or undefined where that is dropped.
+    /// Ends the innermost capture, and pushes its text, or undefined if the capture discards it.
     EndCapture,
-    /// Pops a value, and escapes from here on as it says.
+    /// Pops a value, and sets the escape that it selects.
     PushAutoEscape,
-    /// Escapes as before the last `PushAutoEscape`.
+    /// Restores the escape from before the last `PushAutoEscape`.
     PopAutoEscape,
 }

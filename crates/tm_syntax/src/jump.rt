@@ -1,17 +1,17 @@
-//! The jumps that code takes out of a part of it.
+//! Conditional jumps out of a piece of code.
 ghost use Rattle.std.specs.Prelude.{◌≡◌};
 ghost use Rattle.tm_syntax.specs.Fragments.{jump};
 
 use crate::instruction::Instruction;
 
-/// When a jump is taken, by the topmost value.
+/// When a jump is taken, depending on the topmost value.
 #[derive(Clone, Copy)]
 pub enum JumpKind {
-    /// Where it is false; it is dropped.
+    /// If it is false. The value is popped either way.
     IfFalse,
-    /// Where it is false, and it stays then; else it is dropped.
+    /// If it is false; the value is popped only if the jump isn't taken.
     IfFalseOrPop,
-    /// Where it is true, and it stays then; else it is dropped.
+    /// If it is true; the value is popped only if the jump isn't taken.
     IfTrueOrPop,
 }
 

@@ -1,4 +1,4 @@
-//! What a template is made of: names, raw texts, tokens, trees and instructions, each declared once.
+//! The parts of a template: names, raw texts, tokens, trees and instructions, each declared once.
 #![tactic(auto)]
 
 mod instruction;

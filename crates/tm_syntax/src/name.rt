@@ -1,4 +1,4 @@
-//! Texts that owners share.
+//! Shared names.
 ghost use Rattle.std.specs.Prelude.{◌≡◌, IfOk, Some, nat_eq, refl};
 ghost use Rattle.std.specs.Cmp.{partial_equiv_from_equiv};
 ghost use Rattle.std.specs.Cmp.Lexicographic.{nat_list_eq_equiv, pointwise, slice_cmp};
@@ -13,7 +13,7 @@ use std::hash::{FoldHasher, Hasher};
 use std::marker::Model;
 use std::rc::RcStr;
 
-/// The hash of a text, the same for each owner of it.
+/// The hash of a text, the same for all owners.
 fn hash_of(text: &str) -> u64
     ensures { result ≡ hash_of text.now }
 {
@@ -22,7 +22,7 @@ fn hash_of(text: &str) -> u64
     hasher.finish()
 }
 
-/// A name of a template, with its hash. A contract sees its bytes; a second owner costs no memory.
+/// A name in a template, with its hash. A contract sees its bytes. Sharing a name needs no memory.
 #[derive(Drop)]
 pub struct Name {
     text: RcStr,
@@ -42,7 +42,7 @@ impl Model for Name {
 }
 
 impl Name {
-    /// A copy of this text; AllocError when out of memory.
+    /// A copy of `text`. AllocError if memory runs out.
     pub fn new(alloc: Global, text: &str) -> Result<Name, AllocError>
         ensures { IfOk result (λ name. name ≡ text.now) }
     {
@@ -51,7 +51,7 @@ impl Name {
         Ok(Name { text, hash })
     }
 
-    /// The text that is shared here.
+    /// The name that shares `text`.
     pub fn from_text(text: RcStr) -> Name
         ensures { result ≡ rc_str_bytes text }
     {
@@ -59,7 +59,7 @@ impl Name {
         Name { text, hash }
     }
 
-    /// A second owner of the same text. Fails only where the owners can't be counted.
+    /// A second owner of the same text. AllocError only if the count of owners overflows.
     pub fn share(&self) -> Result<Name, AllocError>
         ensures { IfOk result (λ name. name ≡ self.now) }
     {
@@ -76,14 +76,14 @@ impl Name {
         self.text.as_str()
     }
 
-    /// The text, shared; AllocError where the owners can't be counted.
+    /// The text, shared. AllocError if the count of owners overflows.
     pub fn text(&self) -> Result<RcStr, AllocError>
         ensures { IfOk result (λ text. rc_str_bytes text ≡ self.now) }
     {
         self.text.clone()
     }
 
-    /// The text, without a second owner.
+    /// The text, moved out of the name.
     pub fn into_text(self) -> RcStr
         ensures { rc_str_bytes result ≡ self }
     {
@@ -91,14 +91,14 @@ impl Name {
         text
     }
 
-    /// Whether this is the same text.
+    /// Whether the name is the text `other`.
     pub fn is(&self, other: &str) -> bool
         ensures { result ≡ pointwise nat_eq self.now other.now }
     {
         self.text.as_str() == other
     }
 
-    /// The order of the texts, by their bytes.
+    /// Compares the texts by their bytes.
     pub fn compare(&self, other: &str) -> Ordering
         ensures { result ≡ slice_cmp nat_cmp self.now other.now }
     {
@@ -106,7 +106,7 @@ impl Name {
     }
 }
 
-/// The same text; texts with other hashes aren't read.
+/// Compares the hashes first; texts with different hashes aren't read.
 impl PartialEq for Name {
     ghost eq = { pointwise nat_eq };
 
@@ -131,7 +131,8 @@ impl PartialOrd for Name {
     }
 }
 
-/// By the hashes, so that an index of names seldom reads a text; where those are the same, by the texts.
+/// Compares by hash, so that an index of names seldom reads a text; equal hashes are compared by
+/// text.
 impl Ord for Name {
     ghost cmp = { hashed_cmp };
 

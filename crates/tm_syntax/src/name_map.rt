@@ -9,7 +9,7 @@ use std::collections::BTreeMap;
 use std::marker::Model;
 use std::rc::RcStr;
 
-/// Names with what they stand for. A contract sees the pairs, in the order of the names.
+/// A map from names to items. A contract sees the pairs, in the order of the names.
 #[derive(Drop)]
 pub struct NameMap<T> {
     by_name: BTreeMap<RcStr, T>,
@@ -27,7 +27,7 @@ impl<T> Model for NameMap<T> {
 }
 
 impl<T> NameMap<T> {
-    /// No names.
+    /// An empty map.
     pub fn new(alloc: Global) -> NameMap<T>
         ensures { result ≡ [] }
     {
@@ -36,7 +36,7 @@ impl<T> NameMap<T> {
         }
     }
 
-    /// What a name stands for.
+    /// The item of `name`, if there is one.
     pub fn get(&self, name: &str) -> Option<&T>
         ensures { MatchOption result (find name.now self.now ≡ None)
             (λ x. find name.now self.now ≡ Some x.now) }
@@ -44,7 +44,7 @@ impl<T> NameMap<T> {
         self.by_name.get(name)
     }
 
-    /// The names, in their order. AllocError when out of memory.
+    /// The names, in order. AllocError if memory runs out.
     pub fn names(&self, alloc: Global) -> Result<Vec<&str>, AllocError>
         ensures { IfOk result (λ names. texts_of names.items ≡ keys_of self.now) }
     {
@@ -55,7 +55,7 @@ impl<T> NameMap<T> {
         Ok(names)
     }
 
-    /// The names with what they stand for, in the order of the names. AllocError when out of memory.
+    /// The names with their items, in the order of the names. AllocError if memory runs out.
     pub fn pairs(&self, alloc: Global) -> Result<Vec<(&str, &T)>, AllocError>
         ensures { IfOk result (λ pairs. pairs_of pairs.items ≡ self.now) }
     {
@@ -68,7 +68,8 @@ impl<T> NameMap<T> {
 }
 
 impl<T: Drop> NameMap<T> {
-    /// Lets a name stand for this, in place of what it stood for. AllocError when out of memory, and all stays as it was.
+    /// Binds `name` to `item`, replacing the old item if there is one. AllocError if memory runs
+    /// out; then nothing changes.
     pub fn insert(&mut self, name: Name, item: T) -> Result<(), AllocError>
         ensures ok { OnOk result (self.new ≡ put name item self.old) }
         ensures err { OnErr result (self.new ≡ self.old) }
@@ -77,7 +78,8 @@ impl<T: Drop> NameMap<T> {
         Ok(())
     }
 
-    /// Lets a name stand for this, and gives what it stood for. AllocError when out of memory, and all stays as it was.
+    /// Binds `name` to `item` and returns the old item, if there is one. AllocError if memory runs
+    /// out; then nothing changes.
     pub fn replace(&mut self, name: Name, item: T) -> Result<Option<T>, AllocError>
         ensures before { IfOk result (λ before. before ≡ find name self.old) }
         ensures ok { OnOk result (self.new ≡ put name item self.old) }
@@ -87,7 +89,7 @@ impl<T: Drop> NameMap<T> {
         Ok(before)
     }
 
-    /// Drops a name, and gives what it stood for; other names stand for what they did.
+    /// Removes `name` and returns its item, if there is one. Other names are unaffected.
     pub fn remove(&mut self, name: &str) -> Option<T>
         ensures before { result ≡ find name.now self.old }
         ensures rest { self.new ≡ without name.now self.old }

@@ -1,11 +1,12 @@
-//! What a statement opens around its body.
+//! The parts of the state that a statement opens around its body.
 
-/// What a body has open since the innermost loop's body began, and what a jump out of that loop closes first.
+/// What was opened since the body of the innermost loop began. A jump out of the loop closes it
+/// first.
 #[derive(Clone, Copy)]
 pub enum Opened {
     /// A scope.
     Scope,
-    /// A way to escape.
+    /// An escape.
     Escape,
     /// A capture.
     Capture,

@@ -1,4 +1,4 @@
-//! Raw texts of a source that owners share.
+//! Raw texts that share their source.
 ghost use Rattle.std.specs.Prelude.{◌≡◌, IfOk, IfSome};
 ghost use Rattle.std.specs.Rc.{rc_str_bytes};
 ghost use Rattle.tm_syntax.specs.RawText.{IsSlice};
@@ -7,7 +7,7 @@ use std::alloc::{AllocError, Global};
 use std::marker::Model;
 use std::rc::RcStr;
 
-/// A raw text: a range of a source that owners share. A contract sees its bytes.
+/// A raw text: a range of a shared source. A contract sees its bytes.
 #[derive(Drop)]
 pub struct RawText {
     source: RcStr,
@@ -27,7 +27,7 @@ impl Model for RawText {
     ghost invariant = { λ a. IsRange (rc_str_bytes a.source) a.start a.end };
 }
 
-/// Where the text that starts at this place of the source ends there; None where another one does.
+/// The end of `text` in `source`, if it is found at `start`.
 fn end_within(source: &str, start: usize, text: &str) -> Option<usize>
     ensures { IfSome result (λ end. IsSlice source.now start end text.now) }
 {
@@ -43,8 +43,8 @@ fn end_within(source: &str, start: usize, text: &str) -> Option<usize>
 }
 
 impl RawText {
-    /// This text, which shares the source where it stands at this place of it, and is else a copy.
-    /// AllocError when out of memory.
+    /// The text `text`. It shares `source` if it is found there at `start`, and is a copy
+    /// otherwise. AllocError if memory runs out.
     pub fn within(
         alloc: Global,
         source: &RcStr,
@@ -67,7 +67,7 @@ impl RawText {
         }
     }
 
-    /// A second owner of the same text. Fails only where the owners can't be counted.
+    /// A second owner of the same text. AllocError only if the count of owners overflows.
     pub fn share(&self) -> Result<RawText, AllocError>
         ensures { IfOk result (λ raw. raw ≡ self.now) }
     {

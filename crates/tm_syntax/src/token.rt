@@ -3,14 +3,14 @@ use crate::name::Name;
 use crate::raw_text::RawText;
 use tm_values::Value;
 
-/// A delimiter, a mark or a reserved word.
+/// A delimiter, a punctuation mark or a reserved word.
 #[derive(Clone, Copy, PartialEq, Eq)]
 pub enum Sign {
-    /// What begins an emission: `{{`.
+    /// The start of an emission: `{{`.
     VariableStart,
-    /// What ends it: `}}`.
+    /// The end of an emission: `}}`.
     VariableEnd,
-    /// What ends a block tag: `%}`.
+    /// The end of a block tag: `%}`.
     BlockEnd,
     /// `(`
     OpenRound,
@@ -84,7 +84,7 @@ pub enum Sign {
     None,
 }
 
-/// A block tag's start with the word after it.
+/// The start of a block tag and the word after it.
 #[derive(Clone, Copy, PartialEq, Eq)]
 pub enum Tag {
     /// `{% if`
@@ -145,19 +145,19 @@ pub enum Tag {
 
 /// A token of a source.
 pub enum Token {
-    /// Raw text, which isn't empty.
+    /// Raw text, never empty.
     Raw(RawText),
-    /// A block tag's start and word.
+    /// The start and the word of a block tag.
     Tag(Tag),
     /// A name.
     Name(Name),
-    /// A literal text, its escapes read, or a number.
+    /// A string literal with its escapes resolved, or a number.
     Literal(Value),
-    /// A delimiter, a mark or a reserved word.
+    /// A delimiter, a punctuation mark or a reserved word.
     Sign(Sign),
 }
 
-// By hand: one call for each owner, in place of a drop of each part.
+// By hand: one call for each owner, instead of a drop of each part.
 impl Drop for Token {
     fn drop(self) {
         match self {

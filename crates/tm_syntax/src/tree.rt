@@ -1,6 +1,6 @@
-//! Syntax trees. What goes on with a value is a list. Lists of different levels of operators lie in
-//! one another within one nesting of the source, so a tree is as deep as its source nests, times
-//! these levels.
+//! Syntax trees. The steps after a value are a list. Within one nesting level of the source, the
+//! lists of different operator levels contain one another, so the depth of a tree is at most that
+//! of its source, times the number of operator levels.
 ghost use Rattle.std.specs.Prelude.{◌≡◌, ◌+◌, ◌<◌, ◌≤◌, ◌↔◌, false, IsTrue, IsFalse, MatchOption};
 ghost use Rattle.tm_syntax.specs.Dropping.{Exchanged, total, weight, pair_weight};
 ghost use Rattle.tm_syntax.specs.Dropping.{argument_weight, keyword_weight, step_weight};
@@ -14,7 +14,7 @@ use std::mem;
 use tm_items::{Boxed, Items};
 use tm_values::Value;
 
-/// An operator before its operand.
+/// A prefix operator.
 #[derive(Clone, Copy, PartialEq, Eq)]
 pub enum UnaryOperator {
     /// `not`
@@ -23,7 +23,7 @@ pub enum UnaryOperator {
     Negate,
 }
 
-/// An operator between two operands that both run.
+/// A binary operator whose operands are both evaluated.
 #[derive(Clone, Copy, PartialEq, Eq)]
 pub enum BinaryOperator {
     /// `==`
@@ -60,45 +60,45 @@ pub enum BinaryOperator {
     Power,
 }
 
-/// How a value is called, as the first argument of what a name stands for.
+/// What is applied to a value, with the value as the first argument.
 #[derive(Clone, Copy, PartialEq, Eq)]
 pub enum Application {
-    /// Its method: `a.m(b)`.
+    /// A method of the value: `a.m(b)`.
     Method,
     /// A filter: `a|f(b)`.
     Filter,
     /// A test: `a is t(b)`.
     Test,
-    /// A test whose answer is turned round: `a is not t(b)`.
+    /// A negated test: `a is not t(b)`.
     NegatedTest,
 }
 
-/// An expression. Its drop takes no memory, and the same stack at all depths.
+/// An expression. Dropping it needs no memory, and the same stack at all depths.
 #[cycle(expr)]
 pub enum Expr {
     /// A name.
     Var(Name),
     /// A literal.
     Const(Value),
-    /// A list of the values of expressions.
+    /// A list of expressions.
     List(Items<Expr>),
-    /// A tuple of them.
+    /// A tuple of expressions.
     Tuple(Items<Expr>),
     /// A map of pairs.
     Map(Items<Pair>),
-    /// A call of a name, with its arguments by their places and those by their names.
+    /// A call of a function by name, with its positional and its keyword arguments.
     Call(Name, Items<Argument>, Items<Keyword>),
-    /// The text of the block of a name, `self.b()`.
+    /// The text of a block, `self.b()`.
     SelfBlock(Name),
     /// A prefix operator and its operand.
     Unary(UnaryOperator, Boxed<Expr>),
-    /// A value and the steps after it, from the left.
+    /// A value and the steps after it, from left to right.
     Chain(Boxed<Expr>, Items<Step>),
-    /// A value under conditions, the last of which is asked first.
+    /// A value and its conditions; the last condition is evaluated first.
     Conditional(Boxed<Expr>, Items<Condition>),
 }
 
-/// A key of a map with its value.
+/// A key of a map and its value.
 #[cycle(expr)]
 #[derive(Drop)]
 pub struct Pair {
@@ -108,7 +108,7 @@ pub struct Pair {
     pub value: Boxed<Expr>,
 }
 
-/// An argument of a call, by its place.
+/// A positional argument of a call.
 #[cycle(expr)]
 #[derive(Drop)]
 pub enum Argument {
@@ -118,72 +118,74 @@ pub enum Argument {
     Spread(Boxed<Expr>),
 }
 
-/// An argument of a call, by its name.
+/// A keyword argument of a call.
 #[cycle(expr)]
 #[derive(Drop)]
 pub enum Keyword {
-    /// A value for a name.
+    /// A name and its value.
     Named(Name, Boxed<Expr>),
-    /// The values of a map by their keys, `**e`.
+    /// The pairs of a map, `**e`.
     Spread(Boxed<Expr>),
 }
 
-/// A condition of a value.
+/// A condition of a value: `.. if test else otherwise`.
 #[cycle(expr)]
 #[derive(Drop)]
 pub struct Condition {
-    /// What is asked.
+    /// The condition.
     pub test: Boxed<Expr>,
-    /// What stands for the value where that is false: the literal silent undefined where nothing does.
+    /// The value if the condition is false: the literal silent undefined if there is no `else`.
     pub otherwise: Boxed<Expr>,
 }
 
-/// A comparison after another one.
+/// A chained comparison.
 #[cycle(expr)]
 #[derive(Drop)]
 pub struct Comparison {
     /// The operator.
     pub operator: BinaryOperator,
-    /// The right side.
+    /// The right operand.
     pub right: Boxed<Expr>,
 }
 
-/// What goes on with a value.
+/// A step after a value.
 #[cycle(expr)]
 #[derive(Drop)]
 pub enum Step {
-    /// Its attribute of a name.
+    /// The attribute of that name.
     Attribute(Name),
-    /// Its item at a key.
+    /// The item at a key.
     Item(Boxed<Expr>),
-    /// What its method, a filter or a test of a name answers, with further arguments by their places and by their names.
+    /// A method, a filter or a test of that name, with its further positional and keyword
+    /// arguments.
     Apply(Application, Name, Items<Argument>, Items<Keyword>),
-    /// What it answers as a function, with arguments by their places and by their names.
+    /// A call of the value, with positional and keyword arguments.
     Call(Items<Argument>, Items<Keyword>),
-    /// Its slice from a start to a stop by a step, each the literal none where it is missing.
+    /// The slice from a start to a stop by a step. A missing one is the literal none.
     Slice(Boxed<Expr>, Boxed<Expr>, Boxed<Expr>),
-    /// The operator with this right side.
+    /// A binary operator and its right operand.
     Binary(BinaryOperator, Boxed<Expr>),
-    /// The comparison with this right side, and each after it with the right side before its own.
+    /// A comparison and its right operand, and the chained comparisons after it, whose left operand
+    /// is the right operand before them.
     Compare(BinaryOperator, Boxed<Expr>, Items<Comparison>),
-    /// The value where it is false, else this.
+    /// `and`: the value if it is false, and otherwise this operand.
     And(Boxed<Expr>),
-    /// The value where it is true, else this.
+    /// `or`: the value if it is true, and otherwise this operand.
     Or(Boxed<Expr>),
 }
 
-/// What a value is given to.
+/// The target of an assignment.
 #[derive(Drop)]
 pub enum AssignmentTarget {
     /// A name of the innermost scope.
     Name(Name),
-    /// As many targets as the value has items.
+    /// Several targets, one for each item of the value.
     Unpack(Items<AssignmentTarget>),
-    /// The attribute of what an expression gives, a namespace.
+    /// An attribute of a namespace, which the expression yields.
     Attribute(Boxed<Expr>, Name),
 }
 
-/// A value for a target.
+/// A target and its value.
 #[derive(Drop)]
 pub struct Assignment {
     /// The target.
@@ -197,25 +199,25 @@ pub struct Assignment {
 pub struct Parameter {
     /// Its name.
     pub name: Name,
-    /// What stands for a value that is undefined.
+    /// The value used if the argument is undefined.
     pub default: Option<Boxed<Expr>>,
 }
 
-/// A name that a template leaves, for a name of the innermost scope.
+/// A name imported from a template, and the name that it is bound to.
 #[derive(Drop)]
 pub struct Imported {
     /// The name in the template.
     pub name: Name,
-    /// The name that its value is given to.
+    /// The name that is bound in the innermost scope.
     pub target: Name,
 }
 
-/// What becomes of the text of a capture.
+/// What happens to the text of a capture.
 #[derive(Drop)]
 pub enum CaptureUse {
     /// It is emitted.
     Emit,
-    /// It is given to a target.
+    /// It is assigned to a target.
     Assign(AssignmentTarget),
 }
 
@@ -227,43 +229,44 @@ pub enum Stmt {
     EmitRaw(RawText),
     /// An emission.
     EmitExpr(Boxed<Expr>),
-    /// A condition, what runs where it is true, and the else part.
+    /// A condition, the body that runs if it is true, and the else part.
     If(Boxed<Expr>, Items<Stmt>, Option<Items<Stmt>>),
-    /// The innermost loop is called with this, and writes in place.
+    /// Calls the innermost loop, which writes in place: `{{ loop(e) }}`.
     EmitLoop(Boxed<Expr>),
     /// A loop.
     For(ForLoop),
-    /// The innermost loop is left.
+    /// Ends the innermost loop.
     Break,
-    /// The innermost loop goes on with its next item.
+    /// Continues the innermost loop with its next item.
     Continue,
-    /// A block of a name, whether another template has to replace it, and its body.
+    /// A block: its name, whether another template has to replace it, and its body.
     Block(Name, bool, Items<Stmt>),
-    /// The block of a name writes in place, `{{ self.b() }}`.
+    /// Runs a block in place, `{{ self.b() }}`.
     EmitBlock(Name),
-    /// The next block after the one that runs writes in place, `{{ super() }}`.
+    /// Runs the next block after the running one in place, `{{ super() }}`.
     EmitSuper,
-    /// The template of this name is the parent, which runs after the stream.
+    /// Names the parent template, which runs after the stream.
     Extends(Boxed<Expr>),
-    /// A value for a target.
+    /// Assigns a value to a target.
     Set(AssignmentTarget, Boxed<Expr>),
-    /// A capture: what becomes of its text, the filters that this goes through from the left, and the body that writes it.
+    /// A capture: what happens to its text, the filters applied to the text from left to right, and
+    /// the body that writes it.
     CaptureBlock(CaptureUse, Items<Step>, Items<Stmt>),
-    /// Values for targets in a scope of their own, and what runs there.
+    /// Assignments in a new scope, and the body that runs in it.
     With(Items<Assignment>, Items<Stmt>),
-    /// A call whose value is dropped.
+    /// Evaluates an expression and drops its value.
     Do(Boxed<Expr>),
-    /// How is escaped, and the body in which it is.
+    /// The escape, and the body that it applies to.
     AutoEscape(Boxed<Expr>, Items<Stmt>),
     /// A macro.
     Macro(Macro),
-    /// A call that is given a macro of its own.
+    /// A call with a macro of its own as `caller`.
     CallBlock(CallBlock),
-    /// The template that a value names runs here, and whether it may be missing.
+    /// Runs the template that a value names, and whether it may be missing.
     Include(Boxed<Expr>, bool),
-    /// What a template exports, as a module, for a target.
+    /// Imports the module of a template and assigns it to a target.
     Import(Boxed<Expr>, AssignmentTarget),
-    /// Names that a template leaves, for names of the innermost scope.
+    /// Imports names of a template into the innermost scope.
     FromImport(Boxed<Expr>, Items<Imported>),
 }
 
@@ -271,53 +274,53 @@ pub enum Stmt {
 #[cycle(stmt)]
 #[derive(Drop)]
 pub struct ForLoop {
-    /// What each item is given to.
+    /// The target that each item is assigned to.
     pub target: AssignmentTarget,
-    /// What is iterated.
+    /// The value that is iterated over.
     pub iterable: Boxed<Expr>,
-    /// The condition of an item that is taken.
+    /// The condition that selects items.
     pub condition: Option<Boxed<Expr>>,
     /// Whether the loop can be called.
     pub recursive: bool,
-    /// What runs for each item that is taken.
+    /// The body, which runs for each selected item.
     pub body: Items<Stmt>,
-    /// What runs where there is none.
+    /// The else part, which runs if no item is selected.
     pub other: Option<Items<Stmt>>,
 }
 
-/// A macro that a statement declares.
+/// A macro declaration.
 #[cycle(stmt)]
 #[derive(Drop)]
 pub struct Macro {
-    /// The name that it is given.
+    /// Its name.
     pub name: Name,
-    /// What its arguments are bound to.
+    /// Its parameters.
     pub parameters: Items<Parameter>,
-    /// What a call of it runs.
+    /// Its body.
     pub body: Items<Stmt>,
 }
 
-/// A call that is emitted, whose last argument by its name, `caller`, is a macro.
+/// A call that is emitted, with a macro as its last keyword argument, `caller`.
 #[cycle(stmt)]
 #[derive(Drop)]
 pub struct CallBlock {
-    /// The call without that argument.
+    /// The call without `caller`.
     pub call: Boxed<Expr>,
-    /// What the arguments of a call of `caller` are bound to.
+    /// The parameters of `caller`.
     pub parameters: Items<Parameter>,
-    /// What such a call runs.
+    /// The body of `caller`.
     pub body: Items<Stmt>,
 }
 
-/// What a source spells.
+/// The tree of a source.
 pub enum Tree {
-    /// A template: the statements that a render runs.
+    /// The statements of a template.
     Statements(Items<Stmt>),
     /// An expression.
     Expression(Boxed<Expr>),
 }
 
-// By hand: one call for each owner, in place of a drop of each part.
+// By hand: one call for each owner, instead of a drop of each part.
 impl Drop for Tree {
     fn drop(self) {
         match self {
@@ -326,8 +329,9 @@ impl Drop for Tree {
     }
 }
 
-// By hand: what an expression holds is dropped by exchanges in its own boxes and lists, so that a drop
-// takes no memory, which may be refused, and a deep expression no deep stack.
+// By hand: the parts of an expression are dropped by exchanging them within its own boxes and
+// lists. So dropping needs no memory, which may be refused, and a deep expression needs no deep
+// stack.
 impl Drop for Expr {
     #[cycle(dropping)]
     fn drop(self) {
@@ -339,7 +343,7 @@ impl Drop for Expr {
 }
 
 impl Expr {
-    /// The name and the arguments of a call of a name.
+    /// The name and the arguments, if the expression is a call of a function by name.
     pub fn into_call(self) -> Option<(Name, Items<Argument>, Items<Keyword>)>
         ensures { MatchOption result
             (is_named_call self ≡ false)
@@ -359,7 +363,7 @@ impl Expr {
         }
     }
 
-    // Whether expressions may stand in it. A leaf is one in which none may.
+    // Whether it may contain expressions. If not, it is a leaf.
     #[tactic(auto, using(crate::proofs::Dropping::of_expr))]
     fn may_hold(&self) -> bool
         ensures { IsTrue result ↔ (0 < weight self.now) }
@@ -376,8 +380,8 @@ impl Expr {
         }
     }
 
-    // Exchanges its last part that may hold others for another expression, and says whether it has
-    // one. The leaves in lists behind that part are dropped, so that no list is searched twice.
+    // Exchanges the last part that isn't a leaf with `other`, and returns whether there was one.
+    // Leaves in lists after that part are dropped, so that no list is searched twice.
     #[cycle(dropping)]
     #[tactic(auto, using(crate::proofs::Dropping::of_expr))]
     fn exchange(&mut self, other: &mut Expr) -> bool
@@ -402,7 +406,7 @@ impl Expr {
         }
     }
 
-    // Drops an expression that has no part but leaves.
+    // Drops an expression whose parts are all leaves.
     #[cycle(dropping)]
     #[tactic(auto, using(crate::proofs::Dropping::of_expr, crate::proofs::Dropping::no_longer))]
     fn drop_shell(self)
@@ -430,16 +434,16 @@ impl Expr {
     }
 }
 
-// A leaf that holds nothing at all.
+// A leaf without content.
 fn leaf() -> Expr
     ensures { weight result ≡ 0 }
 {
     Expr::Const(Value::none())
 }
 
-// Drops an expression by exchanges. On the way down each expression hangs in the place of the part
-// that is worked on, and on the way up it is taken out of there again: so a drop takes no memory, and
-// the same stack at all depths.
+// Drops an expression by exchanges. On the way down, each expression takes the place of its part
+// that is worked on; on the way up it is exchanged back. So dropping needs no memory, and the same
+// stack at all depths.
 #[inline(never)]
 #[cycle(dropping)]
 fn drop_parts(whole: Expr) {
@@ -457,7 +461,7 @@ fn drop_parts(whole: Expr) {
     above.drop_shell();
 }
 
-// Drops a step that has no part but leaves.
+// Drops a step whose parts are all leaves.
 #[cycle(dropping)]
 #[tactic(auto, using(crate::proofs::Dropping::of_step, crate::proofs::Dropping::no_longer))]
 fn drop_step(shell: Step)
@@ -489,7 +493,7 @@ fn drop_step(shell: Step)
     }
 }
 
-// Exchanges what a box holds for another expression, where it is no leaf.
+// Exchanges the expression in the box with `other`, unless it is a leaf.
 fn exchange_boxed(operand: &mut Boxed<Expr>, other: &mut Expr) -> bool
     ensures { Exchanged result (weight operand.old) (weight operand.new) other.old other.new }
 {
@@ -500,7 +504,7 @@ fn exchange_boxed(operand: &mut Boxed<Expr>, other: &mut Expr) -> bool
     holds
 }
 
-// Exchanges the last item that is no leaf for another expression.
+// Exchanges the last item that isn't a leaf with `other`.
 #[cycle(dropping)]
 #[tactic(auto, using(crate::proofs::Dropping::in_lists, crate::proofs::Replaced::exprs))]
 fn exchange_item(items: &mut Items<Expr>, other: &mut Expr) -> bool
@@ -519,7 +523,7 @@ fn exchange_item(items: &mut Items<Expr>, other: &mut Expr) -> bool
     false
 }
 
-// Exchanges the last part of pairs that is no leaf for another expression.
+// Exchanges the last part of the pairs that isn't a leaf with `other`.
 #[cycle(dropping)]
 #[tactic(auto, using(crate::proofs::Dropping::in_lists, crate::proofs::Replaced::pairs))]
 fn exchange_in_pairs(pairs: &mut Items<Pair>, other: &mut Expr) -> bool
@@ -538,7 +542,7 @@ fn exchange_in_pairs(pairs: &mut Items<Pair>, other: &mut Expr) -> bool
     false
 }
 
-// Exchanges the last part of arguments that is no leaf for another expression.
+// Exchanges the last part of the arguments that isn't a leaf with `other`.
 #[cycle(dropping)]
 #[tactic(auto, using(crate::proofs::Dropping::in_lists, crate::proofs::Dropping::of_part))]
 fn exchange_passed(

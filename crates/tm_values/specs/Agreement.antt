@@ -1,4 +1,5 @@
--- Equality and the order agree: equal are exactly those values that the order doesn't tell apart. So equality is an equivalence.
+-- Equality and the order agree: two values are equal exactly if the order doesn't tell them apart.
+-- So equality is an equivalence.
 use Rattle.std.proofs.Common.{◌≡◌, Bool, true, false, Option, Some, None, ℕ, refl, sym, subst}
 use Rattle.std.specs.Bool.{beq}
 use Rattle.std.specs.Cmp.{IsEquivalence, IsPartialEquivalence, IsPartialOrder, both_tied, eq_by_cmp_equiv, partial_equiv_from_equiv}

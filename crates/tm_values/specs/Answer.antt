@@ -1,4 +1,4 @@
--- What operations answer: what their definition states, or that no memory was found.
+-- The results of operations: what their definition states, or OutOfMemory.
 use Rattle.std.specs.Borrow.{Bor}
 use Rattle.std.specs.Prelude.{◌≡◌, ◌⊎◌, List, [], ◌∷◌, Bool, true, false, Option, None, Some, MatchOption, Result, Ok, Err, MatchResult}
 use Rattle.tm_values.specs.Chain.{is_memory}
@@ -22,12 +22,12 @@ is_memory_alone [] = false
 is_memory_alone (kind ∷ []) = is_memory kind
 is_memory_alone (kind ∷ cause ∷ causes) = false
 
--- The answer is what was stated, unless it is OutOfMemory.
+-- The result is the stated one, unless it is OutOfMemory.
 abbrev pub IsAnswer : {A : Type 0} → Answer A → Answer A → Type 0
 IsAnswer (Ok v) stated = stated ≡ Ok v
 IsAnswer (Err chain) stated = is_memory_alone chain ≡ false → stated ≡ Err chain
 
--- What was made is so, or the error is OutOfMemory alone.
+-- The result satisfies IsSo, or the error is OutOfMemory alone.
 abbrev pub OkOrOutOfMemory : {A : Type 0} → Result A (List ErrorKind) → (A → Type 0) → Type 0
 OkOrOutOfMemory result IsSo = MatchResult result IsSo (λ chain. chain ≡ OutOfMemory ∷ [])
 
@@ -35,11 +35,11 @@ OkOrOutOfMemory result IsSo = MatchResult result IsSo (λ chain. chain ≡ OutOf
 abbrev pub Refused : List ErrorKind → Type 0 → Type 0
 Refused chain reason = (chain ≡ OutOfMemory ∷ []) ⊎ ((chain ≡ SyntaxError ∷ []) × reason)
 
--- It was done; or all stayed as it was.
+-- Either it was done, or nothing changed.
 abbrev pub OrStays : {A : Type 0} → Bool → A → A → Type 0 → Type 0
 OrStays true old new Done = Done
 OrStays false old new Done = new ≡ old
 
--- What is lent is what was stated, or nothing where that is nothing.
+-- The borrow points to the stated value, or is None if none is stated.
 abbrev pub IsLent : {A : Type 0} → Option (Bor A) → Option A → Type 0
 IsLent lent stated = MatchOption lent (stated ≡ None) (λ x. stated ≡ Some x.now)

@@ -1,4 +1,4 @@
--- The chain of a cause, where there is one.
+-- The chain of a cause, if there is one.
 use Rattle.std.specs.Prelude.{List, [], Option, None, Some}
 use Rattle.std.specs.declared.boxed.Box.{Box}
 use Rattle.std.specs.declared.alloc.Global.{Global}

@@ -3,7 +3,7 @@ use Rattle.std.specs.Prelude.{List, [], ◌∷◌, Bool, true, false}
 use Rattle.tm_values.specs.declared.error.ErrorKind.{ErrorKind}
 use Rattle.tm_values.specs.declared.error.ErrorKind.TheVariants.{InvalidOperation, OutOfMemory}
 
--- the first kind; a chain that is an error's is never empty
+-- the first kind; the chain of an error is never empty
 abbrev pub kind_of : List ErrorKind → ErrorKind
 kind_of [] = InvalidOperation
 kind_of (k ∷ ks) = k

@@ -16,8 +16,8 @@ abbrev macro_of : Parts → MacroData
 macro_of (state, (stream, (entry, (closure, (name, (arguments, caller)))))) =
     record { state = state; stream = stream; entry = entry; closure = closure; name = name; arguments = arguments; caller = caller }
 
--- A step: its tag, which says what it builds of a flag, a whole number, bytes, two numbers and a macro's parts, and of what lies on the
--- stacks.
+-- A step: its tag, which selects what is built from a flag, a whole number, bytes, two numbers, the
+-- parts of a macro, and the tops of the stacks.
 abbrev Built : Type 0
 Built = ℕ × (Bool × (ℤ × (List ℕ × (ℕ × (ℕ × List Parts)))))
 
@@ -27,7 +27,7 @@ step tag flag whole bytes first second declared = (tag, (flag, (whole, (bytes, (
 abbrev plain : ℕ → Built
 plain tag = step tag false (pos 0) [] 0 0 []
 
--- what was built and is not part of something yet, the last first
+-- the values that aren't yet part of another one, the last one first
 pub record Stacks : Type 0 where
   pub values : List Val
   pub items : List Vals
@@ -37,7 +37,7 @@ abbrev macro_or_none : List Parts → Val
 macro_or_none [] = none
 macro_or_none (m ∷ ms) = macro (macro_of m)
 
--- what a step without parts on the stacks builds
+-- what a step builds without using the stacks
 abbrev leaf_of : Built → Val
 leaf_of (tag, (flag, (whole, (bytes, (first, (second, declared)))))) =
     cond (tag == 0) (undefined flag)

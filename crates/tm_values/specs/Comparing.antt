@@ -1,4 +1,5 @@
--- What a step of a comparison knows of the order of two values, and how much of them is left to compare.
+-- What a step of a comparison knows about the order of two values, and the size that is left to
+-- compare.
 use Rattle.std.specs.Prelude.{◌≡◌, ℕ, ◌<◌}
 use Rattle.std.specs.Cmp.Lexicographic.{slice_cmp}
 use Rattle.std.specs.Ordering.{nat_cmp, ordering_then}
@@ -22,7 +23,7 @@ IsCompared x y (compared.Pairs l r s t) =
     (val_cmp x y ≡ ordering_then (pairs_cmp (pairs_of l.now) (pairs_of r.now)) (slice_cmp nat_cmp s.now t.now))
     × (pairs_size (pairs_of l.now) < val_size x)
 
--- the whole compares so, and its part is smaller than this
+-- the whole compares as the result says, and the part is smaller than `size`
 abbrev pub IsBeside : Ordering → ℕ → Beside → Type 0
 IsBeside whole size (beside.Known order) = whole ≡ order
 IsBeside whole size (beside.Around x y order) =

@@ -1,4 +1,4 @@
--- Operations that undefined values may not come to.
+-- Operations that refuse undefined values.
 use Rattle.std.specs.Prelude.{Option, None, Some}
 use Rattle.tm_values.specs.Answer.{Answer, refused}
 use Rattle.tm_values.specs.Undefined.{undefined_refusal}
@@ -7,12 +7,12 @@ use Rattle.tm_values.specs.declared.error.ErrorKind.{ErrorKind}
 use Rattle.tm_values.specs.declared.undefined.UndefinedBehavior.{UndefinedBehavior}
 use Rattle.tm_values.specs.declared.undefined.UndefinedUse.{UndefinedUse}
 
--- how the use of a value fails by its being undefined
+-- the error of using an undefined value
 abbrev pub refusal_of : UndefinedBehavior → UndefinedUse → Val → Option ErrorKind
 refusal_of b purpose (undefined silent) = undefined_refusal b purpose silent
 refusal_of b purpose _ = None
 
--- the refusal, where there is one, before the answer
+-- the refusal, if there is one; otherwise the answer
 abbrev pub unless : {A : Type 0} → Option ErrorKind → Answer A → Answer A
 unless None answer = answer
 unless (Some kind) answer = refused kind

@@ -1,4 +1,4 @@
--- What a macro stands for.
+-- The plain data of a macro.
 use Rattle.std.specs.Prelude.{map as each}
 use Rattle.std.specs.Rc.{rc_str_bytes}
 use Rattle.tm_values.specs.Val.{MacroData}

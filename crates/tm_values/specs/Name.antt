@@ -1,4 +1,4 @@
--- What the kinds of errors are called.
+-- The names of error kinds.
 use Rattle.std.specs.Prelude.{ℕ, List, codes}
 use Rattle.tm_values.specs.declared.error.ErrorKind.{ErrorKind}
 use Rattle.tm_values.specs.declared.error.ErrorKind.TheVariants as kind

@@ -1,5 +1,5 @@
--- The order of values: by kind, then within the kind. Truth values stand among the numbers, as 0
--- and 1.
+-- The order of values: by kind, then within the kind. Truth values are ordered among the numbers,
+-- as 0 and 1.
 use Rattle.std.specs.Prelude.{ℕ, ℤ, pos, List, []}
 use Rattle.std.specs.Cmp.Lexicographic.{slice_cmp}
 use Rattle.std.specs.Option.{option_cmp}
@@ -9,7 +9,7 @@ use Rattle.std.specs.declared.cmp.Ordering.TheVariants.{Less, Equal, Greater}
 use Rattle.tm_values.specs.Val.{MacroData, Val, undefined, none, boolean, number, text, list, map, keywords, exports, function, macro, loop}
 use Rattle.tm_values.specs.Val.{namespace, Vals, no_vals, val, Pairs, no_pairs, pair, vals_in, pairs_in, whole_of}
 
--- the place of a kind among the kinds
+-- the rank of a kind
 abbrev pub rank : Val → ℕ
 rank (undefined s) = 0
 rank none = 1
@@ -25,7 +25,7 @@ rank (macro m) = 9
 rank (loop i n) = 10
 rank (namespace i n) = 11
 
--- what two values of one kind are compared by, beside items and pairs
+-- what two values of one kind are compared by, apart from items and pairs
 abbrev pub whole_or_zero : Val → ℤ
 whole_or_zero (boolean b) = whole_of b
 whole_or_zero (number z) = z
@@ -41,7 +41,7 @@ abbrev pub function_in : Val → ℕ
 function_in (function n) = n
 function_in _ = 0
 
--- a record's state, and its number
+-- the state and the number of a record
 abbrev pub state_in : Val → ℕ
 state_in (loop i n) = i
 state_in (namespace i n) = i
@@ -52,7 +52,7 @@ record_in (loop i n) = n
 record_in (namespace i n) = n
 record_in _ = 0
 
--- by state, stream, entry, closure (none first), name, arguments, and whether `caller` is taken
+-- by state, stream, entry, closure (None first), name, arguments, and then `takes_caller`
 abbrev pub macro_cmp : MacroData → MacroData → Ordering
 macro_cmp a b =
     ordering_then (nat_cmp a.state b.state)
@@ -63,7 +63,7 @@ macro_cmp a b =
     (ordering_then (slice_cmp (slice_cmp nat_cmp) a.arguments b.arguments)
     (bool_cmp a.caller b.caller))))))
 
--- a macro to a value, which is one too
+-- a macro against another macro
 abbrev pub macro_against : MacroData → Val → Ordering
 macro_against m (macro n) = macro_cmp m n
 macro_against m _ = Equal
@@ -74,8 +74,8 @@ record_cmp a b =
     ordering_then (nat_cmp (state_in a) (state_in b)) (nat_cmp (record_in a) (record_in b))
 
 abbrev mutual
-  -- of one kind: numbers by size, texts by their bytes, lists by their items, maps by their pairs,
-  -- modules by map, then text
+  -- within one kind: numbers by size, texts by bytes, lists by items, maps by pairs, modules by map
+  -- and then text
   pub within : Val → Val → Ordering
   within (undefined s) b = Equal
   within none b = Equal
@@ -92,7 +92,7 @@ abbrev mutual
   within (loop i n) b = record_cmp (loop i n) b
   within (namespace i n) b = record_cmp (namespace i n) b
 
-  -- item by item, then fewer items first
+  -- item by item; a prefix comes first
   pub vals_cmp : Vals → Vals → Ordering
   vals_cmp no_vals no_vals = Equal
   vals_cmp no_vals (val y ys) = Less
@@ -100,7 +100,7 @@ abbrev mutual
   vals_cmp (val x xs) (val y ys) =
       ordering_then (ordering_then (nat_cmp (rank x) (rank y)) (within x y)) (vals_cmp xs ys)
 
-  -- by the first key, then by its value, then by the pairs after; fewer pairs first
+  -- by the first key, then its value, then the pairs after it; a prefix comes first
   pub pairs_cmp : Pairs → Pairs → Ordering
   pairs_cmp no_pairs no_pairs = Equal
   pairs_cmp no_pairs (pair l y qs) = Less

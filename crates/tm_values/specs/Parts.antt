@@ -1,4 +1,4 @@
--- What a value keeps of its parts.
+-- What a value stores about its parts.
 use Rattle.std.specs.Prelude.{◌+◌}
 use Rattle.tm_values.specs.Writable.{vals_writable, pairs_writable}
 use Rattle.tm_values.specs.Val.{Vals, Pairs, vals_size, pairs_size}

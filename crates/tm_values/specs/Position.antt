@@ -1,4 +1,4 @@
--- Where a loop stands, of its record.
+-- The position of a loop, from its record.
 use Rattle.tm_values.specs.Records.{LoopData}
 use Rattle.tm_values.specs.declared.records.LoopPosition.{LoopPosition}
 

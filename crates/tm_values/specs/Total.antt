@@ -1,4 +1,5 @@
--- The order of values is total: each value has a key, a list of whole numbers, and keys are ordered as their values are.
+-- The order of values is total: each value has a key, a list of whole numbers, and the keys are
+-- ordered as the values are.
 use Rattle.std.proofs.Common.{◌≡◌, ℕ, ℤ, pos, Bool, true, false, List, [], ◌∷◌, Option, Some, None, Ordering, Less, Equal}
 use Rattle.std.proofs.Common.{Greater, nat_cmp, refl, sym, ap, ◌∙◌, arith}
 use Rattle.std.proofs.lemmas.Bool.Decides.{nat_tests}
@@ -12,7 +13,7 @@ use Rattle.tm_values.specs.Order.{state_in, record_in, macro_against}
 use Rattle.tm_values.specs.Val.{MacroData, Val, undefined, none, boolean, number, text, list, map, keywords, exports, function, macro, loop}
 use Rattle.tm_values.specs.Val.{namespace, Vals, no_vals, val, Pairs, no_pairs, pair, vals_in, pairs_in, whole_of}
 
--- 0 ends a text, items and pairs; what stands before a byte, and what begins a value, is above it
+-- 0 ends a text, items and pairs; the marks before a byte and at the start of a value are larger
 abbrev text_key : List ℕ → List ℤ → List ℤ
 text_key [] rest = pos 0 ∷ rest
 text_key (b ∷ bs) rest = pos 1 ∷ pos b ∷ text_key bs rest
@@ -74,7 +75,7 @@ then-equal Less = refl
 then-equal Equal = refl
 then-equal Greater = refl
 
--- what stands after two keys that begin alike
+-- what follows two equal prefixes of keys
 after : (a b c d : Ordering) → b ≡ ordering_then c d → ordering_then a b ≡ ordering_then (ordering_then a c) d
 after a b c d h = ap (ordering_then a) h ∙ sym (then-assoc a c d)
 
@@ -146,7 +147,7 @@ macro-holds x y r s =
     (step x.stream y.stream (pos x.entry ∷ closure_x) (pos y.entry ∷ closure_y) entry z
     (step x.entry y.entry closure_x closure_y closure z by_closure))
 
--- the other value of one kind, by its parts
+-- another value of the same kind, by its parts
 body-text : (b : Val) (s : List ℤ) → rank b ≡ 3 → body b s ≡ text_key (bytes_in b) s
 body-text (text t m) s h = refl
 body-text _ s h = absurd (omega arith)
@@ -197,7 +198,7 @@ body-none : (b : Val) (s : List ℤ) → rank b ≡ 1 → body b s ≡ s
 body-none none s h = refl
 body-none _ s h = absurd (omega arith)
 
--- where the ranks differ nothing else counts
+-- if the ranks differ, nothing else counts
 where_equal : (o x y z : Ordering) → (o ≡ Equal → x ≡ ordering_then y z) → ordering_then o x ≡ ordering_then (ordering_then o y) z
 where_equal Less x y z h = refl
 where_equal Equal x y z h = h refl

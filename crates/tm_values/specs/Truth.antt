@@ -1,4 +1,4 @@
--- What values are, and their truth.
+-- Tests of what values are, and their truth.
 use Rattle.std.specs.Prelude.{pos, Bool, true, false, not, ◌==◌, List, length}
 use Rattle.std.specs.Ordering.{int_eq}
 use Rattle.tm_values.specs.Val.{Val, undefined, none, boolean, number, text, list, map, keywords, exports, list_of, entries_of}
@@ -6,8 +6,7 @@ use Rattle.tm_values.specs.Val.{Val, undefined, none, boolean, number, text, lis
 abbrev holds_any : {A : Type 0} → List A → Bool
 holds_any xs = not (length xs == 0)
 
--- False are undefined, none, false, 0, and what is empty of texts, lists, maps, keyword maps and
--- modules.
+-- Undefined, none, false, 0, and empty texts, lists, maps, keyword maps and modules are false.
 abbrev pub is_true : Val → Bool
 is_true (undefined silent) = false
 is_true none = false
@@ -28,7 +27,7 @@ abbrev pub is_none : Val → Bool
 is_none none = true
 is_none _ = false
 
--- a text that no escape changes
+-- a text that is never escaped
 abbrev pub is_safe : Val → Bool
 is_safe (text s safe) = safe
 is_safe _ = false

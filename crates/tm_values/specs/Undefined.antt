@@ -1,4 +1,4 @@
--- What undefined values may be used for, by the environment's behaviour.
+-- The uses of undefined values that each behaviour refuses.
 use Rattle.std.specs.Prelude.{Bool, true, false, Option, None, Some}
 use Rattle.tm_values.specs.declared.error.ErrorKind.{ErrorKind}
 use Rattle.tm_values.specs.declared.error.ErrorKind.TheVariants.{InvalidOperation, UndefinedError}
@@ -8,7 +8,7 @@ use Rattle.tm_values.specs.declared.undefined.UndefinedUse.{UndefinedUse}
 use Rattle.tm_values.specs.declared.undefined.UndefinedUse.TheVariants.{Emission, Iteration, Member, Truth, Comparison, Containment, Slice}
 use Rattle.tm_values.specs.declared.undefined.UndefinedUse.TheVariants.{KeywordSpread, ItemSpread, Arithmetic}
 
--- the kind of the error, or none where the use goes on
+-- the kind of the error, or None if the use is allowed
 abbrev pub UndefinedRefusal : Type 0
 UndefinedRefusal = Option ErrorKind
 
@@ -24,7 +24,7 @@ by_behavior lenient chainable semi_strict strict Chainable = chainable
 by_behavior lenient chainable semi_strict strict SemiStrict = semi_strict
 by_behavior lenient chainable semi_strict strict Strict = strict
 
--- a row for each use: under Lenient, Chainable, SemiStrict and Strict
+-- for each use: under Lenient, Chainable, SemiStrict and Strict
 abbrev pub ordinary_refusal : UndefinedUse → UndefinedBehavior → UndefinedRefusal
 ordinary_refusal Emission = by_behavior None None fails fails
 ordinary_refusal Iteration = by_behavior None None fails fails
@@ -37,7 +37,7 @@ ordinary_refusal KeywordSpread = by_behavior invalid invalid fails fails
 ordinary_refusal ItemSpread = by_behavior None None None None
 ordinary_refusal Arithmetic = by_behavior invalid invalid invalid invalid
 
--- the silent undefined never fails in emission and truth, and is ordinary elsewhere
+-- emitting a silent undefined value and testing its truth never fail; other uses are ordinary
 abbrev pub silent_refusal : UndefinedUse → UndefinedBehavior → UndefinedRefusal
 silent_refusal Emission b = None
 silent_refusal Truth b = None

@@ -1,8 +1,9 @@
 -- Values as plain data.
 use Rattle.std.specs.Prelude.{ℕ, ◌+◌, ℤ, pos, Bool, true, false, List, [], ◌∷◌, Option, Some, None}
 
--- a macro: its name, its arguments' names, whether it takes `caller`; the state that declared it,
--- the number of its stream there, its entry in the stream, and the number of its closure or none
+-- a macro: its name, the names of its arguments, whether it takes `caller`; the state that declared
+-- it, the number of its stream there, its entry in the stream, and the number of its closure, if
+-- any
 pub record MacroData : Type 0 where
   pub state : ℕ
   pub stream : ℕ
@@ -19,7 +20,7 @@ mutual
     none : Val
     boolean : Bool → Val
     number : ℤ → Val
-    -- its bytes, and whether it is safe
+    -- its bytes, and whether it is marked safe
     text : List ℕ → Bool → Val
     list : Vals → Val
     -- its pairs, in the order of their keys
@@ -75,12 +76,12 @@ pairs_in _ = no_pairs
 abbrev pub entries_in : Val → List (Val × Val)
 entries_in v = entries_of (pairs_in v)
 
--- the items of a list, where the value is one
+-- the items, if the value is a list
 abbrev pub list_in : Val → Option (List Val)
 list_in (list vs) = Some (list_of vs)
 list_in _ = None
 
--- the items of a list; none of other values
+-- the items of a list; empty for other values
 abbrev pub vals_in : Val → Vals
 vals_in (list vs) = vs
 vals_in _ = no_vals
@@ -98,7 +99,7 @@ whole_in (boolean b) = Some (whole_of b)
 whole_in (number z) = Some z
 whole_in _ = None
 
--- how many values stand in a value: a measure
+-- the number of values in a value: a measure
 abbrev mutual
   pub val_size : Val → ℕ
   val_size (undefined s) = 1

@@ -1,4 +1,4 @@
--- What a node stands for, and what holds of it.
+-- The plain data of a node, and its invariants.
 use Rattle.std.specs.Prelude.{◌≡◌, ◌+◌}
 use Rattle.tm_values.specs.Map.{IsMap}
 use Rattle.tm_values.specs.Parts.{parts_of_vals, parts_of_pairs}
@@ -22,7 +22,8 @@ node_view (node.Macro m) = macro m.value
 node_view (node.Loop state n) = loop state n
 node_view (node.Namespace state n) = namespace state n
 
--- the keys of a map, a keyword map and a module ascend, and what is known of their parts is so
+-- the keys of a map, a keyword map and a module are ascending, and what is stored about their parts
+-- is true
 abbrev pub IsWellMade : Node → Type 0
 IsWellMade (node.List items parts) = parts ≡ parts_of_vals (vals_of items.value.items)
 IsWellMade (node.Map pairs parts) =

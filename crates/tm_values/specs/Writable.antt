@@ -1,6 +1,6 @@
--- In which forms values are never refused, whatever the records are. Neither a loop nor a namespace
--- stands in what is printed of them, nor in their JSON, which has no function, macro or module
--- either. A module is printed as its text.
+-- The forms in which values are never refused, whatever the records are. No form has values that
+-- contain a loop or a namespace. JSON also lacks functions, macros and modules. A module is printed
+-- as its text.
 use Rattle.std.specs.Prelude.{Bool, true, false, cond, ℤ, pos, negsuc, nat_lt, ◌^◌}
 use Rattle.tm_values.specs.Val.{Val, undefined, none, boolean, number, text, list, map, keywords, exports, function, macro, loop, namespace}
 use Rattle.tm_values.specs.Val.{Vals, no_vals, val, Pairs, no_pairs, pair}

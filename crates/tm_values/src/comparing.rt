@@ -1,4 +1,5 @@
-//! The order of deep values: without memory, and with a stack that no depth of a value makes deep.
+//! Comparing deeply nested values. It needs no memory, and its recursion depth doesn't grow with
+//! the depth of a value.
 ghost use Rattle.std.specs.Prelude.{◌≡◌, ◌+◌};
 ghost use Rattle.std.specs.Ordering.{ordering_then};
 ghost use Rattle.tm_values.specs.Comparing.{IsBeside, IsCompared, pair_cmp};
@@ -9,27 +10,27 @@ use crate::order::{compare_items, compare_macro, compare_pair, compare_pairs};
 use crate::value::{Node, Value};
 use std::cmp::Ordering;
 
-/// How two values compare.
+/// The result of comparing two values, or the parts that decide it.
 #[derive(Clone, Copy)]
 pub enum Compared<'a> {
-    /// So.
+    /// The result.
     Known(Ordering),
-    /// As these items do.
+    /// The result of comparing these items.
     Items(&'a [Value], &'a [Value]),
-    /// As these pairs do, and then these texts.
+    /// The result of comparing these pairs, and then these texts.
     Pairs(&'a [(Value, Value)], &'a [(Value, Value)], &'a str, &'a str),
 }
 
-/// How two lists of parts compare, where one part of the left list is left out.
+/// The result of comparing two lists of parts, with one part of the left list left out.
 #[derive(Clone, Copy)]
 pub enum Beside<'a> {
-    /// So, whatever that part is.
+    /// The result. The part that was left out doesn't matter.
     Known(Ordering),
-    /// As it does with the part in its place; or so, where these are equal.
+    /// The result of comparing these two values; if they are equal, the given order.
     Around(&'a Value, &'a Value, Ordering),
 }
 
-// How two values compare, or what of them does.
+// Compares two values without entering their parts.
 fn compare_top<'a>(left: &'a Value, right: &'a Value) -> Compared<'a>
     ensures { IsCompared left.now right.now result }
 {
@@ -59,9 +60,9 @@ fn compare_top<'a>(left: &'a Value, right: &'a Value) -> Compared<'a>
     }
 }
 
-// Where the left value stands to the right one. Each turn compares what stands beside the largest part of the left value, and
-// goes on with that part. What stands beside it is compared by recursion: each has at most half of the size, so their
-// comparisons lie at most 32 deep.
+// Compares two values in a loop. Each turn compares everything except the largest part of the left
+// value, and goes on with that part. The other parts are compared by recursion. Each has at most
+// half of the size, so the recursion is at most 32 deep.
 #[cycle(compare)]
 pub(crate) fn compare_deep(left: &Value, right: &Value) -> Ordering
     ensures { result ≡ val_cmp left.now right.now }
@@ -81,7 +82,7 @@ pub(crate) fn compare_deep(left: &Value, right: &Value) -> Ordering
     }
 }
 
-// Compares what stands beside the largest part of the left value.
+// Compares everything except the largest part of the left value.
 #[cycle(compare)]
 fn beside_largest<'a>(left: &'a Value, right: &'a Value) -> Beside<'a>
     ensures { IsBeside (val_cmp left.now right.now) (val_size left.now) result }
@@ -96,7 +97,7 @@ fn beside_largest<'a>(left: &'a Value, right: &'a Value) -> Beside<'a>
     }
 }
 
-// Compares the items beside the largest one of the left list.
+// Compares all items except the largest item of the left list.
 #[cycle(compare)]
 fn beside_item<'a>(left: &'a [Value], right: &'a [Value]) -> Beside<'a>
     ensures { IsBeside (vals_cmp (vals_of left.now) (vals_of right.now))
@@ -127,7 +128,7 @@ fn beside_item<'a>(left: &'a [Value], right: &'a [Value]) -> Beside<'a>
     }
 }
 
-// Compares the keys and values beside the largest one of the left pairs.
+// Compares all keys and values except the largest one of the left pairs.
 #[cycle(compare)]
 fn beside_member<'a>(left: &'a [(Value, Value)], right: &'a [(Value, Value)]) -> Beside<'a>
     ensures { IsBeside (pairs_cmp (pairs_of left.now) (pairs_of right.now))
@@ -155,7 +156,7 @@ fn beside_member<'a>(left: &'a [(Value, Value)], right: &'a [(Value, Value)]) ->
     }
 }
 
-// Compares the smaller one of the key and the value of the left pair.
+// Compares the smaller one of the left pair's key and value.
 #[cycle(compare)]
 fn beside_one<'a>(
     pair: &'a (Value, Value),
@@ -176,7 +177,7 @@ fn beside_one<'a>(
     Beside::Around(&pair.1, &other.1, after)
 }
 
-// The place of the largest of the values.
+// The index of the largest value.
 fn place_of_largest(values: &[Value]) -> usize {
     let mut place = 0;
     let mut largest = 0;
@@ -190,7 +191,7 @@ fn place_of_largest(values: &[Value]) -> usize {
     place
 }
 
-// The place of the pair that has the largest of the keys and values.
+// The index of the pair that holds the largest key or value.
 fn place_of_largest_member(pairs: &[(Value, Value)]) -> usize {
     let mut place = 0;
     let mut largest = 0;

@@ -1,4 +1,4 @@
-//! Values of Rust's own types, and what a value is.
+//! Conversions from Rust's own types, and tests of what a value is.
 ghost use Rattle.std.specs.Prelude.{◌≡◌};
 ghost use Rattle.tm_values.specs.Truth.{is_none, is_safe, is_true, is_undefined};
 
@@ -107,15 +107,15 @@ impl From<SharedText> for Value {
 
     ghost from_gives = { λ content v. v ≡ text content false };
 
-    /// The text, which isn't safe.
+    /// The text, not marked safe.
     fn from(content: SharedText) -> Value {
         Value::shared_text(content, false)
     }
 }
 
 impl Value {
-    /// Whether the value counts as true. False are undefined, none, false, 0, and what is empty of
-    /// texts, lists, maps, keyword maps and modules.
+    /// Whether the value counts as true. Undefined, none, false, 0, and empty texts, lists, maps,
+    /// keyword maps and modules are false.
     pub fn is_true(&self) -> bool
         ensures { result ≡ is_true self.now }
     {
@@ -132,7 +132,7 @@ impl Value {
         }
     }
 
-    /// Whether the value is an undefined one, silent or not.
+    /// Whether the value is undefined, silent or not.
     #[inline(always)]
     pub fn is_undefined(&self) -> bool
         ensures { result ≡ is_undefined self.now }
@@ -147,7 +147,7 @@ impl Value {
         matches!(self.node, Node::None)
     }
 
-    /// Whether the value is a text that no escape changes.
+    /// Whether the value is a text marked safe, which is never escaped.
     pub fn is_safe(&self) -> bool
         ensures { result ≡ is_safe self.now }
     {

@@ -1,4 +1,4 @@
-//! Undefined values as operands.
+//! Checks of undefined operands.
 ghost use Rattle.std.specs.Prelude.{◌≡◌, Ok};
 ghost use Rattle.tm_values.specs.Defined.{refusal_of, unless};
 
@@ -6,8 +6,8 @@ use crate::error::Error;
 use crate::undefined::{UndefinedBehavior, UndefinedUse};
 use crate::value::{Node, Value};
 
-/// Whether the value may be used so: UndefinedError or InvalidOperation where it is undefined and
-/// the behaviour refuses that use.
+/// Checks whether the value may be used for `purpose`. UndefinedError or InvalidOperation if the
+/// value is undefined and `behavior` refuses that use.
 pub fn check_defined(
     value: &Value,
     behavior: UndefinedBehavior,

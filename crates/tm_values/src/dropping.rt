@@ -1,4 +1,5 @@
-//! How values are dropped: without memory, and with a stack that no depth of a value makes deep.
+//! Dropping values. It needs no memory, and its recursion depth doesn't grow with the depth of a
+//! value.
 ghost use Rattle.std.specs.Prelude.{◌+◌, ◌≤◌, max};
 ghost use Rattle.tm_values.specs.Held.{held_size, kept_size};
 ghost use Rattle.tm_values.specs.Val.{val_size, vals_size, pairs_size, vals_of, pairs_of};
@@ -7,7 +8,7 @@ use crate::value::Value;
 use std::mem;
 use std::rc::Rc;
 
-// What a value alone held, before it went.
+// The parts that a dropped value owned alone.
 pub(crate) enum Held {
     Nothing,
     Items(Vec<Value>),
@@ -15,7 +16,7 @@ pub(crate) enum Held {
 }
 
 impl Held {
-    // The items, where this was their last owner.
+    // The items, if this was their last owner.
     pub(crate) fn items(items: Rc<Vec<Value>>) -> Held
         ensures { held_size result ≤ vals_size (vals_of items.value.items) }
     {
@@ -25,7 +26,7 @@ impl Held {
         }
     }
 
-    // The pairs, where this was their last owner.
+    // The pairs, if this was their last owner.
     pub(crate) fn pairs(pairs: Rc<Vec<(Value, Value)>>) -> Held
         ensures { held_size result ≤ pairs_size (pairs_of pairs.value.items) }
     {
@@ -36,8 +37,9 @@ impl Held {
     }
 }
 
-// Drops a value that may own something. Of what it alone holds the largest value comes next, in a turn of its own. The others
-// are dropped by recursion: each has at most half of the size, so their drops lie at most 32 deep.
+// Drops a value that may own parts. Of the parts that it owns alone, the largest is dropped in the
+// next turn of the loop. The others are dropped by recursion. Each has at most half of the size, so
+// the recursion is at most 32 deep.
 #[inline(never)]
 #[cycle(dropping)]
 pub(crate) fn drop_owner(value: Value) {
@@ -51,7 +53,7 @@ pub(crate) fn drop_owner(value: Value) {
     }
 }
 
-// Drops all items but the largest one of those that have parts.
+// Drops all items except the largest one that has parts.
 #[cycle(dropping)]
 #[tactic(auto, using(crate::proofs::Sizes::joined_sizes))]
 fn drop_items(mut items: Vec<Value>) -> Option<Value>
@@ -64,7 +66,7 @@ fn drop_items(mut items: Vec<Value>) -> Option<Value>
     largest
 }
 
-// Drops all keys and values but the largest one of those that have parts.
+// Drops all keys and values except the largest one that has parts.
 #[cycle(dropping)]
 #[tactic(auto, using(crate::proofs::Sizes::joined_sizes))]
 fn drop_pairs(mut pairs: Vec<(Value, Value)>) -> Option<Value>
@@ -78,7 +80,7 @@ fn drop_pairs(mut pairs: Vec<(Value, Value)>) -> Option<Value>
     largest
 }
 
-// Keeps the larger one of two values and drops the other one. One without parts isn't kept.
+// Keeps the larger of two values and drops the other. A value without parts isn't kept.
 #[inline(always)]
 #[cycle(dropping)]
 fn keep_larger(value: Value, largest: &mut Option<Value>)
@@ -91,7 +93,7 @@ fn keep_larger(value: Value, largest: &mut Option<Value>)
     }
 }
 
-// The size of the value that is kept, or else that of one without parts.
+// The size of the kept value, or 1, the size of a value without parts.
 #[inline(always)]
 fn size_of(largest: &Option<Value>) -> u32
     ensures { kept_size largest.now ≤ result + 1 }

@@ -1,4 +1,4 @@
-//! Errors: a kind, and the error that it came from.
+//! Errors: a kind, and the error that caused it.
 ghost use Rattle.std.specs.Prelude.{◌≡◌, ◌<◌, [], ◌∷◌, length, Some, MatchResult, MatchOption};
 ghost use Rattle.tm_values.specs.Answer.{OkOrOutOfMemory};
 ghost use Rattle.tm_values.specs.Chain.{kind_of, causes_of};
@@ -11,50 +11,50 @@ use std::marker::Model;
 /// What went wrong.
 #[derive(Clone, Copy, PartialEq, Eq, Debug)]
 pub enum ErrorKind {
-    /// An operation that its operands, or the state, do not allow.
+    /// The operands, or the state, don't allow the operation.
     InvalidOperation,
-    /// A source that spells no template.
+    /// The source isn't a valid template.
     SyntaxError,
-    /// Delimiters that are empty or begin alike.
+    /// A delimiter is empty, or two start delimiters are equal.
     InvalidDelimiter,
-    /// A name without a template.
+    /// No template has that name.
     TemplateNotFound,
-    /// More arguments than a callable takes.
+    /// A callable got more arguments than it takes.
     TooManyArguments,
-    /// An argument that a callable needs.
+    /// A callable didn't get an argument that it needs.
     MissingArgument,
-    /// A name without a filter.
+    /// No filter has that name.
     UnknownFilter,
-    /// A name without a test.
+    /// No test has that name.
     UnknownTest,
-    /// A name without a function.
+    /// No function has that name.
     UnknownFunction,
-    /// A name that is no method of the value.
+    /// The value has no method of that name.
     UnknownMethod,
-    /// A name without a block.
+    /// No block has that name.
     UnknownBlock,
-    /// An undefined value where a defined one is needed.
+    /// A defined value is needed, but the value is undefined.
     UndefinedError,
-    /// A value that does not unpack into the targets.
+    /// The value doesn't unpack into the targets.
     CannotUnpack,
-    /// A value that has no JSON.
+    /// The value can't be written as JSON.
     BadSerialization,
-    /// A fault in a block that `super()` ran.
+    /// A block that `super()` ran failed.
     EvalBlock,
-    /// A fault in a template that was included.
+    /// An included template failed.
     BadInclude,
-    /// A writer that failed, or took nothing.
+    /// The writer failed, or accepted no bytes.
     WriteFailure,
     /// The fuel of the state is spent.
     OutOfFuel,
-    /// No memory was found.
+    /// Memory ran out.
     OutOfMemory,
-    /// A stream of instructions that no compiler writes.
+    /// The stream of instructions isn't one that the compiler writes.
     BadStream,
 }
 
 impl ErrorKind {
-    /// The kind's name, as `OutOfFuel`.
+    /// The name of the kind, such as `OutOfFuel`.
     pub fn name(self) -> &'static str
         ensures { result.now ≡ kind_name self }
     {
@@ -86,7 +86,7 @@ impl ErrorKind {
 impl fmt::Display for ErrorKind {
     ghost output = { λ kind. Some (kind_name kind) };
 
-    /// The kind's name.
+    /// The name of the kind.
     fn fmt<W: fmt::Write>(&self, f: &mut fmt::Formatter<W>) -> fmt::Result {
         f.write_str(self.name())
     }
@@ -100,7 +100,7 @@ pub struct Error {
     more: Option<Box<More>>,
 }
 
-// A loop, so that a long chain of causes takes no deep stack.
+// A loop, so that dropping a long chain of causes needs no deep stack.
 impl Drop for Error {
     fn drop(mut self) {
         loop {
@@ -149,7 +149,7 @@ impl From<ErrorKind> for Error {
 
     ghost from_gives = { λ kind e. e ≡ kind ∷ [] };
 
-    /// An error of this kind, without detail and cause.
+    /// An error of this kind, without detail or cause.
     fn from(kind: ErrorKind) -> Error {
         Error { kind, more: None }
     }
@@ -161,7 +161,7 @@ impl From<AllocError> for Error {
 
     ghost from_gives = { λ _ e. e ≡ OutOfMemory ∷ [] };
 
-    /// OutOfMemory, without detail and cause.
+    /// OutOfMemory, without detail or cause.
     fn from(_error: AllocError) -> Error {
         Error::from(ErrorKind::OutOfMemory)
     }
@@ -173,15 +173,15 @@ impl<T: Drop> From<AllocFailed<T>> for Error {
 
     ghost from_gives = { λ _ e. e ≡ OutOfMemory ∷ [] };
 
-    /// OutOfMemory, without detail and cause; what was not stored is dropped.
+    /// OutOfMemory, without detail or cause. The value that wasn't stored is dropped.
     fn from(_error: AllocFailed<T>) -> Error {
         Error::from(ErrorKind::OutOfMemory)
     }
 }
 
 impl Error {
-    /// An error of this kind with a detail and without a cause. A detail that finds no memory is
-    /// missing.
+    /// An error of this kind with a detail and no cause. If memory runs out, the detail is left
+    /// out.
     pub fn new(alloc: Global, kind: ErrorKind, detail: &str) -> Error
         ensures { result ≡ kind ∷ [] }
     {
@@ -205,7 +205,7 @@ impl Error {
         self.kind
     }
 
-    /// What it says beside its kind, where it says something.
+    /// The detail, if there is one.
     pub fn detail(&self) -> Option<&str> {
         match &self.more {
             Some(more) => match &more.detail {
@@ -216,8 +216,8 @@ impl Error {
         }
     }
 
-    /// The error that this one came from, where there is one. Its chain is shorter, so a loop over
-    /// causes ends.
+    /// The error that caused this one, if there is one. Its chain is shorter, so a loop over causes
+    /// ends.
     pub fn cause(&self) -> Option<&Error>
         ensures { MatchOption result (causes_of self.now ≡ [])
             (λ e. (e.now ≡ causes_of self.now) × (length e.now < length self.now)) }
@@ -263,7 +263,7 @@ impl Error {
 impl fmt::Display for Error {
     ghost output = { λ e. Some (kind_name (kind_of e)) };
 
-    /// The name of the error's own kind. Its detail and its causes are not part of it.
+    /// Writes the name of the error's own kind, without its detail and causes.
     fn fmt<W: fmt::Write>(&self, f: &mut fmt::Formatter<W>) -> fmt::Result {
         fmt::Display::fmt(&self.kind, f)
     }

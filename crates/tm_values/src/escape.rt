@@ -1,15 +1,15 @@
-//! Escapes of emitted values.
+//! How emitted values are escaped.
 
-/// What an emitted value is escaped for.
+/// The format that emitted values are escaped for.
 #[derive(Clone, Copy, PartialEq, Eq, Debug)]
 pub enum AutoEscape {
-    /// It is written as it is printed.
+    /// Values are written as they are printed.
     None,
-    /// It is printed and then escaped for HTML and XML.
+    /// Values are printed and then escaped for HTML and XML.
     Html,
-    /// It is written as JSON.
+    /// Values are written as JSON.
     Json,
-    /// An escape of the caller's own, by name, which only the caller's formatter knows.
+    /// The caller's own format, by name. Only the caller's formatter knows it.
     Custom(&'static str),
 }
 
@@ -19,7 +19,7 @@ impl Default for AutoEscape {
 
     ghost is_default = { λ escape. escape ≡ None };
 
-    /// Nothing is escaped.
+    /// `None`: nothing is escaped.
     fn default() -> AutoEscape {
         AutoEscape::None
     }

@@ -1,4 +1,4 @@
-//! The values of templates and the errors of every call.
+//! The values of templates, and the error type of all calls.
 #![tactic(auto, using(crate::proofs::Lists::round_trips))]
 
 mod comparing;

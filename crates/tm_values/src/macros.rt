@@ -9,7 +9,7 @@ use std::cmp::Ordering;
 use std::marker::Model;
 use std::rc::RcStr;
 
-/// A macro as a value: what a template declared, and where it stands.
+/// A macro as a value: its declaration, and where its code is.
 #[derive(Drop)]
 pub struct MacroValue {
     name: RcStr,
@@ -32,8 +32,9 @@ impl Model for MacroValue {
 }
 
 impl MacroValue {
-    /// A macro of this name and these arguments, which the state of this id declared: the number of
-    /// its stream there, its entry in the stream, and the number of its closure where it has one.
+    /// A macro with this name and these arguments, declared by the state with the id `state`.
+    /// `stream` is the number of its stream in that state, `entry` its entry in the stream, and
+    /// `closure` the number of its closure, if it has one.
     pub fn new(
         name: RcStr,
         arguments: Vec<RcStr>,
@@ -64,7 +65,7 @@ impl MacroValue {
         }
     }
 
-    /// The name under which it was declared.
+    /// The name that it was declared with.
     pub fn name(&self) -> &str
         ensures { result.now ≡ self.now.name }
     {
@@ -78,7 +79,7 @@ impl MacroValue {
         self.arguments.as_slice()
     }
 
-    /// Whether it mentions or takes `caller`.
+    /// Whether it uses or takes `caller`.
     pub fn takes_caller(&self) -> bool
         ensures { result ≡ self.now.caller }
     {
@@ -99,21 +100,21 @@ impl MacroValue {
         self.stream
     }
 
-    /// The number of its entry in the stream.
+    /// Its entry in the stream.
     pub fn entry(&self) -> usize
         ensures { result ≡ self.now.entry }
     {
         self.entry
     }
 
-    /// The number of its closure in that state, where it has one.
+    /// The number of its closure in that state, if it has one.
     pub fn closure(&self) -> Option<usize>
         ensures { result ≡ self.now.closure }
     {
         self.closure
     }
 
-    // By state, stream, entry, closure, name, arguments, and whether `caller` is taken.
+    // Compares by state, stream, entry, closure, name, arguments, and then `takes_caller`.
     pub(crate) fn compare(&self, other: &MacroValue) -> Ordering
         ensures { result ≡ macro_cmp self.now other.now }
     {
@@ -128,7 +129,7 @@ impl MacroValue {
     }
 }
 
-// Text by text, then fewer texts first.
+// Compares text by text; a prefix comes first.
 fn compare_texts(left: &[RcStr], right: &[RcStr]) -> Ordering
     ensures { result
         ≡ slice_cmp (slice_cmp nat_cmp) (each rc_str_bytes left.now) (each rc_str_bytes right.now) }

@@ -1,4 +1,4 @@
-//! Maps: one that is being made, and what a value has at a name.
+//! Maps: building one, and looking up a key in a value.
 ghost use Rattle.std.specs.Prelude.{◌≡◌, [], ◌∷◌, ◌==◌, None, Some, true, false, length, IfOk, IfErr, MatchOption, MatchResult};
 ghost use Rattle.tm_values.specs.Answer.{OkOrOutOfMemory, IsLent};
 ghost use Rattle.tm_values.specs.Map.{put, put_all, find, member, IsMap, IsThere, IsGapFor, IsFoundWherePut, KeepsOtherKeys};
@@ -15,7 +15,7 @@ use std::marker::Model;
 use std::rc::Rc;
 use std::slice;
 
-/// A map that is being made. A contract sees it as its pairs, whose keys ascend.
+/// A map being built. A contract sees its pairs in ascending order of their keys.
 #[derive(Drop)]
 pub struct ValueMap {
     pairs: Vec<(Value, Value)>,
@@ -40,7 +40,7 @@ impl Model for ValueMap {
 }
 
 impl ValueMap {
-    /// A map without pairs.
+    /// An empty map.
     pub fn new(alloc: Global) -> ValueMap
         ensures { result ≡ [] }
     {
@@ -49,8 +49,8 @@ impl ValueMap {
         }
     }
 
-    /// The map of these pairs, put in their order: of equal keys the first spelling and the last
-    /// value. Makes n log n comparisons for n pairs. Fails by OutOfMemory alone.
+    /// Sorts the pairs into a map. Of equal keys, the first spelling and the last value are kept.
+    /// Makes n log n comparisons for n pairs. OutOfMemory is the only error.
     pub fn from_pairs(mut pairs: Vec<(Value, Value)>) -> Result<ValueMap, Error>
         ensures { OkOrOutOfMemory result (λ m. m ≡ put_all pairs.items) }
     {
@@ -59,7 +59,7 @@ impl ValueMap {
         Ok(ValueMap { pairs })
     }
 
-    /// The map of these pairs, whose keys ascend already.
+    /// The map of these pairs, whose keys must be ascending.
     pub fn from_ascending(pairs: Vec<(Value, Value)>) -> ValueMap
         requires { IsMap pairs.items }
         ensures { result ≡ pairs.items }
@@ -67,8 +67,8 @@ impl ValueMap {
         ValueMap { pairs }
     }
 
-    /// Puts the value at the key, in place of one that is there. Fails, by OutOfMemory, with the
-    /// map unchanged.
+    /// Binds `key` to `value`, replacing the old value if there is one. OutOfMemory if memory runs
+    /// out; then the map is unchanged.
     pub fn insert(&mut self, key: Value, value: Value) -> Result<(), Error>
         ensures outcome { OkOrOutOfMemory result (λ _. self.new ≡ put key value self.old) }
         ensures unchanged { IfErr result (λ _. self.new ≡ self.old) }
@@ -76,14 +76,14 @@ impl ValueMap {
         put_pair(&mut self.pairs, key, value)
     }
 
-    /// How many pairs there are.
+    /// The number of pairs.
     pub fn len(&self) -> usize
         ensures { result ≡ length self.now }
     {
         self.pairs.len()
     }
 
-    /// Whether there are no pairs.
+    /// Whether the map is empty.
     pub fn is_empty(&self) -> bool
         ensures { result ≡ (length self.now == 0) }
     {
@@ -98,7 +98,7 @@ impl ValueMap {
         self.pairs.as_slice()
     }
 
-    /// The value at the key, where it is there.
+    /// The value at `key`, if there is one.
     pub fn get(&self, key: &Value) -> Option<&Value>
         ensures { IsLent result (find key.now self.now) }
     {
@@ -108,7 +108,7 @@ impl ValueMap {
         }
     }
 
-    /// The value at the text, found without memory, where it is there.
+    /// The value at the text `name`, if there is one. Needs no memory.
     pub fn member(&self, name: &str) -> Option<&Value>
         ensures { IsLent result (find (text name.now false) self.now) }
     {
@@ -136,7 +136,7 @@ impl<'map> IntoIterator for &'map ValueMap {
 }
 
 impl Value {
-    /// The map of these pairs. Fails by OutOfMemory alone, also if its size is no `u32`.
+    /// The map of these pairs. OutOfMemory if memory runs out or the size doesn't fit a `u32`.
     pub fn from_map(alloc: Global, entries: ValueMap) -> Result<Value, Error>
         ensures { OkOrOutOfMemory result (λ v. v ≡ map (pairs_of entries)) }
     {
@@ -147,7 +147,8 @@ impl Value {
         })
     }
 
-    /// The keyword map of these pairs. Fails by OutOfMemory alone, also if its size is no `u32`.
+    /// The keyword map of these pairs. OutOfMemory if memory runs out or the size doesn't fit a
+    /// `u32`.
     pub fn keywords(alloc: Global, entries: ValueMap) -> Result<Value, Error>
         ensures { OkOrOutOfMemory result (λ v. v ≡ keywords (pairs_of entries)) }
     {
@@ -158,8 +159,8 @@ impl Value {
         })
     }
 
-    /// The module that exports these pairs and wrote this text. Fails by OutOfMemory alone, also if its
-    /// size is no `u32`.
+    /// The module that exports these pairs and wrote this text. OutOfMemory if memory runs out or
+    /// the size doesn't fit a `u32`.
     pub fn module(alloc: Global, entries: ValueMap, content: SharedText) -> Result<Value, Error>
         ensures { OkOrOutOfMemory result
             (λ v. v ≡ exports (pairs_of entries) content) }
@@ -174,8 +175,8 @@ impl Value {
         })
     }
 
-    /// What a map, a keyword map or a module has at the text, found without memory; nothing of
-    /// other values.
+    /// The value at the text `name` in a map, a keyword map or a module. None for other values.
+    /// Needs no memory.
     pub fn member(&self, name: &str) -> Option<&Value>
         ensures { IsLent result (member name.now self.now) }
     {
@@ -186,7 +187,7 @@ impl Value {
         }
     }
 
-    /// What a map, a keyword map or a module has at the key; nothing of other values.
+    /// The value at `key` in a map, a keyword map or a module. None for other values.
     pub fn at_key(&self, key: &Value) -> Option<&Value>
         ensures { IsLent result (find key.now (entries_in self.now)) }
     {
@@ -198,7 +199,7 @@ impl Value {
     }
 }
 
-// Puts the value at the key, and keeps the order.
+// Binds `key` to `value` and keeps the order.
 fn put_pair(pairs: &mut Vec<(Value, Value)>, key: Value, value: Value) -> Result<(), Error>
     requires { IsMap pairs.old.items }
     ensures outcome { OkOrOutOfMemory result
@@ -218,7 +219,7 @@ fn put_pair(pairs: &mut Vec<(Value, Value)>, key: Value, value: Value) -> Result
     }
 }
 
-// Sorts the pairs by their keys. Equal keys stay in their order, so the same map comes of them.
+// Sorts the pairs by their keys. The sort is stable, so the pairs still make the same map.
 fn sort_pairs(pairs: &mut Vec<(Value, Value)>) -> Result<(), Error>
     ensures same_map { put_all pairs.new.items ≡ put_all pairs.old.items }
     ensures fails { IfErr result (λ e. e ≡ ErrorKind.OutOfMemory ∷ []) }
@@ -231,7 +232,7 @@ fn sort_pairs(pairs: &mut Vec<(Value, Value)>) -> Result<(), Error>
     Ok(())
 }
 
-// The map of the pairs; soon where their keys ascend.
+// Joins equal keys of the pairs. Fast if the keys are ascending.
 fn joined(pairs: Vec<(Value, Value)>) -> Result<Vec<(Value, Value)>, Error>
     ensures outcome { OkOrOutOfMemory result (λ joined. joined.items ≡ put_all pairs.items) }
     ensures ordered { IfOk result (λ joined. IsMap joined.items) }
@@ -243,7 +244,7 @@ fn joined(pairs: Vec<(Value, Value)>) -> Result<Vec<(Value, Value)>, Error>
     Ok(joined)
 }
 
-// Puts the value at the key; at once where the key is above all others.
+// Binds `key` to `value`. Appends the pair if the key is above all others.
 fn append_pair(pairs: &mut Vec<(Value, Value)>, key: Value, value: Value) -> Result<(), Error>
     requires { IsMap pairs.old.items }
     ensures outcome { OkOrOutOfMemory result
@@ -258,7 +259,7 @@ fn append_pair(pairs: &mut Vec<(Value, Value)>, key: Value, value: Value) -> Res
     }
 }
 
-// Whether the key is above all those of the pairs.
+// Whether `key` is above the keys of all pairs.
 fn is_above_all(key: &Value, pairs: &[(Value, Value)]) -> bool
     requires { IsMap pairs.now }
     ensures { result ≡ true → IsGapFor key.now pairs.now (length pairs.now) }
@@ -269,7 +270,7 @@ fn is_above_all(key: &Value, pairs: &[(Value, Value)]) -> bool
     }
 }
 
-// Where the key stands, or where it would stand.
+// The index of the key, or else the index at which it would be inserted.
 fn place(pairs: &[(Value, Value)], key: &Value) -> Result<usize, usize>
     requires { IsMap pairs.now }
     ensures { MatchResult result (IsThere key.now pairs.now) (IsGapFor key.now pairs.now) }
@@ -281,7 +282,7 @@ fn place(pairs: &[(Value, Value)], key: &Value) -> Result<usize, usize>
     )
 }
 
-// The same of a text, which needs no value of its own.
+// The same for a text, without making a value of it.
 fn place_of_text(pairs: &[(Value, Value)], name: &str) -> Result<usize, usize>
     requires { IsMap pairs.now }
     ensures { MatchResult result (IsThere (text name.now false) pairs.now)
@@ -294,7 +295,7 @@ fn place_of_text(pairs: &[(Value, Value)], name: &str) -> Result<usize, usize>
     )
 }
 
-/// What is put at a key is found there, and all other keys keep their values.
+/// After an insertion, its key yields the new value, and all other keys keep their values.
 pub fn put_law()
     ensures found { IsFoundWherePut }
     ensures kept { KeepsOtherKeys }

@@ -12,12 +12,12 @@ use crate::macros::MacroValue;
 use crate::value::{Node, Value};
 use std::cmp::Ordering;
 
-// So many levels of lists and maps are compared by recursion.
+// How many levels of lists and maps are compared by plain recursion.
 const NATIVE_LEVELS: usize = 200;
 
 impl Value {
-    /// Where this value stands to the other: by kind, then by content. The kinds ascend: undefined,
-    /// none, numbers (truth values among them, as 0 and 1), texts, lists, maps, keyword maps,
+    /// Compares two values, first by kind and then by content. The kinds in ascending order:
+    /// undefined, none, numbers (with truth values as 0 and 1), texts, lists, maps, keyword maps,
     /// modules, functions, macros, loops, namespaces.
     pub fn compare(&self, other: &Value) -> Ordering
         ensures { result ≡ val_cmp self.now other.now }
@@ -25,7 +25,7 @@ impl Value {
         self.compare_within(other, NATIVE_LEVELS)
     }
 
-    // The same. What lies so many levels deep is compared in turns.
+    // The same. Parts more than `levels` deep are compared by `compare_deep`.
     #[cycle(compare)]
     pub(crate) fn compare_within(&self, other: &Value, levels: usize) -> Ordering
         ensures { result ≡ val_cmp self.now other.now }
@@ -58,7 +58,7 @@ impl Value {
         }
     }
 
-    // Where this value stands to a text.
+    // Compares this value with a text.
     pub(crate) fn compare_text(&self, content: &str) -> Ordering
         ensures { result ≡ val_cmp self.now (text content.now false) }
     {
@@ -68,7 +68,7 @@ impl Value {
         }
     }
 
-    // Where this loop or namespace stands to another one.
+    // Compares this loop or namespace with another one.
     pub(crate) fn compare_record(&self, other: &Value) -> Ordering
         ensures { result ≡ record_cmp self.now other.now }
     {
@@ -77,7 +77,7 @@ impl Value {
         state.cmp(&other_state).then(index.cmp(&other_index))
     }
 
-    // The state's id and the number of a loop or a namespace.
+    // The id of the state and the number of a loop or a namespace.
     fn record(&self) -> (u64, usize)
         ensures { result ≡ (state_in self.now, record_in self.now) }
     {
@@ -87,7 +87,7 @@ impl Value {
         }
     }
 
-    // A function's number.
+    // The number of a function, or 0.
     pub(crate) fn function_or_zero(&self) -> usize
         ensures { result ≡ function_in self.now }
     {
@@ -98,7 +98,7 @@ impl Value {
     }
 }
 
-// Where a macro stands to a value, which is one too.
+// Compares a macro with another macro; `Equal` if `right` isn't a macro.
 pub(crate) fn compare_macro(left: &MacroValue, right: &Value) -> Ordering
     ensures { result ≡ macro_against left.now right.now }
 {
@@ -108,14 +108,14 @@ pub(crate) fn compare_macro(left: &MacroValue, right: &Value) -> Ordering
     }
 }
 
-/// Whether there are as many values on both sides, each equal to the other side's.
+/// Whether both lists have the same length and equal items.
 pub fn same_items(left: &[Value], right: &[Value]) -> bool
     ensures { result ≡ same_values (vals_of left.now) (vals_of right.now) }
 {
     compare_items(left, right, NATIVE_LEVELS) == Ordering::Equal
 }
 
-// Item by item, then fewer items first.
+// Compares item by item; a prefix comes first.
 #[cycle(compare)]
 pub(crate) fn compare_items(left: &[Value], right: &[Value], levels: usize) -> Ordering
     ensures { result ≡ vals_cmp (vals_of left.now) (vals_of right.now) }
@@ -136,7 +136,7 @@ pub(crate) fn compare_items(left: &[Value], right: &[Value], levels: usize) -> O
     }
 }
 
-// Pair by pair, then fewer pairs first.
+// Compares pair by pair; a prefix comes first.
 #[cycle(compare)]
 pub(crate) fn compare_pairs(
     left: &[(Value, Value)],
@@ -161,7 +161,7 @@ pub(crate) fn compare_pairs(
     }
 }
 
-// By the keys, then by the values.
+// Compares the keys, then the values.
 #[cycle(compare)]
 pub(crate) fn compare_pair(pair: &(Value, Value), other: &(Value, Value), levels: usize) -> Ordering
     ensures { result ≡ pair_cmp pair.now other.now }
@@ -225,7 +225,7 @@ impl Ord for Value {
     }
 }
 
-/// The order of values is total, equality agrees with it, and truth values stand in it as 0 and 1.
+/// The order of values is total, and agrees with equality. Truth values are ordered as 0 and 1.
 pub fn order_law()
     ensures total { IsTotalOrder val_cmp }
     ensures equality { (a b : Val) → same_value a b ≡ is_eq (val_cmp a b) }

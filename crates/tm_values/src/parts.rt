@@ -1,4 +1,4 @@
-//! What a value keeps of its parts.
+//! What a value stores about its parts.
 ghost use Rattle.std.specs.Prelude.{◌≡◌, ◌+◌};
 ghost use Rattle.tm_values.specs.Answer.{OkOrOutOfMemory};
 ghost use Rattle.tm_values.specs.Parts.{parts_of_vals, parts_of_pairs};
@@ -8,18 +8,18 @@ use crate::error::{Error, ErrorKind};
 use crate::value::{Node, Value};
 use crate::writable::{Writable, pair_writable};
 
-/// What a value keeps of its parts.
+/// What a value stores about its parts.
 #[derive(Clone, Copy)]
 pub struct Parts {
-    /// In which forms none of them is refused.
+    /// The forms in which no part is refused.
     pub writable: Writable,
-    /// The size of the value that has them: one for itself, and for each part its size and one. A value whose size is no
-    /// `u32` isn't made: there is no memory for it.
+    /// The size of the value that has the parts: 1 for itself, plus the size of each part and 1. No
+    /// value is made if the size doesn't fit a `u32`: that is OutOfMemory.
     pub size: u32,
 }
 
 impl Parts {
-    /// What is kept of these values, as the items of a list. OutOfMemory where the list would be too large.
+    /// For the items of a list. OutOfMemory if the list would be too large.
     #[tactic(auto, using(crate::proofs::Writables::both_regroups))]
     pub(crate) fn of_values(values: &[Value]) -> Result<Parts, Error>
         ensures { OkOrOutOfMemory result (λ parts. parts ≡ parts_of_vals (vals_of values.now)) }
@@ -33,7 +33,7 @@ impl Parts {
         Ok(Parts { writable, size })
     }
 
-    /// What is kept of these keys and values. OutOfMemory where a map of them would be too large.
+    /// For the keys and values of a map. OutOfMemory if the map would be too large.
     #[tactic(auto, using(crate::proofs::Writables::both_regroups))]
     pub(crate) fn of_pairs(pairs: &[(Value, Value)]) -> Result<Parts, Error>
         ensures { OkOrOutOfMemory result (λ parts. parts ≡ parts_of_pairs (pairs_of pairs.now)) }
@@ -48,7 +48,7 @@ impl Parts {
     }
 }
 
-// The size with a further part. OutOfMemory where it is no `u32`.
+// Adds a part to the size. OutOfMemory if the sum doesn't fit a `u32`.
 fn with_part(size: u32, part: &Value) -> Result<u32, Error>
     ensures { OkOrOutOfMemory result (λ with. with ≡ size + (val_size part.now + 1)) }
 {
@@ -62,8 +62,8 @@ fn with_part(size: u32, part: &Value) -> Result<u32, Error>
 }
 
 impl Value {
-    /// How large it is as an owned tree: one for itself, and for each part its size and one. It is known at once, however
-    /// large the value is.
+    /// The size as an owned tree: 1 for itself, plus the size of each part and 1. Takes constant
+    /// time.
     pub(crate) fn size(&self) -> u32
         ensures { result ≡ val_size self.now }
     {

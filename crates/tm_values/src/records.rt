@@ -1,4 +1,4 @@
-//! What stands in the loops and namespaces of a state, which their values only name.
+//! The loops and namespaces of a state. Their values hold only an id and a number.
 ghost use Rattle.std.specs.Prelude.{◌≡◌, ℕ, List, Option, None, Some, [], length, MatchOption, option_map, slice_get};
 ghost use Rattle.tm_values.specs.Answer.{IsLent};
 ghost use Rattle.tm_values.specs.Val.{Val};
@@ -8,15 +8,15 @@ ghost use Rattle.tm_values.specs.Position.{position_of};
 use crate::map::ValueMap;
 use crate::value::Value;
 
-/// Where a loop stands.
+/// The position of a loop.
 #[derive(Clone, Copy)]
 pub struct LoopPosition {
-    /// The place of its item, counted from 0; none before the first item, the number of items after
-    /// the last.
+    /// The index of its item, from 0. None before the first item; the number of items after the
+    /// last.
     pub place: Option<usize>,
-    /// How many items it has.
+    /// The number of items.
     pub count: usize,
-    /// How many recursive loops lie around it.
+    /// The number of recursive loops around it.
     pub depth: usize,
 }
 
@@ -29,28 +29,28 @@ pub trait Records {
     fn state(&self) -> u64
         ensures { result ≡ (records self.now).state };
 
-    /// How many namespaces there are.
+    /// The number of namespaces.
     fn namespace_count(&self) -> usize
         ensures { result ≡ length (records self.now).namespaces };
 
-    /// What a namespace holds.
+    /// The content of the namespace number `index`, if there is one.
     fn namespace(&self, index: usize) -> Option<&ValueMap>
         ensures { IsLent result (slice_get (records self.now).namespaces index) };
 
-    /// Where a loop stands.
+    /// The position of the loop number `index`, if there is one.
     fn loop_position(&self, index: usize) -> Option<LoopPosition>
         ensures { result ≡ option_map position_of (slice_get (records self.now).loops index) };
 
-    /// The item before a loop's own, where there is one.
+    /// The item before the loop's current one, if there is one.
     fn previous_item(&self, index: usize) -> Option<&Value>
         ensures { IsLent result (previous_at (records self.now) index) };
 
-    /// The item after a loop's own, where there is one.
+    /// The item after the loop's current one, if there is one.
     fn following_item(&self, index: usize) -> Option<&Value>
         ensures { IsLent result (following_at (records self.now) index) };
 }
 
-/// The records of no state: of an id that no state has, without loops and namespaces.
+/// No records: no loops and no namespaces, and an id that no state has.
 #[derive(Clone, Copy, Debug)]
 pub struct NoRecords;
 
@@ -82,7 +82,7 @@ impl Records for NoRecords {
     }
 }
 
-/// What a namespace holds, where its state is that of the records and its number is known there.
+/// The content of a namespace. None if it belongs to another state or has no record there.
 pub fn find_namespace<R: Records>(records: &R, state: u64, index: usize) -> Option<&ValueMap>
     ensures { IsLent result (namespace_at (R.records records.now) state index) }
 {
@@ -93,7 +93,7 @@ pub fn find_namespace<R: Records>(records: &R, state: u64, index: usize) -> Opti
     }
 }
 
-/// Where a loop stands, where its state is that of the records and its number is known there.
+/// The position of a loop. None if it belongs to another state or has no record there.
 pub fn find_loop<R: Records>(records: &R, state: u64, index: usize) -> Option<LoopPosition>
     ensures { result ≡ option_map position_of (loop_at (R.records records.now) state index) }
 {

@@ -6,7 +6,7 @@ use std::alloc::{AllocError, Global};
 use std::marker::Model;
 use std::rc::Rc;
 
-/// A text whose owners share its bytes. A contract sees these bytes.
+/// A text with shared bytes. A contract sees the bytes.
 #[derive(Drop)]
 pub struct SharedText {
     content: Rc<String>,
@@ -21,14 +21,14 @@ impl Model for SharedText {
 }
 
 impl SharedText {
-    /// A text of these bytes. Fails where there is no memory.
+    /// A copy of `content`. AllocError if memory runs out.
     pub fn from_str(alloc: Global, content: &str) -> Result<SharedText, AllocError>
         ensures { IfOk result (λ made. made ≡ content.now) }
     {
         SharedText::from_string(String::from_str(alloc, content)?)
     }
 
-    /// This text, which is moved. Fails where there is no memory.
+    /// The text of `content`, which is moved. AllocError if memory runs out.
     pub fn from_string(content: String) -> Result<SharedText, AllocError>
         ensures { IfOk result (λ made. made ≡ string_bytes content) }
     {
@@ -46,7 +46,7 @@ impl SharedText {
         self.content.as_ref().as_str()
     }
 
-    /// A second owner of the same bytes. Fails only where the owners can't be counted.
+    /// A second owner of the same bytes. AllocError only if the count of owners overflows.
     #[inline(always)]
     pub fn share(&self) -> Result<SharedText, AllocError>
         ensures { IfOk result (λ shared. shared ≡ self.now) }
@@ -55,8 +55,8 @@ impl SharedText {
         Ok(SharedText { content })
     }
 
-    /// Takes its bytes away and keeps their room, where it has no other owner. Else it stays as it was, and the answer is
-    /// false.
+    /// Empties the text and keeps its capacity, if it has no other owner. Otherwise returns false
+    /// and changes nothing.
     pub fn clear(&mut self) -> bool
         ensures { OrStays result self.old self.new (self.new ≡ []) }
     {
@@ -69,8 +69,8 @@ impl SharedText {
         }
     }
 
-    /// Adds a text after it: in place where it has no other owner, and else to a copy, since the
-    /// others keep what they have. Where there is no memory it stays as it was.
+    /// Appends `after`: in place if there is no other owner, and otherwise to a copy, so that the
+    /// other owners see no change. AllocError if memory runs out; then nothing changes.
     pub fn append(&mut self, after: &str) -> Result<(), AllocError>
         ensures ok { OnOk result (self.new ≡ self.old ++ after.now) }
         ensures err { OnErr result (self.new ≡ self.old) }
@@ -83,7 +83,7 @@ impl SharedText {
     }
 }
 
-// The two texts, one after the other.
+// The concatenation of two texts.
 fn joined(front: &str, after: &str, alloc: Global) -> Result<SharedText, AllocError>
     ensures { IfOk result (λ made. made ≡ front.now ++ after.now) }
 {

@@ -1,10 +1,10 @@
-//! Second owners of many values.
+//! Sharing many values.
 ghost use Rattle.std.specs.Prelude.{◌≡◌, ◌++◌, ◌∷◌, [], OnOk, IfErr};
 
 use crate::error::{Error, ErrorKind};
 use crate::value::Value;
 
-/// Puts a second owner of each value after those that are there. Fails by OutOfMemory alone.
+/// Appends a second owner of each value to `out`. OutOfMemory is the only error.
 pub fn share_all(values: &[Value], out: &mut Vec<Value>) -> Result<(), Error>
     ensures items { OnOk result (out.new.items ≡ out.old.items ++ values.now) }
     ensures memory { IfErr result (λ e. e ≡ ErrorKind.OutOfMemory ∷ []) }

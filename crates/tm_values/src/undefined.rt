@@ -7,36 +7,37 @@ use crate::error::ErrorKind;
 /// How undefined values behave in an environment, from the mildest to the strictest.
 #[derive(Clone, Copy, PartialEq, Eq, Debug)]
 pub enum UndefinedBehavior {
-    /// An undefined value prints as nothing, has no items and is false; it has no attributes.
+    /// An undefined value prints as nothing, has no items and is false. Looking up an attribute or
+    /// an item of it fails.
     Lenient,
-    /// As `Lenient`, but attributes and items of an undefined value are undefined.
+    /// Like `Lenient`, but the attributes and items of an undefined value are undefined.
     Chainable,
-    /// As `Lenient`, but emitting and iterating fail. Its truth may be asked.
+    /// Like `Lenient`, but emitting and iterating fail. Testing its truth doesn't.
     SemiStrict,
-    /// Every use but `*` in a call fails.
+    /// Every use fails, except `*` in a call.
     Strict,
 }
 
 /// What an undefined value is used for.
 #[derive(Clone, Copy, PartialEq, Eq, Debug)]
 pub enum UndefinedUse {
-    /// It is written.
+    /// It is emitted.
     Emission,
-    /// A `for` goes over it.
+    /// A `for` loop iterates over it.
     Iteration,
-    /// An attribute or an item of it is asked for.
+    /// One of its attributes or items is looked up.
     Member,
-    /// Its truth is asked.
+    /// Its truth is tested.
     Truth,
-    /// It is compared, joined by `~`, or stands left of `in`.
+    /// It is compared, joined by `~`, or the left operand of `in`.
     Comparison,
-    /// It stands right of `in`.
+    /// It is the right operand of `in`.
     Containment,
     /// It is sliced.
     Slice,
-    /// It stands after `**` in a call.
+    /// It follows `**` in a call.
     KeywordSpread,
-    /// It stands after `*` in a call.
+    /// It follows `*` in a call.
     ItemSpread,
     /// It is added, subtracted, multiplied, divided, raised or negated.
     Arithmetic,
@@ -48,15 +49,16 @@ impl Default for UndefinedBehavior {
 
     ghost is_default = { λ behavior. behavior ≡ Lenient };
 
-    /// The mildest one.
+    /// `Lenient`.
     fn default() -> UndefinedBehavior {
         UndefinedBehavior::Lenient
     }
 }
 
 impl UndefinedBehavior {
-    /// How the use of an undefined value fails: UndefinedError or InvalidOperation; None where it
-    /// goes on. A silent one never fails in emission and truth.
+    /// The error of using an undefined value for `purpose`: UndefinedError or InvalidOperation, or
+    /// None if the use is allowed. Emitting a silent undefined value and testing its truth never
+    /// fail.
     pub fn refusal(self, purpose: UndefinedUse, silent: bool) -> Option<ErrorKind>
         ensures { result ≡ undefined_refusal self purpose silent }
     {

@@ -1,4 +1,4 @@
-//! Values. A contract sees plain data; what is shared never shows.
+//! Values. A contract sees plain data; sharing is invisible.
 ghost use Rattle.std.specs.Prelude.{◌≡◌, ◌<◌, [], ◌∷◌, List, Some, None, true, false, IfOk, MatchResult, MatchOption, string_bytes};
 ghost use Rattle.tm_values.specs.Map.{IsMap};
 ghost use Rattle.tm_values.specs.Order.{rank, bytes_in, whole_or_zero};
@@ -17,42 +17,42 @@ use std::alloc::Global;
 use std::marker::Model;
 use std::rc::Rc;
 
-/// A value. Its contents are shared: a second owner costs no memory, whatever the size.
+/// A value. Its contents are shared: sharing a value needs no memory, whatever its size.
 #[cycle(value)]
 pub struct Value {
-    /// What it is made of, for the crates of the engine.
+    /// Its content, for the crates of the engine.
     pub node: Node,
 }
 
-/// What a value is made of. The keys of maps, keyword maps and modules ascend.
+/// The content of a value. The keys of maps, keyword maps and modules are ascending.
 #[derive(Drop)]
 #[cycle(value)]
 pub enum Node {
-    /// No value, and whether it is silent: the missing else of an `if` expression.
+    /// Undefined, and whether it is silent, as from an `if` expression without `else`.
     Undefined(bool),
     /// The value `none`.
     None,
-    /// A truth value; it counts as 0 or 1 wherever a number does.
+    /// A truth value. It counts as 0 or 1 wherever a number is expected.
     Boolean(bool),
     /// A whole number.
     Number(i128),
-    /// A text, and whether it is safe: no escape changes it.
+    /// A text, and whether it is marked safe, so that it is never escaped.
     Text(SharedText, bool),
-    /// Values in order, and what is kept of them.
+    /// The items, and what is stored about them.
     List(Rc<Vec<Value>>, Parts),
-    /// Pairs in the order of their keys, and what is kept of them.
+    /// The pairs in the order of their keys, and what is stored about them.
     Map(Rc<Vec<(Value, Value)>>, Parts),
-    /// The keyword arguments of a call, and what is kept of them.
+    /// The keyword arguments of a call, and what is stored about them.
     Keywords(Rc<Vec<(Value, Value)>>, Parts),
-    /// A module: what an import exports, the text that it wrote, and its size.
+    /// A module: the names that it exports, the text that it wrote, and its size.
     Exports(Rc<Vec<(Value, Value)>>, SharedText, u32),
     /// A function, by its number.
     Function(usize),
     /// A macro.
     Macro(Rc<MacroValue>),
-    /// A loop of the state of this id, by the number of its record there.
+    /// A loop: the id of its state, and the number of its record there.
     Loop(u64, usize),
-    /// A namespace of the state of this id, by the number of its record there.
+    /// A namespace: the id of its state, and the number of its record there.
     Namespace(u64, usize),
 }
 
@@ -98,7 +98,7 @@ impl Drop for Value {
 }
 
 impl Value {
-    // The values that this one alone holds, in its place. Inline, since each drop begins with it.
+    // Moves out the parts that this value owns alone. Inline, since each drop begins with it.
     #[inline(always)]
     pub(crate) fn into_held(self) -> Held
         ensures { held_size result < val_size self }
@@ -130,7 +130,7 @@ impl Value {
         }
     }
 
-    /// The undefined value that is silent: emitting it and asking its truth never fail.
+    /// The silent undefined value: emitting it and testing its truth never fail.
     pub fn silent_undefined() -> Value
         ensures { result ≡ undefined true }
     {
@@ -164,7 +164,7 @@ impl Value {
         }
     }
 
-    /// A text of these bytes, which isn't safe. Fails by OutOfMemory alone.
+    /// A text, not marked safe. OutOfMemory if memory runs out.
     pub fn text(alloc: Global, content: &str) -> Result<Value, Error>
         ensures { OkOrOutOfMemory result (λ v. v ≡ text content.now false) }
     {
@@ -172,7 +172,7 @@ impl Value {
         Ok(Value::shared_text(content, false))
     }
 
-    /// A text of these bytes that no escape changes. Fails by OutOfMemory alone.
+    /// A text marked safe, so that it is never escaped. OutOfMemory if memory runs out.
     pub fn safe_text(alloc: Global, content: &str) -> Result<Value, Error>
         ensures { OkOrOutOfMemory result (λ v. v ≡ text content.now true) }
     {
@@ -180,7 +180,7 @@ impl Value {
         Ok(Value::shared_text(content, true))
     }
 
-    /// The text that is shared here, and whether it is safe.
+    /// A text value that shares `content`; `safe` marks it safe.
     pub fn shared_text(content: SharedText, safe: bool) -> Value
         ensures { result ≡ text content safe }
     {
@@ -189,7 +189,7 @@ impl Value {
         }
     }
 
-    /// The list of these values. Fails by OutOfMemory alone, also if its size is no `u32`.
+    /// The list of these values. OutOfMemory if memory runs out or the size doesn't fit a `u32`.
     pub fn list(alloc: Global, items: Vec<Value>) -> Result<Value, Error>
         ensures { OkOrOutOfMemory result (λ v. v ≡ list (vals_of items.items)) }
     {
@@ -199,7 +199,7 @@ impl Value {
         })
     }
 
-    /// The function of this number.
+    /// The function with the number `index`.
     pub fn function(index: usize) -> Value
         ensures { result ≡ function index }
     {
@@ -208,7 +208,7 @@ impl Value {
         }
     }
 
-    /// A macro as a value. Fails by OutOfMemory alone.
+    /// A macro as a value. OutOfMemory if memory runs out.
     pub fn declared(alloc: Global, declared: MacroValue) -> Result<Value, Error>
         ensures { OkOrOutOfMemory result (λ v. v ≡ macro declared) }
     {
@@ -217,7 +217,7 @@ impl Value {
         })
     }
 
-    /// The loop of this number in the state of this id.
+    /// The loop number `index` in the state with the id `state`.
     pub fn loop_record(state: u64, index: usize) -> Value
         ensures { result ≡ loop state index }
     {
@@ -226,7 +226,7 @@ impl Value {
         }
     }
 
-    /// The namespace of this number in the state of this id.
+    /// The namespace number `index` in the state with the id `state`.
     pub fn namespace(state: u64, index: usize) -> Value
         ensures { result ≡ namespace state index }
     {
@@ -235,8 +235,7 @@ impl Value {
         }
     }
 
-    /// A second owner of the same contents. Fails, by OutOfMemory, only where the owners can't be
-    /// counted.
+    /// A second owner of the same contents. OutOfMemory only if the count of owners overflows.
     #[inline(always)]
     pub fn share(&self) -> Result<Value, Error>
         ensures { OkOrOutOfMemory result (λ v. v ≡ self.now) }
@@ -248,7 +247,7 @@ impl Value {
         }
     }
 
-    // The same for what may be shared, out of line.
+    // The same for values with shared contents, out of line.
     #[inline(never)]
     fn share_contents(&self) -> Result<Value, Error>
         ensures { OkOrOutOfMemory result (λ v. v ≡ self.now) }
@@ -273,7 +272,7 @@ impl Value {
         Ok(Value { node })
     }
 
-    /// The text and whether it is safe, where the value is one; and else the value again.
+    /// The text and whether it is safe, if the value is a text; otherwise the value itself.
     pub fn into_text(self) -> Result<(SharedText, bool), Value>
         ensures { MatchResult result (λ x. self ≡ text x.0 x.1)
             (λ v. (v ≡ self) × (text_in self ≡ None)) }
@@ -285,7 +284,7 @@ impl Value {
         }
     }
 
-    /// The text, where the value is one.
+    /// The text, if the value is one.
     pub fn as_str(&self) -> Option<&str>
         ensures { IsLent result (text_in self.now) }
     {
@@ -295,7 +294,7 @@ impl Value {
         }
     }
 
-    /// The whole number that a number or a truth value counts as, where the value is one.
+    /// The whole number that the value counts as, if it is a number or a truth value.
     pub fn as_i128(&self) -> Option<i128>
         ensures { result ≡ whole_in self.now }
     {
@@ -307,7 +306,7 @@ impl Value {
         }
     }
 
-    /// The items of a list, where the value is one.
+    /// The items, if the value is a list.
     pub fn as_list(&self) -> Option<&[Value]>
         ensures { IsLent result (list_in self.now) }
     {
@@ -317,7 +316,7 @@ impl Value {
         }
     }
 
-    /// The items of a list; none of other values.
+    /// The items of a list; empty for other values.
     pub fn items(&self) -> &[Value]
         ensures { result.now ≡ items_in self.now }
     {
@@ -327,7 +326,7 @@ impl Value {
         }
     }
 
-    /// The pairs of a map, a keyword map or a module; none of other values.
+    /// The pairs of a map, a keyword map or a module; empty for other values.
     pub fn pairs(&self) -> &[(Value, Value)]
         ensures pairs { result.now ≡ entries_in self.now }
         ensures ordered { IsMap result.now }
@@ -340,7 +339,7 @@ impl Value {
         }
     }
 
-    // The place of the kind among the kinds.
+    // The rank of its kind in the order of kinds.
     pub(crate) fn rank(&self) -> u8
         ensures { result ≡ rank self.now }
     {
@@ -360,7 +359,7 @@ impl Value {
         }
     }
 
-    // The text of a text or a module, or an empty one.
+    // The text of a text or a module; empty for other values.
     pub(crate) fn text_or_empty(&self) -> &str
         ensures { result.now ≡ bytes_in self.now }
     {
@@ -370,7 +369,7 @@ impl Value {
         }
     }
 
-    // The whole number, or zero.
+    // The whole number of a number or a truth value; 0 for other values.
     pub(crate) fn whole_or_zero(&self) -> i128
         ensures { result ≡ whole_or_zero self.now }
     {

@@ -4,19 +4,19 @@ ghost use Rattle.tm_values.specs.Writable.{fits_json, in_all_forms, in_print_alo
 
 use crate::value::{Node, Value};
 
-/// In which forms a value is never refused, whatever the records are. It is so where neither a loop
-/// nor a namespace stands in it, at any depth; JSON lacks functions, macros, large numbers and keys
-/// that are no texts too, and modules aren't known to have JSON.
+/// The forms in which a value is never refused, whatever the records are. No form has values that
+/// contain a loop or a namespace, at any depth. JSON also lacks functions, macros, large numbers
+/// and keys that aren't texts. Modules aren't known to be accepted as JSON.
 #[derive(Clone, Copy)]
 pub struct Writable {
-    /// When it is printed.
+    /// As printed text.
     pub in_print: bool,
-    /// When it is written as JSON.
+    /// As JSON.
     pub in_json: bool,
 }
 
 impl Writable {
-    // In all forms.
+    // Accepted in all forms.
     pub(crate) fn in_all_forms() -> Writable
         ensures { result ≡ in_all_forms }
     {
@@ -26,7 +26,7 @@ impl Writable {
         }
     }
 
-    // When it is printed.
+    // Accepted only as printed text.
     fn in_print_alone() -> Writable
         ensures { result ≡ in_print_alone }
     {
@@ -36,7 +36,7 @@ impl Writable {
         }
     }
 
-    // In the forms in which both are.
+    // The forms in which both are accepted.
     pub(crate) fn both(self, other: Writable) -> Writable
         ensures { result ≡ both self other }
     {
@@ -48,8 +48,8 @@ impl Writable {
 }
 
 impl Value {
-    /// In which forms it is never refused, whatever the records are. It is known at once, however
-    /// large the value is.
+    /// The forms in which the value is never refused, whatever the records are. Takes constant
+    /// time.
     pub fn writable(&self) -> Writable
         ensures { result ≡ writable_of self.now }
     {
@@ -71,7 +71,7 @@ impl Value {
         }
     }
 
-    // In which forms it is a key.
+    // The forms in which the value is accepted as a key.
     fn as_key(&self) -> Writable
         ensures { result ≡ as_key self.now }
     {
@@ -82,14 +82,14 @@ impl Value {
     }
 }
 
-// Whether JSON has the number.
+// Whether JSON can hold the number.
 fn fits_json(whole: i128) -> bool
     ensures { result ≡ fits_json whole }
 {
     -0x8000_0000_0000_0000 <= whole && whole <= 0xffff_ffff_ffff_ffff
 }
 
-// In which forms neither the key nor the value is refused.
+// The forms in which the key and the value are both accepted.
 pub(crate) fn pair_writable(pair: &(Value, Value)) -> Writable
     ensures { result ≡ both (as_key pair.now.0) (both (writable_of pair.now.0) (writable_of pair.now.1)) }
 {
