@@ -10,6 +10,9 @@ use Rattle.tm_syntax.specs.Code.{expr_code, macro_head, parameters_code, stateme
 use Rattle.tm_syntax.specs.Names.{parameter_names}
 use Rattle.tm_syntax.specs.Fragments.{Fragment, straight, ◌⨾◌, jump_out, bounded, fork, looped, break_loop, next_round, declares, jump}
 use Rattle.tm_syntax.specs.Fragments.{MacroHead, building}
+use Rattle.tm_syntax.specs.Blocks.{FoundBlock}
+use Rattle.tm_syntax.specs.Named.{Named, put_each}
+use Rattle.tm_shapes.specs.BlockCodes.{compiled_blocks}
 use Rattle.tm_generator.specs.declared.builder.Out.{Out}
 use Rattle.tm_generator.specs.declared.builder.Exit.{Exit}
 use Rattle.tm_generator.specs.declared.builder.Exit.TheVariants.{Leave, Next}
@@ -142,8 +145,9 @@ abbrev pub rounds : LoopFlags → Fragment → Builder → Builder
 rounds g c b = rounds_ended (outer_of b) (put c (loop_begun g b))
 
 -- ---------------------------------------------------------------- streams
-abbrev pub put_in : Fragment → StreamBuilder → StreamBuilder
-put_in c s = record s { code = put c s.code }
+-- A stream gets more code, and its blocks those that were found in it.
+abbrev pub put_in : Fragment → Named FoundBlock → StreamBuilder → StreamBuilder
+put_in c found s = record s { code = put c s.code; blocks = put_each (compiled_blocks found) s.blocks }
 
 -- without what was opened last
 abbrev pub rest_of : List Opened → List Opened

@@ -11,7 +11,8 @@ ghost use Rattle.tm_syntax.specs.declared.jump.JumpKind.TheVariants.{IfFalse};
 ghost use Rattle.tm_trees.specs.Trees.{statements};
 ghost use Rattle.tm_trees.specs.Trees.statement_forms.{AutoEscape, Block, Break};
 ghost use Rattle.tm_trees.specs.Trees.statement_forms.{CallBlock as CallTag, CaptureBlock};
-ghost use Rattle.tm_trees.specs.Trees.statement_forms.{Continue, Do, Extends, For, If, Macro as Declare, With};
+ghost use Rattle.tm_trees.specs.Trees.statement_forms.{Continue, Do, Extends, For, If, With};
+ghost use Rattle.tm_trees.specs.Trees.statement_forms.{Macro as Declare};
 
 use crate::builder::Builder;
 use crate::caches::number_caches;
@@ -36,24 +37,21 @@ use tm_syntax::{
 // A frame has room for the locals of all that is inlined, and clears them at its start: so what is
 // seldom is not.
 
-/// A stream that is being made: its code, and what is open where the code has come to.
+/// A stream that is being made: its code, what is open where the code has come to, and the blocks
+/// that were found so far, in this stream and in those around it.
 #[derive(Drop)]
 pub(crate) struct StreamBuilder {
     code: Builder,
     enclosing: Enclosing,
+    blocks: NameMap<BlockCode>,
 }
 
 /// Adds the code of a statement, and that of its blocks; AllocError.
 #[cycle(statements)]
-fn push_statement(
-    stream: &mut StreamBuilder,
-    blocks: &mut NameMap<BlockCode>,
-    statement: &Stmt,
-) -> Result<(), AllocError>
-    ensures code { OnOk result
-        (stream.new ≡ put_in (statement_code stream.old.enclosing statement.now) stream.old) }
-    ensures blocks { OnOk result
-        (blocks.new ≡ put_each (compiled_blocks (blocks_of statement.now)) blocks.old) }
+fn push_statement(stream: &mut StreamBuilder, statement: &Stmt) -> Result<(), AllocError>
+    ensures { OnOk result (stream.new ≡ put_in
+        (statement_code stream.old.enclosing statement.now)
+        (blocks_of statement.now) stream.old) }
 {
     match statement {
         Stmt::EmitRaw(text) => stream.code.emit(Instruction::EmitRaw(text.share()?)),
@@ -68,24 +66,24 @@ fn push_statement(
         Stmt::EmitBlock(name) => stream.code.emit(Instruction::CallBlock(name.share()?)),
         Stmt::EmitSuper => stream.code.emit(Instruction::FastSuper),
         Stmt::If(condition, body, other) => {
-            push_if(stream, blocks, condition.get(), body.as_slice(), other)
+            push_if(stream, condition.get(), body.as_slice(), other)
         }
-        Stmt::For(for_loop) => push_for(stream, blocks, for_loop),
+        Stmt::For(for_loop) => push_for(stream, for_loop),
         Stmt::Break => push_break(stream),
         Stmt::Continue => push_continue(stream),
         Stmt::Block(name, required, body) => {
-            push_call_of_block(stream, blocks, name, *required, body.as_slice())
+            push_call_of_block(stream, name, *required, body.as_slice())
         }
         Stmt::Extends(parent) => push_extends(stream, parent.get()),
         Stmt::Set(target, value) => push_set(&mut stream.code, target, value.get()),
         Stmt::CaptureBlock(becomes, filters, body) => {
-            push_capture(stream, blocks, becomes, filters.as_slice(), body.as_slice())
+            push_capture(stream, becomes, filters.as_slice(), body.as_slice())
         }
-        Stmt::With(given, body) => push_with(stream, blocks, given.as_slice(), body.as_slice()),
+        Stmt::With(given, body) => push_with(stream, given.as_slice(), body.as_slice()),
         Stmt::Do(call) => push_do(stream, call.get()),
-        Stmt::AutoEscape(value, body) => push_escaped(stream, blocks, value.get(), body.as_slice()),
-        Stmt::Macro(declared) => push_macro(stream, blocks, declared),
-        Stmt::CallBlock(tag) => push_call_block(stream, blocks, tag),
+        Stmt::AutoEscape(value, body) => push_escaped(stream, value.get(), body.as_slice()),
+        Stmt::Macro(declared) => push_macro(stream, declared),
+        Stmt::CallBlock(tag) => push_call_block(stream, tag),
         Stmt::Include(template, missing) => {
             push_include(&mut stream.code, template.get(), *missing)
         }
@@ -100,7 +98,7 @@ fn push_statement(
 #[inline(never)]
 fn push_break(stream: &mut StreamBuilder) -> Result<(), AllocError>
     ensures { OnOk result (stream.new ≡ put_in
-        (statement_code stream.old.enclosing Break) stream.old) }
+        (statement_code stream.old.enclosing Break) [] stream.old) }
 {
     stream.enclosing.close_all(&mut stream.code)?;
     stream.code.break_loop()
@@ -110,7 +108,7 @@ fn push_break(stream: &mut StreamBuilder) -> Result<(), AllocError>
 #[inline(never)]
 fn push_continue(stream: &mut StreamBuilder) -> Result<(), AllocError>
     ensures { OnOk result (stream.new ≡ put_in
-        (statement_code stream.old.enclosing Continue) stream.old) }
+        (statement_code stream.old.enclosing Continue) [] stream.old) }
 {
     stream.enclosing.close_all(&mut stream.code)?;
     stream.code.next_round()
@@ -120,7 +118,7 @@ fn push_continue(stream: &mut StreamBuilder) -> Result<(), AllocError>
 #[inline(never)]
 fn push_extends(stream: &mut StreamBuilder, parent: &Expr) -> Result<(), AllocError>
     ensures { OnOk result (stream.new ≡ put_in
-        (statement_code stream.old.enclosing (Extends parent.now)) stream.old) }
+        (statement_code stream.old.enclosing (Extends parent.now)) [] stream.old) }
 {
     push_expr(&mut stream.code, parent)?;
     stream.code.emit(Instruction::LoadBlocks)
@@ -130,7 +128,7 @@ fn push_extends(stream: &mut StreamBuilder, parent: &Expr) -> Result<(), AllocEr
 #[inline(never)]
 fn push_do(stream: &mut StreamBuilder, call: &Expr) -> Result<(), AllocError>
     ensures { OnOk result (stream.new ≡ put_in
-        (statement_code stream.old.enclosing (Do call.now)) stream.old) }
+        (statement_code stream.old.enclosing (Do call.now)) [] stream.old) }
 {
     push_expr(&mut stream.code, call)?;
     stream.code.emit(Instruction::DiscardTop)
@@ -141,17 +139,15 @@ fn push_do(stream: &mut StreamBuilder, call: &Expr) -> Result<(), AllocError>
 #[inline(never)]
 fn push_call_of_block(
     stream: &mut StreamBuilder,
-    blocks: &mut NameMap<BlockCode>,
     name: &Name,
     required: bool,
     body: &[Stmt],
 ) -> Result<(), AllocError>
-    ensures code { OnOk result (stream.new ≡ put_in
-        (statement_code stream.old.enclosing (Block name.now required body.now)) stream.old) }
-    ensures blocks { OnOk result (blocks.new
-        ≡ put_each (compiled_blocks (blocks_of (Block name.now required body.now))) blocks.old) }
+    ensures { OnOk result (stream.new ≡ put_in
+        (statement_code stream.old.enclosing (Block name.now required body.now))
+        (blocks_of (Block name.now required body.now)) stream.old) }
 {
-    push_block(stream.code.alloc(), blocks, name, required, body)?;
+    push_block(stream, name, required, body)?;
     stream.code.emit(Instruction::CallBlock(name.share()?))
 }
 
@@ -160,19 +156,17 @@ fn push_call_of_block(
 #[inline(never)]
 fn push_capture(
     stream: &mut StreamBuilder,
-    blocks: &mut NameMap<BlockCode>,
     becomes: &CaptureUse,
     filters: &[Step],
     body: &[Stmt],
 ) -> Result<(), AllocError>
-    ensures code { OnOk result (stream.new ≡ put_in (statement_code stream.old.enclosing
-        (CaptureBlock becomes.now filters.now body.now)) stream.old) }
-    ensures blocks { OnOk result (blocks.new ≡ put_each
-        (compiled_blocks (blocks_of (CaptureBlock becomes.now filters.now body.now))) blocks.old) }
+    ensures { OnOk result (stream.new ≡ put_in
+        (statement_code stream.old.enclosing (CaptureBlock becomes.now filters.now body.now))
+        (blocks_of (CaptureBlock becomes.now filters.now body.now)) stream.old) }
 {
     let capture = Instruction::BeginCapture(CaptureMode::Capture);
     stream.code.emit(capture)?;
-    push_within(stream, blocks, Opened::Capture, body)?;
+    push_within(stream, Opened::Capture, body)?;
     stream.code.emit(Instruction::EndCapture)?;
     push_filters(&mut stream.code, filters)?;
     push_use(&mut stream.code, becomes)
@@ -183,38 +177,30 @@ fn push_capture(
 #[inline(never)]
 fn push_with(
     stream: &mut StreamBuilder,
-    blocks: &mut NameMap<BlockCode>,
     given: &[Assignment],
     body: &[Stmt],
 ) -> Result<(), AllocError>
-    ensures code { OnOk result (stream.new ≡ put_in
-        (statement_code stream.old.enclosing (With given.now body.now)) stream.old) }
-    ensures blocks { OnOk result
-        (blocks.new ≡ put_each (compiled_blocks (blocks_of (With given.now body.now))) blocks.old) }
+    ensures { OnOk result (stream.new ≡ put_in
+        (statement_code stream.old.enclosing (With given.now body.now))
+        (blocks_of (With given.now body.now)) stream.old) }
 {
     stream.code.emit(Instruction::PushWith)?;
     push_assignments(&mut stream.code, given)?;
-    push_within(stream, blocks, Opened::Scope, body)?;
+    push_within(stream, Opened::Scope, body)?;
     stream.code.emit(Instruction::PopFrame)
 }
 
 /// Adds the code of an `autoescape`, like that of a statement; AllocError.
 #[cycle(statements)]
 #[inline(never)]
-fn push_escaped(
-    stream: &mut StreamBuilder,
-    blocks: &mut NameMap<BlockCode>,
-    value: &Expr,
-    body: &[Stmt],
-) -> Result<(), AllocError>
-    ensures code { OnOk result (stream.new ≡ put_in
-        (statement_code stream.old.enclosing (AutoEscape value.now body.now)) stream.old) }
-    ensures blocks { OnOk result
-        (blocks.new ≡ put_each (compiled_blocks (blocks_of (AutoEscape value.now body.now))) blocks.old) }
+fn push_escaped(stream: &mut StreamBuilder, value: &Expr, body: &[Stmt]) -> Result<(), AllocError>
+    ensures { OnOk result (stream.new ≡ put_in
+        (statement_code stream.old.enclosing (AutoEscape value.now body.now))
+        (blocks_of (AutoEscape value.now body.now)) stream.old) }
 {
     push_expr(&mut stream.code, value)?;
     stream.code.emit(Instruction::PushAutoEscape)?;
-    push_within(stream, blocks, Opened::Escape, body)?;
+    push_within(stream, Opened::Escape, body)?;
     stream.code.emit(Instruction::PopAutoEscape)
 }
 
@@ -223,25 +209,23 @@ fn push_escaped(
 #[inline(never)]
 fn push_if(
     stream: &mut StreamBuilder,
-    blocks: &mut NameMap<BlockCode>,
     condition: &Expr,
     body: &[Stmt],
     other: &Option<Items<Stmt>>,
 ) -> Result<(), AllocError>
-    ensures code { OnOk result (stream.new ≡ put_in
-        (statement_code stream.old.enclosing (If condition.now body.now other.now)) stream.old) }
-    ensures blocks { OnOk result (blocks.new
-        ≡ put_each (compiled_blocks (blocks_of (If condition.now body.now other.now))) blocks.old) }
+    ensures { OnOk result (stream.new ≡ put_in
+        (statement_code stream.old.enclosing (If condition.now body.now other.now))
+        (blocks_of (If condition.now body.now other.now)) stream.old) }
 {
     push_expr(&mut stream.code, condition)?;
     let Some(other) = other else {
-        return push_if_true(stream, blocks, body);
+        return push_if_true(stream, body);
     };
     let outer = stream.code.begin();
     stream.code.jump_out(JumpKind::IfFalse)?;
-    push_statements(stream, blocks, body)?;
+    push_statements(stream, body)?;
     let over = stream.code.second(outer)?;
-    push_statements(stream, blocks, other.as_slice())?;
+    push_statements(stream, other.as_slice())?;
     stream.code.join(over);
     Ok(())
 }
@@ -249,19 +233,14 @@ fn push_if(
 /// Adds the code of statements that run where the topmost value is true, and that of their blocks;
 /// AllocError.
 #[cycle(statements)]
-fn push_if_true(
-    stream: &mut StreamBuilder,
-    blocks: &mut NameMap<BlockCode>,
-    body: &[Stmt],
-) -> Result<(), AllocError>
-    ensures code { OnOk result (stream.new ≡ put_in
-        (over IfFalse (statements_code stream.old.enclosing (statements body.now))) stream.old) }
-    ensures blocks { OnOk result
-        (blocks.new ≡ put_each (compiled_blocks (blocks_in (statements body.now))) blocks.old) }
+fn push_if_true(stream: &mut StreamBuilder, body: &[Stmt]) -> Result<(), AllocError>
+    ensures { OnOk result (stream.new ≡ put_in
+        (over IfFalse (statements_code stream.old.enclosing (statements body.now)))
+        (blocks_in (statements body.now)) stream.old) }
 {
     let outer = stream.code.begin();
     stream.code.jump_out(JumpKind::IfFalse)?;
-    push_statements(stream, blocks, body)?;
+    push_statements(stream, body)?;
     stream.code.bound(outer);
     Ok(())
 }
@@ -269,15 +248,10 @@ fn push_if_true(
 /// Adds the code of a loop, like that of a statement; AllocError.
 #[cycle(statements)]
 #[inline(never)]
-fn push_for(
-    stream: &mut StreamBuilder,
-    blocks: &mut NameMap<BlockCode>,
-    for_loop: &ForLoop,
-) -> Result<(), AllocError>
-    ensures code { OnOk result (stream.new
-        ≡ put_in (statement_code stream.old.enclosing (For for_loop.now)) stream.old) }
-    ensures blocks { OnOk result
-        (blocks.new ≡ put_each (compiled_blocks (blocks_of (For for_loop.now))) blocks.old) }
+fn push_for(stream: &mut StreamBuilder, for_loop: &ForLoop) -> Result<(), AllocError>
+    ensures { OnOk result (stream.new ≡ put_in
+        (statement_code stream.old.enclosing (For for_loop.now))
+        (blocks_of (For for_loop.now)) stream.old) }
 {
     let iterable = for_loop.iterable.get();
     push_iterable(
@@ -286,30 +260,26 @@ fn push_for(
         iterable,
         &for_loop.condition,
     )?;
-    push_rounds(stream, blocks, for_loop)?;
+    push_rounds(stream, for_loop)?;
     let Some(other) = &for_loop.other else {
         return stream.code.emit(Instruction::PopLoopFrame);
     };
     stream.code.emit(Instruction::PushDidNotIterate)?;
     stream.code.emit(Instruction::PopLoopFrame)?;
-    push_if_true(stream, blocks, other.as_slice())
+    push_if_true(stream, other.as_slice())
 }
 
 /// Adds the code of a loop's rounds, and that of their blocks; AllocError.
 #[cycle(statements)]
 #[inline(never)]
-fn push_rounds(
-    stream: &mut StreamBuilder,
-    blocks: &mut NameMap<BlockCode>,
-    for_loop: &ForLoop,
-) -> Result<(), AllocError>
-    ensures code { OnOk result (stream.new ≡ record stream.old {
+fn push_rounds(stream: &mut StreamBuilder, for_loop: &ForLoop) -> Result<(), AllocError>
+    ensures { OnOk result (stream.new ≡ record stream.old {
       code = rounds (for_flags for_loop.now.recursive)
           (target_code for_loop.now.target ⨾ statements_code [] (statements for_loop.now.body))
           stream.old.code;
+      blocks = put_each (compiled_blocks (blocks_in (statements for_loop.now.body)))
+          stream.old.blocks;
     }) }
-    ensures blocks { OnOk result (blocks.new
-        ≡ put_each (compiled_blocks (blocks_in (statements for_loop.now.body))) blocks.old) }
 {
     let flags = LoopFlags {
         variable: true,
@@ -317,31 +287,20 @@ fn push_rounds(
     };
     let outer = stream.code.begin_loop(flags)?;
     push_target(&mut stream.code, &for_loop.target)?;
-    push_alone(stream, blocks, for_loop.body.as_slice())?;
+    push_alone(stream, for_loop.body.as_slice())?;
     stream.code.end_rounds(outer)
 }
 
 /// Adds the code of a macro, like that of a statement; AllocError.
 #[cycle(statements)]
 #[inline(never)]
-fn push_macro(
-    stream: &mut StreamBuilder,
-    blocks: &mut NameMap<BlockCode>,
-    declared: &Macro,
-) -> Result<(), AllocError>
-    ensures code { OnOk result (stream.new
-        ≡ put_in (statement_code stream.old.enclosing (Declare declared.now)) stream.old) }
-    ensures blocks { OnOk result
-        (blocks.new ≡ put_each (compiled_blocks (blocks_of (Declare declared.now))) blocks.old) }
+fn push_macro(stream: &mut StreamBuilder, declared: &Macro) -> Result<(), AllocError>
+    ensures { OnOk result (stream.new ≡ put_in
+        (statement_code stream.old.enclosing (Declare declared.now))
+        (blocks_of (Declare declared.now)) stream.old) }
 {
     let parameters = declared.parameters.as_slice();
-    push_declared(
-        stream,
-        blocks,
-        &declared.name,
-        parameters,
-        declared.body.as_slice(),
-    )?;
+    push_declared(stream, &declared.name, parameters, declared.body.as_slice())?;
     let name = declared.name.share()?;
     stream.code.emit(Instruction::StoreLocal(name))
 }
@@ -349,21 +308,16 @@ fn push_macro(
 /// Adds the code of a call that is emitted, like that of a statement; AllocError.
 #[cycle(statements)]
 #[inline(never)]
-fn push_call_block(
-    stream: &mut StreamBuilder,
-    blocks: &mut NameMap<BlockCode>,
-    tag: &CallBlock,
-) -> Result<(), AllocError>
-    ensures code { OnOk result (stream.new
-        ≡ put_in (statement_code stream.old.enclosing (CallTag tag.now)) stream.old) }
-    ensures blocks { OnOk result
-        (blocks.new ≡ put_each (compiled_blocks (blocks_of (CallTag tag.now))) blocks.old) }
+fn push_call_block(stream: &mut StreamBuilder, tag: &CallBlock) -> Result<(), AllocError>
+    ensures { OnOk result (stream.new ≡ put_in
+        (statement_code stream.old.enclosing (CallTag tag.now))
+        (blocks_of (CallTag tag.now)) stream.old) }
 {
     let call = tag.call.get();
     let mut open = push_call_open(&mut stream.code, call)?;
     let name = push_caller(&mut stream.code)?;
     let parameters = tag.parameters.as_slice();
-    push_declared(stream, blocks, &name, parameters, tag.body.as_slice())?;
+    push_declared(stream, &name, parameters, tag.body.as_slice())?;
     open.add_name()?;
     push_call_end(&mut stream.code, call, &open)?;
     stream.code.emit(Instruction::Emit)
@@ -374,20 +328,18 @@ fn push_call_block(
 #[inline(never)]
 fn push_declared(
     stream: &mut StreamBuilder,
-    blocks: &mut NameMap<BlockCode>,
     name: &Name,
     parameters: &[Parameter],
     body: &[Stmt],
 ) -> Result<(), AllocError>
-    ensures code { OnOk result (stream.new
-        ≡ put_in (macro_code name.now parameters.now (statements body.now)) stream.old) }
-    ensures blocks { OnOk result
-        (blocks.new ≡ put_each (compiled_blocks (blocks_in (statements body.now))) blocks.old) }
+    ensures { OnOk result (stream.new ≡ put_in
+        (macro_code name.now parameters.now (statements body.now))
+        (blocks_in (statements body.now)) stream.old) }
 {
     let names = macro_names(stream.code.alloc(), parameters, body)?;
     let around = stream.code.begin_body()?;
     push_parameters(&mut stream.code, parameters)?;
-    push_alone(stream, blocks, body)?;
+    push_alone(stream, body)?;
     let entry = stream.code.end_body(around)?;
     push_building(&mut stream.code, name, parameters, &names, entry)
 }
@@ -395,19 +347,14 @@ fn push_declared(
 /// Adds the code of statements that see nothing of what is open around them, and that of their
 /// blocks; AllocError.
 #[cycle(statements)]
-fn push_alone(
-    stream: &mut StreamBuilder,
-    blocks: &mut NameMap<BlockCode>,
-    body: &[Stmt],
-) -> Result<(), AllocError>
-    ensures code { OnOk result
-        (stream.new ≡ put_in (statements_code [] (statements body.now)) stream.old) }
-    ensures blocks { OnOk result
-        (blocks.new ≡ put_each (compiled_blocks (blocks_in (statements body.now))) blocks.old) }
+fn push_alone(stream: &mut StreamBuilder, body: &[Stmt]) -> Result<(), AllocError>
+    ensures { OnOk result (stream.new ≡ put_in
+        (statements_code [] (statements body.now))
+        (blocks_in (statements body.now)) stream.old) }
 {
     let inner = Enclosing::new(stream.code.alloc());
     let enclosing = mem::replace(&mut stream.enclosing, inner);
-    push_statements(stream, blocks, body)?;
+    push_statements(stream, body)?;
     stream.enclosing = enclosing;
     Ok(())
 }
@@ -416,37 +363,26 @@ fn push_alone(
 /// AllocError.
 #[cycle(statements)]
 #[inline(never)]
-fn push_within(
-    stream: &mut StreamBuilder,
-    blocks: &mut NameMap<BlockCode>,
-    opened: Opened,
-    body: &[Stmt],
-) -> Result<(), AllocError>
-    ensures code { OnOk result (stream.new ≡ put_in
-        (statements_code (opened ∷ stream.old.enclosing) (statements body.now)) stream.old) }
-    ensures blocks { OnOk result
-        (blocks.new ≡ put_each (compiled_blocks (blocks_in (statements body.now))) blocks.old) }
+fn push_within(stream: &mut StreamBuilder, opened: Opened, body: &[Stmt]) -> Result<(), AllocError>
+    ensures { OnOk result (stream.new ≡ put_in
+        (statements_code (opened ∷ stream.old.enclosing) (statements body.now))
+        (blocks_in (statements body.now)) stream.old) }
 {
     stream.enclosing.begin(opened)?;
-    push_statements(stream, blocks, body)?;
+    push_statements(stream, body)?;
     stream.enclosing.end();
     Ok(())
 }
 
 /// Adds the code of statements, and that of their blocks; AllocError.
 #[cycle(statements)]
-fn push_statements(
-    stream: &mut StreamBuilder,
-    blocks: &mut NameMap<BlockCode>,
-    body: &[Stmt],
-) -> Result<(), AllocError>
-    ensures code { OnOk result (stream.new ≡ put_in
-        (statements_code stream.old.enclosing (statements body.now)) stream.old) }
-    ensures blocks { OnOk result
-        (blocks.new ≡ put_each (compiled_blocks (blocks_in (statements body.now))) blocks.old) }
+fn push_statements(stream: &mut StreamBuilder, body: &[Stmt]) -> Result<(), AllocError>
+    ensures { OnOk result (stream.new ≡ put_in
+        (statements_code stream.old.enclosing (statements body.now))
+        (blocks_in (statements body.now)) stream.old) }
 {
     for statement in body {
-        push_statement(stream, blocks, statement)?;
+        push_statement(stream, statement)?;
     }
     Ok(())
 }
@@ -455,18 +391,19 @@ fn push_statements(
 #[cycle(statements)]
 #[inline(never)]
 fn push_block(
-    alloc: Global,
-    blocks: &mut NameMap<BlockCode>,
+    stream: &mut StreamBuilder,
     name: &Name,
     required: bool,
     body: &[Stmt],
 ) -> Result<(), AllocError>
-    ensures { OnOk result (blocks.new
-        ≡ put_named name.now (block_code (found_block required (body_of (statements body.now))))
-        (put_each (compiled_blocks (blocks_in (statements body.now))) blocks.old)) }
+    ensures { OnOk result (stream.new ≡ record stream.old {
+      blocks = put_named name.now
+          (block_code (found_block required (body_of (statements body.now))))
+          (put_each (compiled_blocks (blocks_in (statements body.now))) stream.old.blocks);
+    }) }
 {
-    let code = stream(alloc, blocks, body)?;
-    add_block(blocks, name, BlockCode { required, code })
+    let code = self::stream(stream.code.alloc(), &mut stream.blocks, body)?;
+    add_block(&mut stream.blocks, name, BlockCode { required, code })
 }
 
 /// Adds a block's own stream by the block's name; AllocError.
@@ -496,9 +433,15 @@ pub fn stream(
     let mut stream = StreamBuilder {
         code: Builder::new(alloc),
         enclosing: Enclosing::new(alloc),
+        blocks: mem::replace(blocks, NameMap::new(alloc)),
     };
-    push_statements(&mut stream, blocks, body)?;
-    let StreamBuilder { code, enclosing: _ } = stream;
+    push_statements(&mut stream, body)?;
+    let StreamBuilder {
+        code,
+        enclosing: _,
+        blocks: found,
+    } = stream;
+    *blocks = found;
     let mut instructions = code.finish();
     number_caches(alloc, &mut instructions)?;
     the_code_of_trees_is_accepted();

@@ -1,8 +1,6 @@
 use Rattle.std.proofs.Common.{◌≡◌, ◌+◌, ◌*◌, drop}
 use Rattle.tm_syntax.specs.Blocks.{blocks_in}
-use Rattle.tm_shapes.specs.BlockCodes.{compiled_blocks}
 use Rattle.tm_syntax.specs.Code.{statements_code}
-use Rattle.tm_syntax.specs.Named.{put_each}
 use Rattle.tm_trees.specs.Trees.{statements}
 use Rattle.tm_generator.specs.Building.{put_in}
 use Rattle.tm_trees.specs.Trees.statement_forms.{AutoEscape, Block, CallBlock, CaptureBlock, For, If, Macro, With}
@@ -13,10 +11,8 @@ abbrev pub invariant-push_statements-loop-statement : goal.invariant-push_statem
 invariant-push_statements-loop-statement l =
     let left = drop l.statement-index l.body in
     (l.stream.enclosing ≡ l.fn.stream.enclosing)
-    × (put_in (statements_code l.fn.stream.enclosing (statements left)) l.stream
-    ≡ put_in (statements_code l.fn.stream.enclosing (statements l.body)) l.fn.stream)
-    × (put_each (compiled_blocks (blocks_in (statements left))) l.blocks
-    ≡ put_each (compiled_blocks (blocks_in (statements l.body))) l.fn.blocks)
+    × (put_in (statements_code l.fn.stream.enclosing (statements left)) (blocks_in (statements left)) l.stream
+    ≡ put_in (statements_code l.fn.stream.enclosing (statements l.body)) (blocks_in (statements l.body)) l.fn.stream)
 
 -- a list of statements is as deep as the deepest of them
 abbrev pub decreases-push_statements : goal.decreases-push_statements
