@@ -46,6 +46,8 @@ def take_proved(made, crates):
     made.Crate.allowed = made.handles_of(ROOT)
     held, missing = made.Kept(crates), []
     for crate in crates:
+        # (what is there already would make a kept library look damaged)
+        shutil.rmtree(f"{crate.folder}/out/rlib", ignore_errors=True)
         if any(it.name in missing for it in crate.below()) or not held.give(crate, False, held.key(crate)):
             missing.append(crate.name)
         else:

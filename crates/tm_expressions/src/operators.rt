@@ -1,6 +1,6 @@
 //! Binary operators, parsed in one loop. Operators that wait for their right operand are in a list,
 //! so only brackets, prefixes and the like use the machine's stack.
-ghost use Rattle.std.specs.Prelude.{◌≡◌, ◌++◌, ◌+◌, [], ◌∷◌, ◌<◌, ◌≤◌, length, true, is_some, Some, None, IfOk, MatchResult};
+ghost use Rattle.std.specs.Prelude.{◌≡◌, ◌++◌, ◌+◌, ℕ, [], ◌∷◌, ◌<◌, ◌≤◌, length, true, is_some, Some, None, IfOk, MatchResult};
 ghost use Rattle.tm_expressions.specs.Parses.{Leads, Parses};
 ghost use Rattle.tm_expressions.specs.Grammar as grammar;
 ghost use Rattle.tm_expressions.specs.Grammar.{inside, operand};
@@ -129,7 +129,7 @@ impl Cursor<'_> {
             end,
         };
         'turns: loop {
-            reached = match self.turn(alloc, depth, reached, &mut waiting)? {
+            reached = match self.turn(alloc, reached, &mut waiting)? {
                 Turn::After(reached) => reached,
                 Turn::Postfix(value, end) => self.after_postfix(alloc, depth, value, end)?,
                 Turn::Operand(level) => self.right_side(alloc, depth, level)?,
@@ -186,31 +186,30 @@ impl Cursor<'_> {
     fn turn(
         &mut self,
         alloc: Global,
-        depth: u8,
         reached: Reached,
         waiting: &mut Items<Waiting>,
     ) -> Result<Turn, Error>
         requires { AllAbove waiting.old }
-        ensures left { Leads result self.new (λ t. (left (inside depth) waiting.new t).reads)
+        ensures left { (depth : ℕ) → Leads result self.new
+            (λ t. (left (inside depth) waiting.new t).reads)
             ((reached_from (inside depth) waiting.old reached).reads self.old) }
         ensures less { IfOk result
             (λ t. IsLess t self.new waiting.new (size self.old waiting.old reached.level)) }
         ensures above { IfOk result (λ t. AllAbove waiting.new) }
     {
         let Some(level) = self.link_level(reached.level, reached.end) else {
-            return self.after_right(alloc, depth, reached.value, waiting);
+            return self.after_right(alloc, reached.value, waiting);
         };
         if level == POSTFIX_LEVEL {
             return Ok(Turn::Postfix(reached.value, reached.end));
         }
-        self.after_operator(alloc, depth, level, reached, waiting)
+        self.after_operator(alloc, level, reached, waiting)
     }
 
     /// After the first operator of a level: its right operand.
     fn after_operator(
         &mut self,
         alloc: Global,
-        depth: u8,
         level: u8,
         reached: Reached,
         waiting: &mut Items<Waiting>,
@@ -218,13 +217,13 @@ impl Cursor<'_> {
         requires above { AllAbove waiting.old }
         requires found { GoesOnAt (Some level) reached.level reached.end self.old }
         requires operator { postfix_level < level }
-        ensures left { Leads result self.new (λ t. (left (inside depth) waiting.new t).reads)
+        ensures left { (depth : ℕ) → Leads result self.new
+            (λ t. (left (inside depth) waiting.new t).reads)
             ((reached_from (inside depth) waiting.old reached).reads self.old) }
         ensures less { IfOk result
             (λ t. IsLess t self.new waiting.new (size self.old waiting.old reached.level)) }
         ensures above { IfOk result (λ t. AllAbove waiting.new) }
     {
-        let _depth = depth;
         let next = level + 1;
         let Some(link) = self.take_link(level) else {
             return Ok(Turn::After(Reached {
@@ -254,18 +253,17 @@ impl Cursor<'_> {
     fn after_right(
         &mut self,
         alloc: Global,
-        depth: u8,
         right: Boxed<Expr>,
         waiting: &mut Items<Waiting>,
     ) -> Result<Turn, Error>
         requires { AllAbove waiting.old }
-        ensures left { Leads result self.new (λ t. (left (inside depth) waiting.new t).reads)
+        ensures left { (depth : ℕ) → Leads result self.new
+            (λ t. (left (inside depth) waiting.new t).reads)
             ((resumed_all (inside depth) waiting.old right).reads self.old) }
         ensures less { IfOk result
             (λ t. IsLess t self.new waiting.new (size self.old waiting.old 256)) }
         ensures above { IfOk result (λ t. AllAbove waiting.new) }
     {
-        let _depth = depth;
         let Some(last) = waiting.pop() else {
             return Ok(Turn::Whole(right));
         };

@@ -163,7 +163,7 @@ impl StateData {
         ensures lies { FurtherLies (H.program host.now).host.limit result self.old self.new }
     {
         match &value.node {
-            Node::Function(number) => self.further_function(alloc, host, *number, args, test),
+            Node::Function(number) => self.further_function(alloc, host, *number, args),
             Node::Macro(declared) => {
                 self.further_macro(alloc, host, declared, args, levels, test)
             }
@@ -178,15 +178,12 @@ impl StateData {
         host: &H,
         number: usize,
         args: &[Value],
-        test: bool,
     ) -> Result<Further, Error>
-        ensures comes { (make : _) → PrintedComes make test result
+        ensures comes { (make : _) (test : _) → PrintedComes make test result
             (as_printed (value_call make 0 (H.program host.now).host
             (function number) args.now self.old)) self.new }
         ensures lies { FurtherLies (H.program host.now).host.limit result self.old self.new }
     {
-        // It doesn't matter here whether a test asked.
-        let _test = test;
         match self.function_answer(alloc, host, number, args) {
             Ok(answer) => Ok(Further::Answered(answer)),
             Err(error) => Err(error),
