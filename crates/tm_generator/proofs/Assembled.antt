@@ -1,4 +1,4 @@
--- What a builder has made for code is its instructions, as they are assembled.
+-- A builder makes the instructions into which code is assembled.
 use Rattle.std.proofs.Common.{◌≡◌, ℕ, ◌+◌, List, [], ◌∷◌, ◌++◌, length, refl, sym, ap, ◌∙◌, arith, append_assoc, length-append}
 use Rattle.std.specs.Prelude.{slice_set}
 use Rattle.std.proofs.Math.Seq.{set-append_seam}
@@ -18,7 +18,7 @@ use Rattle.tm_generator.proofs.Settled.{outs_in, exits_in, settles, leads}
 abbrev unset : Labels
 unset = ending_at 0
 
--- what code adds to what is made
+-- a builder after it has added code
 abbrev added : Fragment → Builder → Builder
 added c b =
     let pc = length b.code in
@@ -32,7 +32,7 @@ built {code1 = code1} {outs = outs} {outs1 = outs1} {exits = exits} b x y z =
     ∙ ap {B = Builder} (λ o. record b { code = code1; outs = o; exits = exits }) y
     ∙ ap {B = Builder} (λ e. record b { code = code1; outs = outs1; exits = e }) z
 
--- where code is put its end is
+-- the end of code that was added
 long : (l : Labels) (xs : List Instruction) (c : Fragment) → length (xs ++ assemble l (length xs) c) ≡ beyond (length xs) c
 long l xs c = length-append xs (assemble l (length xs) c) ∙ sym (beyond_is l (length xs) c)
 
@@ -41,7 +41,7 @@ unfolding with_one
 all_added [] b = sym (built b (append-nil b.code) (append-nil b.outs) (append-nil b.exits))
 all_added (x ∷ is) b = all_added is (with_one x b) ∙ built b (append_assoc b.code (x ∷ []) is) refl refl
 
--- one part, and then another
+-- one part after another
 both_added : (c d : Fragment) (b : Builder) → added d (added c b) ≡ added (c ⨾ d) b
 both_added c d b =
     let pc = length b.code in
@@ -53,7 +53,7 @@ both_added c d b =
     ∙ built b (append_assoc b.code (assemble unset pc c) (assemble unset (beyond pc c) d))
     (append_assoc b.outs (outs_in pc c) (outs_in (beyond pc c) d)) (append_assoc b.exits (exits_in pc c) (exits_in (beyond pc c) d))
 
--- the jumps out of what was put last lead to a place
+-- sets the jumps out of the code that was added last
 settled_here : (c : Fragment) (base tail : List Instruction) (to : ℕ) →
     settled (base ++ (assemble unset (length base) c ++ tail)) (outs_in (length base) c) to
     ≡ base ++ (assemble (outward to unset) (length base) c ++ tail)
@@ -71,7 +71,7 @@ bounded_added c b =
     ∙ ap (λ n. b.code ++ assemble (outward n unset) pc c) (long unset b.code c))
     (sym (append-nil b.outs)) refl
 
--- the first of two, with its jump over the second, which leads nowhere yet
+-- the first of two parts, with the jump over the second, whose target isn't set yet
 abbrev first_of : Fragment → Builder → Builder
 first_of c b =
     let pc = length b.code in
@@ -126,7 +126,7 @@ rounds_of g c b =
       outs = b.outs ++ outs_in (again + 1) c;
     }
 
--- code with the jumps out of the last round set
+-- sets the exits of the round that was added last
 led_here : (c : Fragment) (base tail : List Instruction) (pc again after : ℕ) → length base ≡ pc →
     led (base ++ (assemble unset pc c ++ tail)) (exits_in pc c) again after ≡ base ++ (assemble (inward again after unset) pc c ++ tail)
 led_here c base tail pc again after at = (leads again after unset pc c).set base tail at
@@ -213,7 +213,7 @@ finished_here c base =
     ∙ ap (λ n. base ++ assemble (ending_at n) pc c) (long unset base c)
 
 -- ---------------------------------------------------------------- the bodies of macros
--- code that is jumped over, with what returns from it
+-- a body with the jump over it and its `Return`
 abbrev body_of : Fragment → Builder → Builder
 body_of c b =
     let pc = length b.code in
@@ -276,7 +276,7 @@ put_is (declares m c) b =
     ap {B = Builder} (λ k. with_all (building m.free m (around_of b).entry) (body_ended (around_of b) k)) (put_is c (body_begun b))
     ∙ ap {B = Builder} (λ k. with_all (building m.free m (around_of b).entry) k) (body_added c b) ∙ declared_added m c b
 
--- what is made for code from nothing, once all jumps out of it lead to its end
+-- the code of an empty builder, after all jumps out of it were set to its end
 pub made_whole : (c : Fragment) (b : Builder) → b.code ≡ [] → b.outs ≡ [] → b.exits ≡ [] → finished (put c b) ≡ assembled c
 made_whole c b x y z =
     ap (λ (m : Builder). finished m) (put_is c b ∙ built b

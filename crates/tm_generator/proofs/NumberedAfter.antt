@@ -1,4 +1,4 @@
--- Code whose names get their cache numbers one after the other.
+-- Code whose names are numbered one after the other.
 use Rattle.std.proofs.Common.{◌≡◌, ℕ, zero, suc, ◌+◌, ◌≤◌, List, [], ◌∷◌, length, Option, None, Some, refl, sym, ap, ◌∙◌, arith}
 use Rattle.std.proofs.Common.{◌<◌, subst, get_or, length-set}
 use Rattle.std.proofs.lemmas.Option.{slice_get_read}
@@ -8,7 +8,7 @@ use Rattle.tm_trees.specs.Instructions.{Instruction}
 use Rattle.tm_generator.specs.Caches.{IsNumberedOne}
 use Rattle.tm_generator.specs.declared.caches.CacheNames.{CacheNames}
 
--- code of which all from a place on gets its numbers yet
+-- numbers the instructions from a place on; those before it are numbered already
 abbrev pub numbered_after : ℕ → List (List ℕ) → List (List ℕ) → List Instruction → List Instruction
 numbered_after zero fs ts is = numbered_from fs ts is
 numbered_after (suc n) fs ts [] = []
@@ -44,12 +44,12 @@ all_numbered zero fs ts (x ∷ is) past = absurd (omega (arith, past))
 all_numbered (suc n) fs ts [] past = refl
 all_numbered (suc n) fs ts (x ∷ is) past = ap (λ l. x ∷ l) (all_numbered n fs ts is (omega (arith, past)))
 
--- what is put there, or nothing
+-- the code with a new instruction at a place, if there is one
 abbrev pub placed : Option Instruction → ℕ → List Instruction → List Instruction
 placed (Some y) n is = slice_set is n y
 placed None n is = is
 
--- what the loop over code keeps, after what is done with one more
+-- The invariant of the loop over code holds after one more instruction.
 pub goes_on : (n : ℕ) (is js goal : List Instruction) (x : Instruction) (old new : CacheNames) (made : Option Instruction) → n < length is →
     x ≡ get_or is n x → IsNumberedOne old new x made → js ≡ placed made n is →
     numbered_after n old.filters old.tests is ≡ goal →

@@ -43,7 +43,7 @@ lists-ended : {n : _} (before : ℕ) (xs : Row_of-Argument n) (m : ℕ) →
 lists-ended before no_argument m = omega (arith)
 lists-ended before (argument a rest) m = omega (arith, lists-ended (row_after before a) rest m)
 
--- where none is spread there is one row
+-- if no argument is spread, there is one row
 one_row : {n : _} (before : ℕ) (xs : Row_of-Argument n) → has_spread xs ≡ false → list_open before xs ≡ count xs + before
 one_row before no_argument h = omega (arith)
 one_row before (argument (plain x) rest) h = omega (arith, one_row (before + 1) rest h)
@@ -71,7 +71,7 @@ module _ {n m : _} (end : RowEnd) (before : ℕ) (given : Row_of-Argument n) (na
   named_put b = ap {B = Builder} (λ d. put (straight (merged_code (has_spread_keyword named) (count_maps end 0 named))) d) (keywords-open end 0 named b)
       ∙ ap {B = Builder} (λ j. put (straight (merged_code (has_spread_keyword named) j)) (put (end.code (map_open 0 named)) (put (keywords_code no_end 0 named) b))) same_maps
 
-  -- all before the last rows end, and what is put after that
+  -- the arguments, with the end of the last row of keyword arguments and the merged maps
   abbrev rows_put : Builder → Builder
   rows_put b = put (straight (merged_code (has_spread_keyword named) (maps_in end call))) (put (end.code (map_open 0 named))
       (put (keywords_code no_end 0 named) (put (listing_code before given) b)))
@@ -106,7 +106,7 @@ module _ {n m : _} (end : RowEnd) (before : ℕ) (given : Row_of-Argument n) (na
   pub count-open : passed_count end before given named ≡ ending_count end call
   count-open = counted (has_spread given) refl
 
--- where `caller` is the last keyword
+-- `caller` as the last keyword argument
 one_more : (n : ℕ) → suc n ≡ n + 1
 one_more n = omega (arith)
 
@@ -126,7 +126,7 @@ caller-count c call =
 
 -- ---------------------------------------------------------------- expressions that are calls
 module _ (end : RowEnd) where
-  -- a call, and the two parts of its code
+  -- The two parts make the whole code of a call.
   abbrev pub Parts : Fragment → (Option ℕ → List Instruction) → OpenCall → Fragment → Type 0
   Parts whole last call first = (b : Builder) →
       put whole b ≡ put (straight (last (ending_count end call))) (put (ending end call) (put first b))
@@ -171,7 +171,7 @@ module _ (end : RowEnd) where
   call-parts (chained a _ ss) b = steps-parts ss (put (expr_code a) b)
   call-parts (conditional a _ cs) b = alone (expr_code (conditional a _ cs)) b
 
--- ---------------------------------------------------------------- as the program holds them
+-- ---------------------------------------------------------------- in the program's representation
 module _ (n : ℕ) (xs : List Argument) (ks : List Keyword) (call : OpenCall) (is : call ≡ opened_call n (arguments xs) (keywords ks)) where
   pub made-passed : (b m1 m2 : Builder) → m1 ≡ put (open_code n (arguments xs) (keywords ks)) b → m2 ≡ put (ending row_end call) m1 →
       m2 ≡ put (passing_code row_end n (arguments xs) (keywords ks)) b
@@ -214,7 +214,7 @@ end-last_step [] last n = refl
 end-last_step (s ∷ []) last n = refl
 end-last_step (s ∷ t ∷ more) last n = end-last_step (t ∷ more) last n
 
--- where there are no steps, and where there is a last one
+-- no steps, or steps with a last one
 no_steps : (ss : List Step) → length ss ≡ 0 → ss ≡ []
 no_steps [] e = refl
 no_steps (s ∷ ss) e = absurd (omega (arith, e))

@@ -1,4 +1,4 @@
--- What is put for the forms of an expression, as the program holds them.
+-- What is put for the forms of an expression, in the program's representation.
 use Rattle.std.proofs.Common.{◌≡◌, ℕ, ◌+◌, ◌<◌, List, [], ◌∷◌, ◌++◌, length, drop, refl, sym, ap, ◌∙◌, arith, drop-cons, reverse}
 use Rattle.std.specs.Prelude.{get_or, Option, Some}
 use Rattle.std.proofs.lemmas.List.{reverse-reverse}
@@ -163,7 +163,7 @@ conditions-cons : (v : Fragment) (c : Condition) (cs : List Condition) →
 unfolding hidden conditions conditions_shape
 conditions-cons v c cs = refl
 
--- the tests, the value, and what stands for it where one is false
+-- the tests, the value, and the alternatives
 put-conditions : (b : Builder) (v : Fragment) (cs : List Condition) →
     put (conditions_code (conditions cs) v) b ≡ answered (kept cs b) cs (put v (asked cs b))
 put-conditions b v [] = ap {B = Builder} (λ c. put c b) (conditions-nil v)
@@ -187,7 +187,7 @@ made-conditional b m1 m2 m3 outers0 outers x cs p n o q r =
 pub next : {X : Type 0} → (xs : List X) (k : ℕ) (x : X) → k < length xs → x ≡ get_or xs k x → drop k xs ≡ x ∷ drop (k + 1) xs
 next xs k x lt d = grind (arith, drop-cons xs k x lt, d)
 
--- one more of a row, and no more
+-- one more element of a row, and the end of the row
 module _ {X : Type 0} (one : X → Fragment) (row : List X → Fragment) where
   pub more : ((b : Builder) (x : X) (xs : List X) → put (row (x ∷ xs)) b ≡ put (row xs) (put (one x) b)) →
       (all rest : List X) (x : X) (m m1 goal : Builder) → all ≡ x ∷ rest → m1 ≡ put (one x) m → put (row all) m ≡ goal →

@@ -1,4 +1,4 @@
--- What is put for statements, and their blocks, as the program holds them.
+-- What is put for statements and their blocks, in the program's representation.
 use Rattle.std.proofs.Common.{◌≡◌, ℕ, Bool, List, [], ◌∷◌, ◌++◌, refl, sym, ap, ◌∙◌}
 use Rattle.std.specs.Prelude.{Some, codes, false}
 use denote.Hole.Carrier.{hidden}
@@ -89,7 +89,7 @@ put-statements-nil : (os : List Opened) (b : StreamBuilder) →
 unfolding hidden statements statements_shape
 put-statements-nil os b = refl
 
--- the code of one statement more, beside any blocks
+-- the code of one more statement, with any blocks
 code-cons : (os : List Opened) (b : StreamBuilder) (x : Stmt) (xs : List Stmt) (m : Blocks) →
     ◌≡◌ {A = StreamBuilder} (record b { code = put_code (statements_code os (statements (x ∷ xs))) b.code; blocks = m })
     (record b { code = put_code (statements_code os (statements xs)) (put_code (statement_code os x) b.code); blocks = m })
@@ -120,7 +120,7 @@ pub no_more-statements : (os : List Opened) (rest : List Stmt) (m goal : StreamB
 no_more-statements os rest m goal none g = sym (put-statements-nil os m)
     ∙ ap {B = StreamBuilder} (λ l. put_in (statements_code os (statements l)) (blocks_in (statements l)) m) (sym none) ∙ g
 
--- a stream that was made from nothing
+-- a stream whose builder was empty
 pub made-stream : (b : Builder) (m m1 : StreamBuilder) (ss : List Stmt) → m.code ≡ b → b.code ≡ [] → b.outs ≡ [] → b.exits ≡ [] →
     m.enclosing ≡ [] → m1 ≡ put_in (statements_code m.enclosing (statements ss)) (blocks_in (statements ss)) m →
     finished m1.code ≡ unnumbered_code (statements ss)
@@ -130,7 +130,7 @@ made-stream b m m1 ss at x y z o p =
     ∙ made_whole (statements_code [] (statements ss)) m.code (ap (λ (k : Builder). k.code) at ∙ x) (ap (λ (k : Builder). k.outs) at
     ∙ y) (ap (λ (k : Builder). k.exits) at ∙ z)
 
--- a stream by its parts
+-- streams with equal parts are equal
 same_stream : (s t : StreamBuilder) → s.code ≡ t.code → s.enclosing ≡ t.enclosing → s.blocks ≡ t.blocks → s ≡ t
 same_stream s t p q r =
     ap {A = Builder} {B = StreamBuilder} (λ m. record s { code = m }) p
@@ -139,11 +139,11 @@ same_stream s t p q r =
 
 -- ---------------------------------------------------------------- conditions
 module _ (c : Expr) (body other : List Stmt) (os : List Opened) where
-  -- the code of a body, which is jumped over where the condition is false
+  -- the code of a body, with a jump over it if the condition is false
   abbrev first : Builder → Builder
   first m = put_code (statements_code os (statements body)) (jumped IfFalse (begun m))
 
-  -- and that of the other body after it
+  -- then the code of the other body
   abbrev second : Builder → Builder
   second m = joined (place_of (first m)) (put_code (statements_code os (statements other)) (bound (outs_of m) (with_one (i.Jump 0) (first m))))
 
@@ -204,7 +204,7 @@ module _ (s s1 : StreamBuilder) (tag : CallBlock) (call call1 : OpenCall) (name 
   abbrev end : RowEnd
   end = caller_end (declared (codes "caller"))
 
-  -- the call with its ends, after what was passed with its last rows open
+  -- the ends of the last rows, and the call
   abbrev ended : RowEnd → OpenCall → Builder → Builder
   ended e c b = put_code (ending e c ⨾ straight (call_end tag.call (ending_count e c))) b
 

@@ -1,4 +1,4 @@
--- What is put for targets, as the program holds them.
+-- What is put for targets, in the program's representation.
 use Rattle.std.proofs.Common.{◌≡◌, ℕ, List, [], ◌∷◌, length, refl, sym, ap, ◌∙◌, arith}
 use denote.Hole.Carrier.{hidden}
 use Rattle.tm_trees.specs.Trees.{AssignmentTarget}

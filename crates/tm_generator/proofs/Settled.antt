@@ -1,4 +1,4 @@
--- Code whose jumps are set is the code for their places.
+-- Code whose jumps are set is the code that is assembled with their targets.
 use Rattle.std.proofs.Common.{◌≡◌, ℕ, ◌+◌, List, [], ◌∷◌, ◌++◌, length, refl, sym, ap, ◌∙◌, arith, append_assoc, length-append}
 use Rattle.std.specs.Prelude.{slice_set}
 use Rattle.std.proofs.Math.Seq.{set-append_seam}
@@ -12,8 +12,8 @@ use Rattle.tm_generator.specs.declared.builder.Exit.{Exit}
 use Rattle.tm_generator.specs.declared.builder.Exit.TheVariants.{Leave, Next}
 use Rattle.tm_generator.specs.Building.{patched, out_place, out_jump, exit_place, exit_jump}
 
--- ---------------------------------------------------------------- jumps that lead nowhere yet
--- the jumps of code out of it, and out of the innermost loop's round around it, by their places
+-- ---------------------------------------------------------------- jumps without targets
+-- the jumps out of code, and its exits from the innermost loop around it, with their places
 abbrev pub outs_in : ℕ → Fragment → List Out
 outs_in pc (straight is) = []
 outs_in pc (c ⨾ d) = outs_in pc c ++ outs_in (beyond pc c) d
@@ -42,7 +42,7 @@ module _ {E : Type 0} (place : E → ℕ) (made : E → Instruction) where
   patched-append code [] fs = refl
   patched-append code (e ∷ es) fs = patched-append (slice_set code (place e) (made e)) es fs
 
-  -- Instructions that become others where jumps are set, if they stand at a place.
+  -- Setting jumps turns the instructions `xs` at the place `pc` into `ys`.
   pub record Becomes (pc : ℕ) (xs : List Instruction) (es : List E) (ys : List Instruction) : Type 0 where
     pub set : (base tail : List Instruction) → length base ≡ pc → patched place made (base ++ (xs ++ tail)) es ≡ base ++ (ys ++ tail)
 
@@ -111,7 +111,7 @@ settles to l pc break_loop = same to pc (i.Jump l.after ∷ [])
 settles to l pc next_round = same to pc (i.Jump l.again ∷ [])
 settles to l pc (declares m c) = same to pc (assemble l pc (declares m c))
 
--- ---------------------------------------------------------------- and those out of a loop's round
+-- ---------------------------------------------------------------- the exits of a loop
 abbrev pub Leads : ℕ → ℕ → ℕ → List Instruction → List Exit → List Instruction → Type 0
 Leads x y pc xs es ys = Becomes exit_place (exit_jump x y) pc xs es ys
 

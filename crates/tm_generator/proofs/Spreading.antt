@@ -1,4 +1,4 @@
--- Rows of arguments, and what is put for them, as the program holds them.
+-- Rows of arguments, and what is put for them, in the program's representation.
 use Rattle.std.proofs.Common.{◌≡◌, ℕ, zero, suc, ◌+◌, List, [], ◌∷◌, Bool, Some, refl, sym, ap, ◌∙◌, arith}
 use Rattle.std.specs.Prelude.{true, false, ◌||◌, Result, Ok, Err, OnOk, IfOk}
 use denote.Hole.Carrier.{hidden}
@@ -76,7 +76,7 @@ pub made-mapped : (b m1 m2 : Builder) (n : ℕ) (x : Expr) → m1 ≡ put (strai
 made-mapped b m1 m2 n x p q = q ∙ ap {B = Builder} (λ m. put (expr_code x) m) p ∙ sym (put-keyword-spread b n x)
 
 -- ---------------------------------------------------------------- rows of rows
--- after so many rows
+-- after `n` rows
 abbrev pub after : ℕ → Rows → Rows
 after n rows = record { ended = n + rows.ended; pending = rows.pending }
 
@@ -223,7 +223,7 @@ no_more-map_rows rest n l goal none g =
     sym (ap {B = Rows} (λ xs. after l (maps_of n (keywords xs))) none ∙ ap {A = Rows} {B = Rows} (after l) (maps-nil n)
     ∙ after-none l n) ∙ g
 
--- ---------------------------------------------------------------- answers
+-- ---------------------------------------------------------------- results
 pub on_ok_always : {T E P : Type 0} (r : Result T E) → P → OnOk r P
 on_ok_always (Ok x) p = p
 on_ok_always (Err e) p = tt

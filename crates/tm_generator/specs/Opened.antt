@@ -1,4 +1,5 @@
--- How the code of a call is put in two parts: what it is passed with its last rows open, and after what else is passed their ends.
+-- The code of a call in two parts, between which a further argument is pushed: the arguments with
+-- the last rows open, and the ends of these rows with the call.
 use Rattle.std.specs.Prelude.{ℕ, ◌+◌, List, [], ◌∷◌, Bool, true, false, Option}
 use Rattle.tm_trees.specs.Instructions.{Instruction}
 use Rattle.tm_trees.specs.Instructions.instructions as i
@@ -13,7 +14,7 @@ use Rattle.tm_generator.specs.declared.passing.Rows.{Rows}
 pub use Rattle.tm_generator.specs.declared.passing.OpenCall.{OpenCall}
 
 -- ---------------------------------------------------------------- rows
--- the code of arguments after a row of so many, without that of the last row's end
+-- the code of positional arguments after a row of `before` values, without the end of the last row
 abbrev pub listing_code : {n : _} → ℕ → Row_of-Argument n → Fragment
 listing_code before no_argument = straight []
 listing_code before (argument a rest) = listed_code before a ⨾ listing_code (row_after before a) rest
@@ -26,7 +27,7 @@ abbrev pub list_open : {n : _} → ℕ → Row_of-Argument n → ℕ
 list_open before no_argument = before
 list_open before (argument a rest) = list_open (row_after before a) rest
 
--- the same of keywords
+-- the same for keyword arguments
 abbrev pub no_end : RowEnd
 no_end = record { maps = λ n. 0; code = λ n. straight [] }
 
@@ -41,7 +42,7 @@ abbrev pub maps_of : {n : _} → ℕ → Row_of-Keyword n → Rows
 maps_of before named = record { ended = count_maps no_end before named; pending = map_open before named }
 
 -- ---------------------------------------------------------------- calls
--- with so many values before the arguments
+-- a call with `before` values under its arguments
 abbrev pub opened_call : {n m : _} → ℕ → Row_of-Argument n → Row_of-Keyword m → OpenCall
 opened_call before given named = record {
   lists = lists_of before given;
@@ -53,7 +54,7 @@ opened_call before given named = record {
 abbrev pub open_code : {n m : _} → ℕ → Row_of-Argument n → Row_of-Keyword m → Fragment
 open_code before given named = listing_code before given ⨾ keywords_code no_end 0 named
 
--- what is called with nothing but the value below
+-- a call of the topmost value without further arguments
 abbrev pub called_with_none : OpenCall
 called_with_none = record {
   lists = record { ended = 0; pending = 1 };
@@ -62,18 +63,19 @@ called_with_none = record {
   merges = false;
 }
 
--- with one keyword more
+-- with one more keyword argument
 abbrev pub with_name : OpenCall → OpenCall
 with_name call = record call { maps = record { ended = call.maps.ended; pending = call.maps.pending + 1 } }
 
--- how many maps and values there are where the last row of keywords ends so
+-- the numbers of maps and of values, if the last row of keyword arguments has this end
 abbrev pub maps_in : RowEnd → OpenCall → ℕ
 maps_in end call = call.maps.ended + end.maps call.maps.pending
 
 abbrev pub values_in : RowEnd → OpenCall → ℕ
 values_in end call = call.lists.pending + merged_count call.merges (maps_in end call)
 
--- the code of so many values in the last row, after so many lists
+-- if an argument is spread, the code that unpacks the lists that ended, and the `n` values of the
+-- last row
 abbrev pub unpacked_code : Bool → ℕ → ℕ → Fragment
 unpacked_code false ended n = straight []
 unpacked_code true ended n = straight (list_of_row n) ⨾ straight (i.UnpackLists (ended + rows_of n) ∷ [])
@@ -82,7 +84,7 @@ abbrev pub ending : RowEnd → OpenCall → Fragment
 ending end call = end.code call.maps.pending ⨾ straight (merged_code call.merges (maps_in end call))
     ⨾ unpacked_code call.spreads call.lists.ended (values_in end call)
 
--- how many values are passed; none where their number is on top
+-- the number of values passed; none if it is on top of the stack
 abbrev pub ending_count : RowEnd → OpenCall → Option ℕ
 ending_count end call = count_by call.spreads (values_in end call)
 
@@ -101,7 +103,7 @@ abbrev pub step_end : Step → Option ℕ → List Instruction
 step_end (Apply' k x _ given _ named) n = application_code k x n
 step_end s n = i.CallObject n ∷ []
 
--- of steps the last is the call
+-- steps, the last of which is the call
 abbrev pub steps_open : {n : _} → Row_of-Step n → Fragment
 steps_open no_step = straight []
 steps_open (step s no_step) = step_open s

@@ -1,4 +1,4 @@
-//! Code that is being made, with jumps that lead nowhere yet.
+//! Code under construction, with jumps whose targets aren't set yet.
 #![tactic(auto, unfolding(crate::proofs::Steps::steps))]
 
 ghost use Rattle.std.specs.Prelude.{◌≡◌, ◌++◌, [], ◌∷◌, OnOk, IfOk, length, slice_set};
@@ -13,32 +13,32 @@ use std::mem;
 use tm_items::Items;
 use tm_syntax::{Instruction, JumpKind, LoopFlags};
 
-/// A jump out of a part of code.
+/// A jump out of a part of the code, whose target isn't set yet.
 #[derive(Clone, Copy)]
 pub(crate) struct Out {
     kind: JumpKind,
     place: usize,
 }
 
-/// A jump out of a loop's round, by its place.
+/// A jump out of a round of a loop, by its place.
 #[derive(Clone, Copy)]
 pub(crate) enum Exit {
-    /// It leaves the loop.
+    /// Leaves the loop.
     Leave(usize),
-    /// It goes on with the next item.
+    /// Continues with the next item.
     Next(usize),
 }
 
-/// What stands around a loop: the jumps out of the round around it, and where its own next item is
-/// asked for.
+/// What is saved when a loop begins: the exits of the loop around it, and the place of its own
+/// `Iterate`.
 #[derive(Drop)]
 pub(crate) struct Outer {
     exits: Items<Exit>,
     again: usize,
 }
 
-/// What stands around a macro's body: the jumps out of what is around it, the place of the jump
-/// over it, and where it is entered.
+/// What is saved when a macro's body begins: the jumps out and the exits of the code around it, the
+/// place of the jump over it, and its entry.
 #[derive(Drop)]
 pub(crate) struct Around {
     outs: Items<Out>,
@@ -47,7 +47,7 @@ pub(crate) struct Around {
     entry: usize,
 }
 
-/// Code that is being made, and the jumps in it that lead nowhere yet.
+/// Code under construction, and the jumps in it whose targets aren't set yet.
 pub(crate) struct Builder {
     alloc: Global,
     code: Items<Instruction>,
@@ -55,7 +55,7 @@ pub(crate) struct Builder {
     exits: Items<Exit>,
 }
 
-// By hand: one call for each owner, in place of a drop of each part.
+// Written by hand, so that an owner drops a builder with one call and not part by part.
 impl Drop for Builder {
     fn drop(self) {
         let Builder {
@@ -68,7 +68,7 @@ impl Drop for Builder {
 }
 
 impl Builder {
-    /// No code yet.
+    /// A builder without code.
     pub(crate) fn new(alloc: Global) -> Builder
         ensures { result ≡ record { alloc = alloc; code = []; outs = []; exits = [] } }
     {
@@ -80,19 +80,20 @@ impl Builder {
         }
     }
 
-    /// Where memory comes from.
+    /// The allocator.
     pub(crate) fn alloc(&self) -> Global {
         self.alloc
     }
 
-    /// Adds an instruction; AllocError.
+    /// Appends an instruction. AllocError if memory runs out.
     pub(crate) fn emit(&mut self, instruction: Instruction) -> Result<(), AllocError>
         ensures { OnOk result (self.new ≡ with_one instruction self.old) }
     {
         self.code.push(instruction)
     }
 
-    /// Adds a jump out; AllocError.
+    /// Appends a jump out of the current part. Its target is set later. AllocError if memory runs
+    /// out.
     pub(crate) fn jump_out(&mut self, kind: JumpKind) -> Result<(), AllocError>
         ensures { OnOk result (self.new ≡ jumped kind self.old) }
     {
@@ -101,7 +102,7 @@ impl Builder {
         self.code.push(kind.to(0))
     }
 
-    /// Adds a jump that leaves the innermost loop; AllocError.
+    /// Appends a jump that leaves the innermost loop. AllocError if memory runs out.
     pub(crate) fn break_loop(&mut self) -> Result<(), AllocError>
         ensures { OnOk result (self.new ≡ left self.old) }
     {
@@ -109,7 +110,7 @@ impl Builder {
         self.code.push(Instruction::Jump(0))
     }
 
-    /// Adds a jump to the next round of the innermost loop; AllocError.
+    /// Appends a jump to the next round of the innermost loop. AllocError if memory runs out.
     pub(crate) fn next_round(&mut self) -> Result<(), AllocError>
         ensures { OnOk result (self.new ≡ continued self.old) }
     {
@@ -117,7 +118,7 @@ impl Builder {
         self.code.push(Instruction::Jump(0))
     }
 
-    /// Begins a part out of which jumps lead. Gives the jumps out of what is around it.
+    /// Begins a part that has its own jumps out. Returns those of the part around it.
     pub(crate) fn begin(&mut self) -> Items<Out>
         ensures outer { result ≡ outs_of self.old }
         ensures code { self.new ≡ begun self.old }
@@ -125,7 +126,8 @@ impl Builder {
         mem::replace(&mut self.outs, Items::new(self.alloc))
     }
 
-    /// Ends it: the jumps out of it lead here.
+    /// Ends the part: its jumps out go to the end of the code so far. `outer` are the jumps out of
+    /// the part around it.
     pub(crate) fn bound(&mut self, outer: Items<Out>)
         ensures { self.new ≡ bound outer self.old }
     {
@@ -134,8 +136,8 @@ impl Builder {
         self.outs = outer;
     }
 
-    /// Ends the first of two parts with a jump over the second, to which the jumps out of the first
-    /// lead. Gives the place of that jump; AllocError.
+    /// Ends the first of two parts with a jump over the second. The jumps out of the first go to
+    /// the second. Returns the place of the jump over the second. AllocError if memory runs out.
     pub(crate) fn second(&mut self, outer: Items<Out>) -> Result<usize, AllocError>
         ensures place { IfOk result (λ place. place ≡ place_of self.old) }
         ensures ok { OnOk result (self.new ≡ bound outer (with_one (Jump 0) self.old)) }
@@ -146,7 +148,8 @@ impl Builder {
         Ok(place)
     }
 
-    /// Ends the second of two parts: the jump over it leads here.
+    /// Ends the second of two parts: the jump over it, at `place`, goes to the end of the code so
+    /// far.
     pub(crate) fn join(&mut self, place: usize)
         ensures { self.new ≡ joined place self.old }
     {
@@ -154,7 +157,7 @@ impl Builder {
         patch(&mut self.code, place, Instruction::Jump(here));
     }
 
-    /// Begins a loop with its first round; AllocError.
+    /// Begins a loop and its rounds. AllocError if memory runs out.
     pub(crate) fn begin_loop(&mut self, flags: LoopFlags) -> Result<Outer, AllocError>
         ensures outer { IfOk result (λ outer. outer ≡ outer_of self.old) }
         ensures ok { OnOk result (self.new ≡ loop_begun flags self.old) }
@@ -166,7 +169,7 @@ impl Builder {
         Ok(Outer { exits, again })
     }
 
-    /// Ends the rounds of a loop; AllocError.
+    /// Ends the rounds of a loop. AllocError if memory runs out.
     pub(crate) fn end_rounds(&mut self, outer: Outer) -> Result<(), AllocError>
         ensures { OnOk result (self.new ≡ rounds_ended outer self.old) }
     {
@@ -179,7 +182,7 @@ impl Builder {
         Ok(())
     }
 
-    /// Begins a macro's body with a jump over it; AllocError.
+    /// Begins a macro's body with a jump over it. AllocError if memory runs out.
     pub(crate) fn begin_body(&mut self) -> Result<Around, AllocError>
         ensures around { IfOk result (λ around. around ≡ around_of self.old) }
         ensures ok { OnOk result (self.new ≡ body_begun self.old) }
@@ -194,8 +197,8 @@ impl Builder {
         })
     }
 
-    /// Ends a macro's body: jumps out of it lead to its end, where it returns. Gives where it is
-    /// entered; AllocError.
+    /// Ends a macro's body. Jumps out of it go to its end, where it returns. Returns its entry.
+    /// AllocError if memory runs out.
     pub(crate) fn end_body(&mut self, around: Around) -> Result<usize, AllocError>
         ensures entry { IfOk result (λ entry. entry ≡ around.entry) }
         ensures ok { OnOk result (self.new ≡ body_ended around self.old) }
@@ -217,7 +220,7 @@ impl Builder {
         Ok(entry)
     }
 
-    /// The code: jumps out of all of it lead to its end.
+    /// The finished code. All jumps out of it go to its end.
     pub(crate) fn finish(self) -> Items<Instruction>
         ensures { result ≡ finished self }
     {
@@ -234,7 +237,7 @@ impl Builder {
     }
 }
 
-/// Puts an instruction in the place of another one.
+/// Replaces the instruction at `place`, if there is one.
 fn patch(code: &mut Items<Instruction>, place: usize, instruction: Instruction)
     ensures { code.new ≡ slice_set code.old place instruction }
 {
@@ -243,7 +246,7 @@ fn patch(code: &mut Items<Instruction>, place: usize, instruction: Instruction)
     }
 }
 
-/// Lets jumps out lead to a place.
+/// Sets the target of jumps out to `to`.
 fn settle(code: &mut Items<Instruction>, outs: &[Out], to: usize)
     ensures { code.new ≡ settled code.old outs.now to }
 {
@@ -252,7 +255,7 @@ fn settle(code: &mut Items<Instruction>, outs: &[Out], to: usize)
     }
 }
 
-/// Lets the jumps out of a loop's round lead to its next item, and after it.
+/// Sets the targets of a loop's exits: `again` for the next item, and `after` to leave the loop.
 fn lead(code: &mut Items<Instruction>, exits: &[Exit], again: usize, after: usize)
     ensures { code.new ≡ led code.old exits.now again after }
 {

@@ -1,4 +1,4 @@
-//! Cache numbers of names in code.
+//! Cache numbers of the names in code.
 ghost use Rattle.std.specs.Prelude.{◌≡◌, ◌≤◌, ◌<◌, [], ◌∷◌, OnOk, OnSome, IfOk, IfSome, length};
 ghost use Rattle.tm_generator.specs.Caches.{HasRoom, IsNumberedOne};
 ghost use Rattle.tm_syntax.specs.CacheNumbers.{cache_count, joined, number_in, numbered, place_from};
@@ -7,14 +7,14 @@ use std::alloc::{AllocError, Global};
 use tm_items::Items;
 use tm_syntax::{CACHES, Instruction, NO_CACHE, Name};
 
-/// The names that have cache numbers, each at its number.
+/// The names that have cache numbers. The index of a name is its number.
 #[derive(Drop)]
 pub(crate) struct CacheNames {
     filters: Items<Name>,
     tests: Items<Name>,
 }
 
-/// Where a name stands first.
+/// The index of the first name that equals `name`, if there is one.
 fn place_of(names: &[Name], name: &Name) -> Option<usize>
     ensures place { result ≡ place_from 0 name.now names.now }
     ensures within { IfSome result (λ place. place < length names.now) }
@@ -27,7 +27,8 @@ fn place_of(names: &[Name], name: &Name) -> Option<usize>
     None
 }
 
-/// The number of a name, which joins those that have one where there is a number left; AllocError.
+/// The cache number of `name`. A new name gets the next number and is appended to `names`. If no
+/// number is left, it gets `NO_CACHE` and `names` stays the same. AllocError if memory runs out.
 fn number_of(names: &mut Items<Name>, name: &Name) -> Result<u8, AllocError>
     requires { length names.old ≤ cache_count }
     ensures number { IfOk result (λ number. number ≡ number_in name.now names.old) }
@@ -46,7 +47,8 @@ fn number_of(names: &mut Items<Name>, name: &Name) -> Result<u8, AllocError>
 }
 
 impl CacheNames {
-    /// What stands in an instruction's place with its number, where it has one; AllocError.
+    /// The instruction with its cache number, or None if it isn't a filter or a test. AllocError if
+    /// memory runs out.
     fn number(&mut self, instruction: &Instruction) -> Result<Option<Instruction>, AllocError>
         requires { HasRoom self.old }
         ensures ok { IfOk result (λ made. IsNumberedOne self.old self.new instruction.now made) }
@@ -67,7 +69,7 @@ impl CacheNames {
     }
 }
 
-/// Gives the names of filters and of tests in a stream's code their cache numbers; AllocError.
+/// Sets the cache numbers of all filters and tests in a stream. AllocError if memory runs out.
 pub(crate) fn number_caches(alloc: Global, code: &mut Items<Instruction>) -> Result<(), AllocError>
     ensures { OnOk result (code.new ≡ numbered code.old) }
 {

@@ -1,5 +1,5 @@
-//! The code of calls whose last keyword is pushed between two parts: what they are passed before,
-//! and the ends of it with the call itself.
+//! The code of calls in two parts, between which the last keyword argument is pushed. The first
+//! part pushes the other arguments. The second ends the last rows of arguments and calls.
 ghost use Rattle.std.specs.Prelude.{◌≡◌, [], ◌∷◌, OnOk, IfOk};
 ghost use Rattle.tm_generator.specs.Building.{put};
 ghost use Rattle.tm_generator.specs.Opened.{call_end, call_of, call_open, ending, ending_count};
@@ -15,7 +15,8 @@ use crate::passing::OpenCall;
 use std::alloc::AllocError;
 use tm_syntax::{Expr, Instruction, Step};
 
-/// Adds the code of a call up to its last keywords, which stay open; AllocError.
+/// Emits the first part of a call: its arguments, with the last rows open. If the expression isn't
+/// a call, its value is called. AllocError if memory runs out or a count overflows.
 #[inline(never)]
 pub(crate) fn push_call_open(code: &mut Builder, call: &Expr) -> Result<OpenCall, AllocError>
     ensures ok { OnOk result (code.new ≡ put (call_open call.now) code.old) }
@@ -34,7 +35,8 @@ pub(crate) fn push_call_open(code: &mut Builder, call: &Expr) -> Result<OpenCall
     }
 }
 
-/// Adds the code of steps, the last of which is the call; AllocError.
+/// Emits the code of steps, and the first part of the call that is the last of them. If that isn't
+/// a call, its value is called. AllocError if memory runs out or a count overflows.
 fn push_steps_open(code: &mut Builder, after: &[Step]) -> Result<OpenCall, AllocError>
     ensures ok { OnOk result (code.new ≡ put (steps_open (steps after.now)) code.old) }
     ensures call { IfOk result (λ passed. passed ≡ steps_call (steps after.now)) }
@@ -46,7 +48,8 @@ fn push_steps_open(code: &mut Builder, after: &[Step]) -> Result<OpenCall, Alloc
     push_step_open(code, last)
 }
 
-/// Adds the code of a step that is the call; AllocError.
+/// Emits the first part of the call that a step is. If the step isn't a call, its value is called.
+/// AllocError if memory runs out or a count overflows.
 fn push_step_open(code: &mut Builder, step: &Step) -> Result<OpenCall, AllocError>
     ensures ok { OnOk result (code.new ≡ put (step_open step.now) code.old) }
     ensures call { IfOk result (λ passed. passed ≡ step_call step.now) }
@@ -61,7 +64,8 @@ fn push_step_open(code: &mut Builder, step: &Step) -> Result<OpenCall, AllocErro
     }
 }
 
-/// Adds the code that ends what a call is passed, and the call; AllocError.
+/// Emits the second part of a call: the ends of the last rows, and the call itself. AllocError if
+/// memory runs out or a count overflows.
 #[inline(never)]
 pub(crate) fn push_call_end(
     code: &mut Builder,
@@ -80,7 +84,8 @@ pub(crate) fn push_call_end(
     }
 }
 
-/// Adds the call that the last of these steps is, with so many values; AllocError.
+/// Emits the call that is the last of these steps, with `count` values. AllocError if memory runs
+/// out.
 fn push_steps_end(
     code: &mut Builder,
     after: &[Step],
@@ -95,7 +100,7 @@ fn push_steps_end(
     push_step_end(code, last, count)
 }
 
-/// Adds the call that a step is, with so many values; AllocError.
+/// Emits the call that a step is, with `count` values. AllocError if memory runs out.
 fn push_step_end(code: &mut Builder, step: &Step, count: Option<usize>) -> Result<(), AllocError>
     ensures { OnOk result (code.new ≡ put (straight (step_end step.now count)) code.old) }
 {

@@ -1,4 +1,5 @@
-//! What is open around code in a loop's round, or in a stream outside of loops.
+//! What was opened since the innermost loop's body, macro's body or stream began, and is still
+//! open.
 ghost use Rattle.std.specs.Prelude.{◌≡◌, [], ◌∷◌, OnOk, reverse};
 ghost use Rattle.tm_generator.specs.Building.{with_all, rest_of};
 ghost use Rattle.tm_syntax.specs.Code.{close, close_all as close_each};
@@ -9,7 +10,7 @@ use std::marker::Model;
 use tm_items::Items;
 use tm_syntax::{Instruction, Opened};
 
-/// What was opened and is not closed yet. A contract sees it innermost first.
+/// What is still open. Contracts see the innermost first.
 #[derive(Drop)]
 pub(crate) struct Enclosing {
     opened: Items<Opened>,
@@ -34,21 +35,22 @@ impl Enclosing {
         }
     }
 
-    /// Something more is open; AllocError.
+    /// Adds `opened` as the innermost. AllocError if memory runs out.
     pub(crate) fn begin(&mut self, opened: Opened) -> Result<(), AllocError>
         ensures { OnOk result (self.new ≡ opened ∷ self.old) }
     {
         self.opened.push(opened)
     }
 
-    /// What was opened last is closed.
+    /// Removes the innermost.
     pub(crate) fn end(&mut self)
         ensures { self.new ≡ rest_of self.old }
     {
         let _closed = self.opened.pop();
     }
 
-    /// Adds what closes all that is open, the last first; AllocError.
+    /// Emits the code that closes all that is open, the innermost first. AllocError if memory runs
+    /// out.
     pub(crate) fn close_all(&self, code: &mut Builder) -> Result<(), AllocError>
         ensures { OnOk result (code.new ≡ with_all (close_each self.now) code.old) }
     {
@@ -56,7 +58,8 @@ impl Enclosing {
     }
 }
 
-/// Adds what closes each of these, the last first; AllocError.
+/// Emits the code that closes each of these, from the last to the first. AllocError if memory runs
+/// out.
 fn push_closed(code: &mut Builder, opened: &[Opened]) -> Result<(), AllocError>
     ensures { OnOk result (code.new ≡ with_all (close_each (reverse opened.now)) code.old) }
 {
@@ -68,7 +71,7 @@ fn push_closed(code: &mut Builder, opened: &[Opened]) -> Result<(), AllocError>
     Ok(())
 }
 
-/// Adds what closes something; AllocError.
+/// Emits the code that closes `opened`. AllocError if memory runs out.
 fn push_close(code: &mut Builder, opened: Opened) -> Result<(), AllocError>
     ensures { OnOk result (code.new ≡ with_all (close opened) code.old) }
 {

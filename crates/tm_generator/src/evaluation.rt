@@ -10,7 +10,8 @@ use tm_accepted::the_code_of_trees_is_accepted;
 use tm_shapes::{Form, Verified};
 use tm_syntax::Expr;
 
-/// The code of an expression on its own, which leaves its value; AllocError.
+/// The code of an expression on its own. It leaves the value on the stack. AllocError if memory
+/// runs out.
 pub fn value(alloc: Global, expr: &Expr) -> Result<Verified, AllocError>
     ensures { IfOk result (λ code. code ≡ code_of (expression expr.now)) }
 {

@@ -33,10 +33,10 @@ use tm_syntax::{
 };
 use tm_values::{SharedText, Value};
 
-// A frame has room for the locals of all that is inlined, so deep trees take less stack where the
-// rarer functions are not.
+// A stack frame holds the locals of all inlined functions. The rarer functions are not inlined, so
+// that deep trees need less stack.
 
-/// Adds the code of an operator; AllocError.
+/// Emits the code of a binary operator. AllocError if memory runs out.
 #[inline(never)]
 fn push_binary(code: &mut Builder, operator: BinaryOperator) -> Result<(), AllocError>
     ensures { OnOk result (code.new ≡ put (straight (binary_code operator)) code.old) }
@@ -65,7 +65,8 @@ fn push_binary(code: &mut Builder, operator: BinaryOperator) -> Result<(), Alloc
     code.emit(instruction)
 }
 
-/// Adds the code that passes so many values to what a name stands for; AllocError.
+/// Emits the code that passes `count` values to the method, filter or test named `name`. AllocError
+/// if memory runs out.
 #[inline(never)]
 pub(crate) fn push_application(
     code: &mut Builder,
@@ -88,7 +89,7 @@ pub(crate) fn push_application(
     code.emit(instruction)
 }
 
-/// Adds the code of a literal; AllocError.
+/// Emits the code of a literal. AllocError if memory runs out.
 #[inline(never)]
 fn push_const(code: &mut Builder, value: &Value) -> Result<(), AllocError>
     ensures { OnOk result (code.new ≡ with_one (LoadConst value.now) code.old) }
@@ -99,7 +100,7 @@ fn push_const(code: &mut Builder, value: &Value) -> Result<(), AllocError>
     }
 }
 
-/// Adds the code of a name as a text; AllocError.
+/// Emits the code that pushes a name as a text. AllocError if memory runs out.
 #[inline(never)]
 pub(crate) fn push_text(code: &mut Builder, name: &Name) -> Result<(), AllocError>
     ensures { OnOk result (code.new ≡ with_one (LoadConst (text name.now false)) code.old) }
@@ -108,7 +109,7 @@ pub(crate) fn push_text(code: &mut Builder, name: &Name) -> Result<(), AllocErro
     code.emit(Instruction::LoadConst(Value::shared_text(content, false)))
 }
 
-/// Adds the code that captures what a block writes; AllocError.
+/// Emits the code that captures what the block named `name` writes. AllocError if memory runs out.
 #[inline(never)]
 fn push_self_block(code: &mut Builder, name: &Name) -> Result<(), AllocError>
     ensures { OnOk result (code.new ≡ put (expr_code (SelfBlock name.now)) code.old) }
@@ -118,7 +119,7 @@ fn push_self_block(code: &mut Builder, name: &Name) -> Result<(), AllocError>
     code.emit(Instruction::EndCapture)
 }
 
-/// Adds the code of a name; AllocError.
+/// Emits the code that looks up `name`. AllocError if memory runs out.
 #[inline(never)]
 fn push_lookup(code: &mut Builder, name: &Name) -> Result<(), AllocError>
     ensures { OnOk result (code.new ≡ with_one (Lookup name.now) code.old) }
@@ -126,7 +127,7 @@ fn push_lookup(code: &mut Builder, name: &Name) -> Result<(), AllocError>
     code.emit(Instruction::Lookup(name.share()?))
 }
 
-/// Adds what makes a list of so many values; AllocError.
+/// Emits the instruction that builds a list of `count` values. AllocError if memory runs out.
 #[inline(never)]
 fn push_list_end(code: &mut Builder, count: usize) -> Result<(), AllocError>
     ensures { OnOk result (code.new ≡ with_one (BuildList (Some count)) code.old) }
@@ -134,7 +135,7 @@ fn push_list_end(code: &mut Builder, count: usize) -> Result<(), AllocError>
     code.emit(Instruction::BuildList(Some(count)))
 }
 
-/// Adds what makes a tuple of so many values; AllocError.
+/// Emits the instruction that builds a tuple of `count` values. AllocError if memory runs out.
 #[inline(never)]
 fn push_tuple_end(code: &mut Builder, count: usize) -> Result<(), AllocError>
     ensures { OnOk result (code.new ≡ with_one (BuildTuple count) code.old) }
@@ -142,7 +143,7 @@ fn push_tuple_end(code: &mut Builder, count: usize) -> Result<(), AllocError>
     code.emit(Instruction::BuildTuple(count))
 }
 
-/// Adds what makes a map of so many pairs; AllocError.
+/// Emits the instruction that builds a map of `count` pairs. AllocError if memory runs out.
 #[inline(never)]
 fn push_map_end(code: &mut Builder, count: usize) -> Result<(), AllocError>
     ensures { OnOk result (code.new ≡ with_one (BuildMap count) code.old) }
@@ -150,7 +151,7 @@ fn push_map_end(code: &mut Builder, count: usize) -> Result<(), AllocError>
     code.emit(Instruction::BuildMap(count))
 }
 
-/// Adds a prefix operator; AllocError.
+/// Emits a prefix operator. AllocError if memory runs out.
 #[inline(never)]
 fn push_unary(code: &mut Builder, operator: UnaryOperator) -> Result<(), AllocError>
     ensures { OnOk result (code.new ≡ with_one (unary_code operator) code.old) }
@@ -162,7 +163,7 @@ fn push_unary(code: &mut Builder, operator: UnaryOperator) -> Result<(), AllocEr
     code.emit(instruction)
 }
 
-/// Adds the attribute of a name; AllocError.
+/// Emits the instruction that reads the attribute named `name`. AllocError if memory runs out.
 #[inline(never)]
 fn push_attribute(code: &mut Builder, name: &Name) -> Result<(), AllocError>
     ensures { OnOk result (code.new ≡ with_one (GetAttr name.now) code.old) }
@@ -170,7 +171,7 @@ fn push_attribute(code: &mut Builder, name: &Name) -> Result<(), AllocError>
     code.emit(Instruction::GetAttr(name.share()?))
 }
 
-/// Adds what takes the item at a key; AllocError.
+/// Emits the instruction that reads the item at a key. AllocError if memory runs out.
 #[inline(never)]
 fn push_get_item(code: &mut Builder) -> Result<(), AllocError>
     ensures { OnOk result (code.new ≡ with_one GetItem code.old) }
@@ -178,7 +179,7 @@ fn push_get_item(code: &mut Builder) -> Result<(), AllocError>
     code.emit(Instruction::GetItem)
 }
 
-/// Adds what takes a slice; AllocError.
+/// Emits the instruction that makes a slice. AllocError if memory runs out.
 #[inline(never)]
 fn push_slice_end(code: &mut Builder) -> Result<(), AllocError>
     ensures { OnOk result (code.new ≡ with_one Slice code.old) }
@@ -186,7 +187,7 @@ fn push_slice_end(code: &mut Builder) -> Result<(), AllocError>
     code.emit(Instruction::Slice)
 }
 
-/// Adds the code of an expression; AllocError.
+/// Emits the code of an expression. AllocError if memory runs out.
 #[cycle(expressions)]
 pub(crate) fn push_expr(code: &mut Builder, expr: &Expr) -> Result<(), AllocError>
     ensures { OnOk result (code.new ≡ put (expr_code expr.now) code.old) }
@@ -224,7 +225,7 @@ pub(crate) fn push_expr(code: &mut Builder, expr: &Expr) -> Result<(), AllocErro
     }
 }
 
-/// Adds the code of a value under conditions; AllocError.
+/// Emits the code of a value with conditions. AllocError if memory runs out.
 #[cycle(expressions)]
 #[inline(never)]
 fn push_conditional(
@@ -241,7 +242,7 @@ fn push_conditional(
     push_otherwise(code, conditions, outers)
 }
 
-/// Adds the code of expressions; AllocError.
+/// Emits the code of expressions. AllocError if memory runs out.
 #[cycle(expressions)]
 #[inline(never)]
 fn push_exprs(code: &mut Builder, items: &[Expr]) -> Result<(), AllocError>
@@ -253,7 +254,7 @@ fn push_exprs(code: &mut Builder, items: &[Expr]) -> Result<(), AllocError>
     Ok(())
 }
 
-/// Adds the code of pairs; AllocError.
+/// Emits the code of pairs. AllocError if memory runs out.
 #[cycle(expressions)]
 #[inline(never)]
 fn push_pairs(code: &mut Builder, entries: &[Pair]) -> Result<(), AllocError>
@@ -266,7 +267,8 @@ fn push_pairs(code: &mut Builder, entries: &[Pair]) -> Result<(), AllocError>
     Ok(())
 }
 
-/// Adds the code of an argument after a row of so many, which a spread one ends; AllocError.
+/// Emits the code of a positional argument after a row of `row` values. A spread argument ends the
+/// row. AllocError if memory runs out.
 #[cycle(expressions)]
 fn push_listed(code: &mut Builder, row: usize, argument: &Argument) -> Result<(), AllocError>
     ensures { OnOk result (code.new ≡ put (listed_code row argument.now) code.old) }
@@ -280,8 +282,8 @@ fn push_listed(code: &mut Builder, row: usize, argument: &Argument) -> Result<()
     }
 }
 
-/// Adds the code of arguments after a row of so many, without that of the last row's end, and
-/// gives their rows; AllocError.
+/// Emits the code of positional arguments after a row of `before` values, without the end of the
+/// last row. Returns their rows. AllocError if memory runs out or a count overflows.
 #[cycle(expressions)]
 #[inline(never)]
 fn push_arguments(code: &mut Builder, before: usize, given: &[Argument]) -> Result<Rows, AllocError>
@@ -299,7 +301,8 @@ fn push_arguments(code: &mut Builder, before: usize, given: &[Argument]) -> Resu
     Ok(Rows { ended, pending })
 }
 
-/// Adds the code of a keyword after a row of so many, which a spread one ends; AllocError.
+/// Emits the code of a keyword argument after a row of `row` keyword arguments. A spread argument
+/// ends the row. AllocError if memory runs out.
 #[cycle(expressions)]
 fn push_keyword(code: &mut Builder, row: usize, keyword: &Keyword) -> Result<(), AllocError>
     ensures { OnOk result (code.new ≡ put (keyword_code row keyword.now) code.old) }
@@ -316,8 +319,8 @@ fn push_keyword(code: &mut Builder, row: usize, keyword: &Keyword) -> Result<(),
     }
 }
 
-/// Adds the code of keywords, without that of the last row's end, and gives their rows;
-/// AllocError.
+/// Emits the code of keyword arguments, without the end of the last row. Returns their rows.
+/// AllocError if memory runs out or a count overflows.
 #[cycle(expressions)]
 #[inline(never)]
 fn push_keywords(code: &mut Builder, named: &[Keyword]) -> Result<Rows, AllocError>
@@ -335,8 +338,8 @@ fn push_keywords(code: &mut Builder, named: &[Keyword]) -> Result<Rows, AllocErr
     Ok(Rows { ended, pending })
 }
 
-/// Adds the code of what a call is passed, with so many values before the arguments, without that
-/// of the last rows' ends; AllocError.
+/// Emits the code of a call's arguments above `before` values, without the ends of the last rows.
+/// AllocError if memory runs out or a count overflows.
 #[cycle(expressions)]
 #[inline(never)]
 pub(crate) fn push_open(
@@ -360,8 +363,8 @@ pub(crate) fn push_open(
     })
 }
 
-/// Adds the code of what a call is passed, with so many values before the arguments. Gives how
-/// many values it is passed; none where their number is on top. AllocError.
+/// Emits the code of a call's arguments above `before` values. Returns the number of values passed,
+/// or None if it is on top of the stack. AllocError if memory runs out or a count overflows.
 #[cycle(expressions)]
 fn push_passed(
     code: &mut Builder,
@@ -378,7 +381,8 @@ fn push_passed(
     call.end(code)
 }
 
-/// Adds the code of the call of a name; AllocError.
+/// Emits the code that calls the function named `name`. AllocError if memory runs out or a count
+/// overflows.
 #[cycle(expressions)]
 #[inline(never)]
 fn push_call(
@@ -394,7 +398,8 @@ fn push_call(
     code.emit(Instruction::CallFunction(name.share()?, count))
 }
 
-/// Adds the code of a method, a filter or a test with its arguments; AllocError.
+/// Emits the code of a method, a filter or a test with its arguments. AllocError if memory runs out
+/// or a count overflows.
 #[cycle(expressions)]
 #[inline(never)]
 fn push_applied(
@@ -411,7 +416,7 @@ fn push_applied(
     push_application(code, application, name, count)
 }
 
-/// Adds the code of the call of a value; AllocError.
+/// Emits the code that calls the topmost value. AllocError if memory runs out or a count overflows.
 #[cycle(expressions)]
 #[inline(never)]
 fn push_called(code: &mut Builder, given: &[Argument], named: &[Keyword]) -> Result<(), AllocError>
@@ -422,8 +427,8 @@ fn push_called(code: &mut Builder, given: &[Argument], named: &[Keyword]) -> Res
     code.emit(Instruction::CallObject(count))
 }
 
-/// Adds the tests of conditions, the last first, each with a jump out of what comes after it. Adds
-/// to `outers` the jumps out of what is around each; AllocError.
+/// Emits the tests of conditions, from the last to the first, each with a jump out of what follows
+/// it. Pushes the jumps out of the part around each onto `outers`. AllocError if memory runs out.
 #[cycle(expressions)]
 #[inline(never)]
 fn push_tests(
@@ -445,8 +450,8 @@ fn push_tests(
     Ok(())
 }
 
-/// Adds what stands for a value where its conditions are false, the first first. Takes from
-/// `outers` the jumps out of what is around each; AllocError.
+/// Emits the alternative of each condition, from the first to the last. Pops the jumps out of the
+/// part around each from `outers`. AllocError if memory runs out.
 #[cycle(expressions)]
 #[inline(never)]
 fn push_otherwise(
@@ -467,7 +472,7 @@ fn push_otherwise(
     Ok(())
 }
 
-/// Adds the code of a step; AllocError.
+/// Emits the code of a step. AllocError if memory runs out.
 #[cycle(expressions)]
 #[inline(never)]
 pub(crate) fn push_step(code: &mut Builder, step: &Step) -> Result<(), AllocError>
@@ -502,7 +507,7 @@ pub(crate) fn push_step(code: &mut Builder, step: &Step) -> Result<(), AllocErro
     }
 }
 
-/// Adds the code of an expression, and a jump over it; AllocError.
+/// Emits the code of an expression, with a jump over it. AllocError if memory runs out.
 #[cycle(expressions)]
 #[inline(never)]
 fn push_over(code: &mut Builder, kind: JumpKind, expr: &Expr) -> Result<(), AllocError>
@@ -515,7 +520,7 @@ fn push_over(code: &mut Builder, kind: JumpKind, expr: &Expr) -> Result<(), Allo
     Ok(())
 }
 
-/// Adds the code of a comparison and those after it; AllocError.
+/// Emits the code of a comparison and those after it. AllocError if memory runs out.
 #[cycle(expressions)]
 #[inline(never)]
 fn push_comparisons(
@@ -534,7 +539,7 @@ fn push_comparisons(
     Ok(())
 }
 
-/// Adds comparisons, out of each of which but the last a jump leads; AllocError.
+/// Emits comparisons, each with a jump out except the last. AllocError if memory runs out.
 #[cycle(expressions)]
 fn push_links(
     code: &mut Builder,
@@ -553,7 +558,7 @@ fn push_links(
     push_binary(code, operator)
 }
 
-/// Adds the code of steps; AllocError.
+/// Emits the code of steps. AllocError if memory runs out.
 #[cycle(expressions)]
 pub(crate) fn push_steps(code: &mut Builder, after: &[Step]) -> Result<(), AllocError>
     ensures { OnOk result (code.new ≡ put (steps_code (steps after.now)) code.old) }
@@ -564,7 +569,8 @@ pub(crate) fn push_steps(code: &mut Builder, after: &[Step]) -> Result<(), Alloc
     Ok(())
 }
 
-/// Adds the code of filters of the topmost value, from the left; AllocError.
+/// Emits the code that applies filters to the topmost value, from left to right. AllocError if
+/// memory runs out.
 pub(crate) fn push_filters(code: &mut Builder, filters: &[Step]) -> Result<(), AllocError>
     ensures { OnOk result (code.new ≡ put (filters_code filters.now) code.old) }
 {

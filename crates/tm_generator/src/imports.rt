@@ -1,4 +1,4 @@
-//! The code of templates that are included, and of what is imported from them.
+//! The code of `include`, `import` and `from`.
 ghost use Rattle.std.specs.Prelude.{◌≡◌, [], ◌∷◌, OnOk};
 ghost use Rattle.tm_generator.specs.Building.{put};
 ghost use Rattle.tm_syntax.specs.Code.{included_code, lookups_code, statement_code, stores_code};
@@ -10,7 +10,7 @@ use crate::targets::push_target;
 use std::alloc::AllocError;
 use tm_syntax::{AssignmentTarget, CaptureMode, Expr, Imported, Instruction};
 
-/// Adds the code of an `include`; AllocError.
+/// Emits the code of an `include`. AllocError if memory runs out.
 #[inline(never)]
 pub(crate) fn push_include(
     code: &mut Builder,
@@ -24,7 +24,7 @@ pub(crate) fn push_include(
     code.emit(Instruction::Include(missing))
 }
 
-/// Adds the code of an `import`; AllocError.
+/// Emits the code of an `import`. AllocError if memory runs out.
 #[inline(never)]
 pub(crate) fn push_import(
     code: &mut Builder,
@@ -42,7 +42,7 @@ pub(crate) fn push_import(
     push_target(code, target)
 }
 
-/// Adds the code of a `from`; AllocError.
+/// Emits the code of a `from`. AllocError if memory runs out.
 #[inline(never)]
 pub(crate) fn push_from_import(
     code: &mut Builder,
@@ -61,7 +61,7 @@ pub(crate) fn push_from_import(
     code.emit(Instruction::DiscardTop)
 }
 
-/// Adds the code that opens a scope and runs a template in it; AllocError.
+/// Emits the code that opens a scope and runs a template in it. AllocError if memory runs out.
 fn push_included(code: &mut Builder, template: &Expr) -> Result<(), AllocError>
     ensures { OnOk result (code.new ≡ put (included_code template.now) code.old) }
 {
@@ -70,7 +70,7 @@ fn push_included(code: &mut Builder, template: &Expr) -> Result<(), AllocError>
     code.emit(Instruction::IncludeModule)
 }
 
-/// Adds the code that looks up names which a template leaves; AllocError.
+/// Emits the code that looks up the imported names. AllocError if memory runs out.
 fn push_lookups(code: &mut Builder, imports: &[Imported]) -> Result<(), AllocError>
     ensures { OnOk result (code.new ≡ put (lookups_code imports.now) code.old) }
 {
@@ -80,7 +80,8 @@ fn push_lookups(code: &mut Builder, imports: &[Imported]) -> Result<(), AllocErr
     Ok(())
 }
 
-/// Adds the code that gives their values to names, from the last to the first; AllocError.
+/// Emits the code that binds the targets to the topmost values, from the last to the first.
+/// AllocError if memory runs out.
 fn push_stores(code: &mut Builder, imports: &[Imported]) -> Result<(), AllocError>
     ensures { OnOk result (code.new ≡ put (stores_code imports.now) code.old) }
 {

@@ -1,4 +1,5 @@
-//! Instructions from statements and expressions.
+//! Generates the instructions of statements and expressions. AllocError also if a count of
+//! arguments or owners overflows.
 #![tactic(auto, using(tm_syntax::proofs::Forms::boxes))]
 
 mod builder;

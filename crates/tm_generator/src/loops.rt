@@ -1,4 +1,4 @@
-//! The code of what loops go over.
+//! The code of the values that loops iterate over.
 ghost use Rattle.std.specs.Prelude.{◌≡◌, [], ◌∷◌, OnOk};
 ghost use Rattle.tm_generator.specs.Building.{put};
 ghost use Rattle.tm_syntax.specs.Code.{iterable_code, pass_round, take_item};
@@ -11,8 +11,9 @@ use tm_items::Boxed;
 use tm_syntax::{AssignmentTarget, Expr, Instruction, JumpKind, LoopFlags};
 use tm_values::Value;
 
-/// Adds the code of what a loop goes over: with a condition the items for which that is true. A
-/// loop of its own leaves these on the stack below their count; AllocError.
+/// Emits the code of the value that a loop iterates over. With a condition, this is the list of the
+/// items for which the condition is true: a loop of its own leaves them on the stack below their
+/// count. AllocError if memory runs out.
 #[inline(never)]
 pub(crate) fn push_iterable(
     code: &mut Builder,
@@ -39,7 +40,8 @@ pub(crate) fn push_iterable(
     code.emit(Instruction::BuildList(None))
 }
 
-/// Adds the round that takes its item where a condition is true, and drops it else; AllocError.
+/// Emits the round that keeps its item if the condition is true, and drops it otherwise. AllocError
+/// if memory runs out.
 fn push_pass_round(
     code: &mut Builder,
     target: &AssignmentTarget,
@@ -54,8 +56,8 @@ fn push_pass_round(
     code.emit(Instruction::DiscardTop)
 }
 
-/// Adds what takes an item where the topmost value is true: it stays below the count, which is one
-/// more then, and the next round begins; AllocError.
+/// Emits the code that keeps an item if the topmost value is true. The item moves below the count,
+/// the count grows by one, and the next round begins. AllocError if memory runs out.
 fn push_take_item(code: &mut Builder) -> Result<(), AllocError>
     ensures { OnOk result (code.new ≡ put take_item code.old) }
 {

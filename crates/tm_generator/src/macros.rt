@@ -15,8 +15,8 @@ use tm_names::MacroNames;
 use tm_syntax::{Expr, Instruction, JumpKind, Name, Parameter};
 use tm_values::{SharedText, Value};
 
-/// Adds the code that binds the values of arguments to parameters, from the last to the first;
-/// AllocError.
+/// Emits the code that binds parameters to the topmost values, from the last to the first.
+/// AllocError if memory runs out.
 #[inline(never)]
 pub(crate) fn push_parameters(
     code: &mut Builder,
@@ -32,7 +32,8 @@ pub(crate) fn push_parameters(
     Ok(())
 }
 
-/// Adds the code that binds the topmost value, or the default in its place; AllocError.
+/// Emits the code that binds a parameter to the topmost value, or to the default if that is
+/// undefined. AllocError if memory runs out.
 fn push_parameter(code: &mut Builder, parameter: &Parameter) -> Result<(), AllocError>
     ensures { OnOk result (code.new ≡ put (parameter_code parameter.now) code.old) }
 {
@@ -40,7 +41,8 @@ fn push_parameter(code: &mut Builder, parameter: &Parameter) -> Result<(), Alloc
     code.emit(Instruction::StoreLocal(parameter.name.share()?))
 }
 
-/// Adds the code that puts a default in the place of an undefined value on top; AllocError.
+/// Emits the code that replaces an undefined topmost value with the default, if there is one.
+/// AllocError if memory runs out.
 fn push_default(code: &mut Builder, default: &Option<Boxed<Expr>>) -> Result<(), AllocError>
     ensures { OnOk result (code.new ≡ put (default_code default.now) code.old) }
 {
@@ -57,8 +59,8 @@ fn push_default(code: &mut Builder, default: &Option<Boxed<Expr>>) -> Result<(),
     Ok(())
 }
 
-/// Adds the code of a closure with the names that a macro reads, and of the macro, which is entered
-/// at a place; AllocError.
+/// Emits the code that makes a closure with the names that a macro reads, and builds the macro,
+/// whose entry is `entry`. AllocError if memory runs out.
 #[inline(never)]
 pub(crate) fn push_building(
     code: &mut Builder,
@@ -79,7 +81,8 @@ pub(crate) fn push_building(
     code.emit(Instruction::BuildMacro(name.share()?, entry, names.takes_caller))
 }
 
-/// Adds the code of the keyword `caller`, and gives that name; AllocError.
+/// Emits the code that pushes the keyword `caller`, and returns that name. AllocError if memory
+/// runs out.
 pub(crate) fn push_caller(code: &mut Builder) -> Result<Name, AllocError>
     ensures ok { OnOk result
         (code.new ≡ with_one (LoadConst (text (codes "caller") false)) code.old) }
@@ -90,7 +93,7 @@ pub(crate) fn push_caller(code: &mut Builder) -> Result<Name, AllocError>
     Ok(name)
 }
 
-/// The names of parameters as a list of texts; AllocError.
+/// The names of parameters as a list of texts. AllocError if memory runs out.
 fn names_of(alloc: Global, parameters: &[Parameter]) -> Result<Value, AllocError>
     ensures { IfOk result (λ names. names ≡ name_list (parameter_names parameters.now)) }
 {

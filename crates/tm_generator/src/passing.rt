@@ -1,4 +1,4 @@
-//! How many values a call is passed, and how they lie in rows.
+//! The number of values that a call is passed, and their rows. A spread argument ends a row.
 ghost use Rattle.std.specs.Prelude.{◌≡◌, ◌+◌, [], ◌∷◌, OnOk, IfOk};
 ghost use Rattle.tm_generator.specs.Building.{put};
 ghost use Rattle.tm_generator.specs.Opened.{called_with_none, ending, ending_count, unpacked_code};
@@ -13,30 +13,31 @@ use crate::builder::Builder;
 use std::alloc::AllocError;
 use tm_syntax::{Argument, Instruction, Keyword};
 
-/// Values in rows.
+/// Arguments in rows.
 #[derive(Clone, Copy)]
 pub(crate) struct Rows {
-    /// How many rows have ended.
+    /// The number of rows that have ended. A spread argument is a row of its own.
     pub(crate) ended: usize,
-    /// How many values are pending after them.
+    /// The length of the open row.
     pub(crate) pending: usize,
 }
 
-/// What a call is passed, with its last rows open.
+/// The arguments of a call, with the last rows open.
 #[derive(Clone, Copy)]
 pub(crate) struct OpenCall {
-    /// Values by their places, each row of which becomes a list.
+    /// The values by position, with those below the arguments. If an argument is spread, each row
+    /// becomes a list.
     pub(crate) lists: Rows,
-    /// Names with their values, each row of which becomes a map.
+    /// The keyword arguments. Each row becomes a map.
     pub(crate) maps: Rows,
-    /// Whether one of the arguments is spread.
+    /// Whether a positional argument is spread.
     pub(crate) spreads: bool,
-    /// Whether one of the keywords is spread.
+    /// Whether a keyword argument is spread.
     pub(crate) merges: bool,
 }
 
 impl OpenCall {
-    /// With nothing but the value below.
+    /// A call of the topmost value without further arguments.
     pub(crate) fn with_none() -> OpenCall
         ensures { result ≡ called_with_none }
     {
@@ -54,7 +55,7 @@ impl OpenCall {
         }
     }
 
-    /// Counts one keyword more; AllocError where there is no such number.
+    /// Counts one more keyword argument. AllocError if the count overflows.
     pub(crate) fn add_name(&mut self) -> Result<(), AllocError>
         ensures { OnOk result (self.new ≡ with_name self.old) }
     {
@@ -62,8 +63,8 @@ impl OpenCall {
         Ok(())
     }
 
-    /// Adds the code of the ends of the last rows. Gives how many values the call is passed; none
-    /// where their number is on top. AllocError.
+    /// Emits the ends of the last rows. Returns the number of values passed, or None if it is on
+    /// top of the stack. AllocError if memory runs out or a count overflows.
     #[inline(never)]
     pub(crate) fn end(&self, code: &mut Builder) -> Result<Option<usize>, AllocError>
         ensures ok { OnOk result (code.new ≡ put (ending row_end self.now) code.old) }
@@ -77,8 +78,8 @@ impl OpenCall {
     }
 }
 
-/// Adds the code that merges so many maps where one is spread, and gives how many values they are
-/// then; AllocError.
+/// If `merges`, emits the code that merges `maps` maps into one. Returns the number of maps after
+/// that. AllocError if memory runs out.
 fn push_merged(code: &mut Builder, merges: bool, maps: usize) -> Result<usize, AllocError>
     ensures ok { OnOk result (code.new ≡ put (straight (merged_code merges maps)) code.old) }
     ensures count { IfOk result (λ count. count ≡ merged_count merges maps) }
@@ -90,8 +91,9 @@ fn push_merged(code: &mut Builder, merges: bool, maps: usize) -> Result<usize, A
     Ok(1)
 }
 
-/// Adds the code that unpacks so many lists and the values after them where one is spread, and
-/// gives how many values there are; none where their number is on top. AllocError.
+/// If `spreads`, emits the code that unpacks `lists` lists and the `values` values after them.
+/// Returns the number of values, or None if it is on top of the stack. AllocError if memory runs
+/// out or a count overflows.
 fn push_unpacked(
     code: &mut Builder,
     spreads: bool,
@@ -110,7 +112,7 @@ fn push_unpacked(
     Ok(None)
 }
 
-/// The sum of two numbers; AllocError where it is none.
+/// The sum of two numbers. AllocError if it overflows.
 pub(crate) fn sum(one: usize, other: usize) -> Result<usize, AllocError>
     ensures { IfOk result (λ n. n ≡ one + other) }
 {
@@ -120,7 +122,7 @@ pub(crate) fn sum(one: usize, other: usize) -> Result<usize, AllocError>
     }
 }
 
-/// Whether a row of so many becomes a value: 1, or else 0.
+/// The number of values that a row of `count` becomes: 0 if it is empty, and 1 otherwise.
 #[tactic(auto, using(crate::proofs::Spreading::rows))]
 pub(crate) fn rows_of(count: usize) -> usize
     ensures { result ≡ code.rows_of count }
@@ -128,7 +130,8 @@ pub(crate) fn rows_of(count: usize) -> usize
     if count == 0 { 0 } else { 1 }
 }
 
-/// Adds the code of a row of so many that becomes a list, where there are any; AllocError.
+/// Emits the code that makes a list of a row of `count` values, unless it is empty. AllocError if
+/// memory runs out.
 #[tactic(auto, using(crate::proofs::Spreading::rows))]
 pub(crate) fn push_list_of_row(code: &mut Builder, count: usize) -> Result<(), AllocError>
     ensures { OnOk result (code.new ≡ put (straight (list_of_row count)) code.old) }
@@ -139,8 +142,8 @@ pub(crate) fn push_list_of_row(code: &mut Builder, count: usize) -> Result<(), A
     code.emit(Instruction::BuildList(Some(count)))
 }
 
-/// Adds the code of a row of so many names with their values that becomes a map, where there are
-/// any; AllocError.
+/// Emits the code that makes a map of a row of `count` keyword arguments, unless it is empty.
+/// AllocError if memory runs out.
 #[tactic(auto, using(crate::proofs::Spreading::rows))]
 pub(crate) fn push_map_of_row(code: &mut Builder, count: usize) -> Result<(), AllocError>
     ensures { OnOk result (code.new ≡ put (straight (map_of_row count)) code.old) }
@@ -173,7 +176,7 @@ pub(crate) fn has_spread(given: &[Argument]) -> bool
     false
 }
 
-/// How many values wait to be a list after an argument, after a row of so many; AllocError.
+/// The length of the open row after `argument`, if it was `row` before. AllocError if it overflows.
 pub(crate) fn row_after(row: usize, argument: &Argument) -> Result<usize, AllocError>
     ensures { IfOk result (λ n. n ≡ code.row_after row argument.now) }
 {
@@ -183,7 +186,7 @@ pub(crate) fn row_after(row: usize, argument: &Argument) -> Result<usize, AllocE
     }
 }
 
-/// How many lists an argument brings after a row of so many.
+/// The number of lists that `argument` adds after a row of `row` values.
 pub(crate) fn lists_at(row: usize, argument: &Argument) -> usize
     ensures { result ≡ code.lists_at row argument.now }
 {
@@ -193,7 +196,7 @@ pub(crate) fn lists_at(row: usize, argument: &Argument) -> usize
     }
 }
 
-/// Whether a keyword is spread.
+/// Whether a keyword argument is spread.
 fn is_spread_keyword(keyword: &Keyword) -> bool
     ensures { result ≡ code.is_spread_keyword keyword.now }
 {
@@ -203,7 +206,7 @@ fn is_spread_keyword(keyword: &Keyword) -> bool
     }
 }
 
-/// Whether one of these keywords is spread.
+/// Whether one of these keyword arguments is spread.
 pub(crate) fn has_spread_keyword(named: &[Keyword]) -> bool
     ensures { result ≡ code.has_spread_keyword (keywords named.now) }
 {
@@ -215,7 +218,7 @@ pub(crate) fn has_spread_keyword(named: &[Keyword]) -> bool
     false
 }
 
-/// How many names wait to be a map after a keyword, after a row of so many; AllocError.
+/// The length of the open row after `keyword`, if it was `row` before. AllocError if it overflows.
 pub(crate) fn keywords_after(row: usize, keyword: &Keyword) -> Result<usize, AllocError>
     ensures { IfOk result (λ n. n ≡ code.keywords_after row keyword.now) }
 {
@@ -225,7 +228,7 @@ pub(crate) fn keywords_after(row: usize, keyword: &Keyword) -> Result<usize, All
     }
 }
 
-/// How many maps a keyword brings after a row of so many.
+/// The number of maps that `keyword` adds after a row of `row` keyword arguments.
 pub(crate) fn maps_at(row: usize, keyword: &Keyword) -> usize
     ensures { result ≡ code.maps_at row keyword.now }
 {

@@ -34,11 +34,11 @@ use tm_syntax::{
     LoopFlags, Macro, Name, NameMap, Opened, Parameter, Step, Stmt,
 };
 
-// A frame has room for the locals of all that is inlined, and clears them at its start: so what is
-// seldom is not.
+// A stack frame holds the locals of all inlined functions and clears them when it begins. So the
+// rarer functions are not inlined.
 
-/// A stream that is being made: its code, what is open where the code has come to, and the blocks
-/// that were found so far, in this stream and in those around it.
+/// A stream under construction: its code, what is open at the end of the code, and the blocks found
+/// so far in this stream and in those around it.
 #[derive(Drop)]
 pub(crate) struct StreamBuilder {
     code: Builder,
@@ -46,7 +46,8 @@ pub(crate) struct StreamBuilder {
     blocks: NameMap<BlockCode>,
 }
 
-/// Adds the code of a statement, and that of its blocks; AllocError.
+/// Emits the code of a statement, and adds the streams of the blocks in it. AllocError if memory
+/// runs out.
 #[cycle(statements)]
 fn push_statement(stream: &mut StreamBuilder, statement: &Stmt) -> Result<(), AllocError>
     ensures { OnOk result (stream.new ≡ put_in
@@ -94,7 +95,7 @@ fn push_statement(stream: &mut StreamBuilder, statement: &Stmt) -> Result<(), Al
     }
 }
 
-/// Adds the code of a `break`; AllocError.
+/// Emits the code of a `break`. AllocError if memory runs out.
 #[inline(never)]
 fn push_break(stream: &mut StreamBuilder) -> Result<(), AllocError>
     ensures { OnOk result (stream.new ≡ put_in
@@ -104,7 +105,7 @@ fn push_break(stream: &mut StreamBuilder) -> Result<(), AllocError>
     stream.code.break_loop()
 }
 
-/// Adds the code of a `continue`; AllocError.
+/// Emits the code of a `continue`. AllocError if memory runs out.
 #[inline(never)]
 fn push_continue(stream: &mut StreamBuilder) -> Result<(), AllocError>
     ensures { OnOk result (stream.new ≡ put_in
@@ -114,7 +115,7 @@ fn push_continue(stream: &mut StreamBuilder) -> Result<(), AllocError>
     stream.code.next_round()
 }
 
-/// Adds the code of an `extends`; AllocError.
+/// Emits the code of an `extends`. AllocError if memory runs out.
 #[inline(never)]
 fn push_extends(stream: &mut StreamBuilder, parent: &Expr) -> Result<(), AllocError>
     ensures { OnOk result (stream.new ≡ put_in
@@ -124,7 +125,7 @@ fn push_extends(stream: &mut StreamBuilder, parent: &Expr) -> Result<(), AllocEr
     stream.code.emit(Instruction::LoadBlocks)
 }
 
-/// Adds the code of a `do`; AllocError.
+/// Emits the code of a `do`. AllocError if memory runs out.
 #[inline(never)]
 fn push_do(stream: &mut StreamBuilder, call: &Expr) -> Result<(), AllocError>
     ensures { OnOk result (stream.new ≡ put_in
@@ -134,7 +135,8 @@ fn push_do(stream: &mut StreamBuilder, call: &Expr) -> Result<(), AllocError>
     stream.code.emit(Instruction::DiscardTop)
 }
 
-/// Adds the call of a block, and the block's own stream, like that of a statement; AllocError.
+/// Emits the call of a block, and adds the block's own stream and those of the blocks in it.
+/// AllocError if memory runs out.
 #[cycle(statements)]
 #[inline(never)]
 fn push_call_of_block(
@@ -151,7 +153,8 @@ fn push_call_of_block(
     stream.code.emit(Instruction::CallBlock(name.share()?))
 }
 
-/// Adds the code of a set block or a filter block, like that of a statement; AllocError.
+/// Emits the code of a set block or a filter block, and adds the streams of the blocks in it.
+/// AllocError if memory runs out.
 #[cycle(statements)]
 #[inline(never)]
 fn push_capture(
@@ -172,7 +175,8 @@ fn push_capture(
     push_use(&mut stream.code, becomes)
 }
 
-/// Adds the code of a `with`, like that of a statement; AllocError.
+/// Emits the code of a `with`, and adds the streams of the blocks in it. AllocError if memory runs
+/// out.
 #[cycle(statements)]
 #[inline(never)]
 fn push_with(
@@ -190,7 +194,8 @@ fn push_with(
     stream.code.emit(Instruction::PopFrame)
 }
 
-/// Adds the code of an `autoescape`, like that of a statement; AllocError.
+/// Emits the code of an `autoescape`, and adds the streams of the blocks in it. AllocError if
+/// memory runs out.
 #[cycle(statements)]
 #[inline(never)]
 fn push_escaped(stream: &mut StreamBuilder, value: &Expr, body: &[Stmt]) -> Result<(), AllocError>
@@ -204,7 +209,8 @@ fn push_escaped(stream: &mut StreamBuilder, value: &Expr, body: &[Stmt]) -> Resu
     stream.code.emit(Instruction::PopAutoEscape)
 }
 
-/// Adds the code of a condition and its bodies, like that of a statement; AllocError.
+/// Emits the code of an `if`, and adds the streams of the blocks in it. AllocError if memory runs
+/// out.
 #[cycle(statements)]
 #[inline(never)]
 fn push_if(
@@ -230,8 +236,8 @@ fn push_if(
     Ok(())
 }
 
-/// Adds the code of statements that run where the topmost value is true, and that of their blocks;
-/// AllocError.
+/// Emits the code of statements that run if the topmost value is true, and adds the streams of the
+/// blocks in them. AllocError if memory runs out.
 #[cycle(statements)]
 fn push_if_true(stream: &mut StreamBuilder, body: &[Stmt]) -> Result<(), AllocError>
     ensures { OnOk result (stream.new ≡ put_in
@@ -245,7 +251,8 @@ fn push_if_true(stream: &mut StreamBuilder, body: &[Stmt]) -> Result<(), AllocEr
     Ok(())
 }
 
-/// Adds the code of a loop, like that of a statement; AllocError.
+/// Emits the code of a loop, and adds the streams of the blocks in it. AllocError if memory runs
+/// out.
 #[cycle(statements)]
 #[inline(never)]
 fn push_for(stream: &mut StreamBuilder, for_loop: &ForLoop) -> Result<(), AllocError>
@@ -269,7 +276,8 @@ fn push_for(stream: &mut StreamBuilder, for_loop: &ForLoop) -> Result<(), AllocE
     push_if_true(stream, other.as_slice())
 }
 
-/// Adds the code of a loop's rounds, and that of their blocks; AllocError.
+/// Emits the code of a loop's rounds, and adds the streams of the blocks in them. AllocError if
+/// memory runs out.
 #[cycle(statements)]
 #[inline(never)]
 fn push_rounds(stream: &mut StreamBuilder, for_loop: &ForLoop) -> Result<(), AllocError>
@@ -291,7 +299,8 @@ fn push_rounds(stream: &mut StreamBuilder, for_loop: &ForLoop) -> Result<(), All
     stream.code.end_rounds(outer)
 }
 
-/// Adds the code of a macro, like that of a statement; AllocError.
+/// Emits the code of a macro's declaration, and adds the streams of the blocks in it. AllocError if
+/// memory runs out.
 #[cycle(statements)]
 #[inline(never)]
 fn push_macro(stream: &mut StreamBuilder, declared: &Macro) -> Result<(), AllocError>
@@ -305,7 +314,8 @@ fn push_macro(stream: &mut StreamBuilder, declared: &Macro) -> Result<(), AllocE
     stream.code.emit(Instruction::StoreLocal(name))
 }
 
-/// Adds the code of a call that is emitted, like that of a statement; AllocError.
+/// Emits the code of a `call` block, which writes the result of its call, and adds the streams of
+/// the blocks in it. AllocError if memory runs out.
 #[cycle(statements)]
 #[inline(never)]
 fn push_call_block(stream: &mut StreamBuilder, tag: &CallBlock) -> Result<(), AllocError>
@@ -323,7 +333,8 @@ fn push_call_block(stream: &mut StreamBuilder, tag: &CallBlock) -> Result<(), Al
     stream.code.emit(Instruction::Emit)
 }
 
-/// Adds the code of the value of a macro, and that of the blocks in its body; AllocError.
+/// Emits the code that pushes a macro, and adds the streams of the blocks in its body. AllocError
+/// if memory runs out.
 #[cycle(statements)]
 #[inline(never)]
 fn push_declared(
@@ -344,8 +355,8 @@ fn push_declared(
     push_building(&mut stream.code, name, parameters, &names, entry)
 }
 
-/// Adds the code of statements that see nothing of what is open around them, and that of their
-/// blocks; AllocError.
+/// Emits the code of statements that don't close what is open around them, and adds the streams of
+/// the blocks in them. AllocError if memory runs out.
 #[cycle(statements)]
 fn push_alone(stream: &mut StreamBuilder, body: &[Stmt]) -> Result<(), AllocError>
     ensures { OnOk result (stream.new ≡ put_in
@@ -359,8 +370,8 @@ fn push_alone(stream: &mut StreamBuilder, body: &[Stmt]) -> Result<(), AllocErro
     Ok(())
 }
 
-/// Adds the code of statements within something that is open around them, and that of their blocks;
-/// AllocError.
+/// Emits the code of statements inside `opened`, and adds the streams of the blocks in them.
+/// AllocError if memory runs out.
 #[cycle(statements)]
 #[inline(never)]
 fn push_within(stream: &mut StreamBuilder, opened: Opened, body: &[Stmt]) -> Result<(), AllocError>
@@ -374,7 +385,8 @@ fn push_within(stream: &mut StreamBuilder, opened: Opened, body: &[Stmt]) -> Res
     Ok(())
 }
 
-/// Adds the code of statements, and that of their blocks; AllocError.
+/// Emits the code of statements, and adds the streams of the blocks in them. AllocError if memory
+/// runs out.
 #[cycle(statements)]
 fn push_statements(stream: &mut StreamBuilder, body: &[Stmt]) -> Result<(), AllocError>
     ensures { OnOk result (stream.new ≡ put_in
@@ -387,7 +399,8 @@ fn push_statements(stream: &mut StreamBuilder, body: &[Stmt]) -> Result<(), Allo
     Ok(())
 }
 
-/// Adds a block's own stream to the blocks, after those of the blocks in it; AllocError.
+/// Adds a block's own stream to the blocks, after those of the blocks in it. AllocError if memory
+/// runs out.
 #[cycle(statements)]
 #[inline(never)]
 fn push_block(
@@ -406,7 +419,7 @@ fn push_block(
     add_block(&mut stream.blocks, name, BlockCode { required, code })
 }
 
-/// Adds a block's own stream by the block's name; AllocError.
+/// Adds a block's own stream under the block's name. AllocError if memory runs out.
 #[inline(never)]
 fn add_block(
     blocks: &mut NameMap<BlockCode>,
@@ -419,7 +432,8 @@ fn add_block(
     Ok(())
 }
 
-/// The code of statements on their own, and that of their blocks; AllocError.
+/// The stream of statements on their own. Adds the streams of their blocks to `blocks`. AllocError
+/// if memory runs out; `blocks` may then be empty.
 #[cycle(statements)]
 pub fn stream(
     alloc: Global,

@@ -1,4 +1,4 @@
-//! The code that gives values to targets.
+//! The code that assigns values to targets.
 ghost use Rattle.std.specs.Prelude.{◌≡◌, [], ◌∷◌, OnOk};
 ghost use Rattle.tm_generator.specs.Building.{put};
 ghost use Rattle.tm_syntax.specs.Code.{target_code, targets_code, set_code, assignments_code};
@@ -10,7 +10,7 @@ use crate::expressions::push_expr;
 use std::alloc::AllocError;
 use tm_syntax::{Assignment, AssignmentTarget, CaptureUse, Expr, Instruction};
 
-/// Adds the code that gives the topmost value to a target; AllocError.
+/// Emits the code that assigns the topmost value to a target. AllocError if memory runs out.
 #[cycle(targets)]
 pub(crate) fn push_target(code: &mut Builder, target: &AssignmentTarget) -> Result<(), AllocError>
     ensures { OnOk result (code.new ≡ put (target_code target.now) code.old) }
@@ -28,7 +28,8 @@ pub(crate) fn push_target(code: &mut Builder, target: &AssignmentTarget) -> Resu
     }
 }
 
-/// Adds the code that gives the topmost values to targets, the first on top; AllocError.
+/// Emits the code that assigns the topmost values to targets, the topmost to the first. AllocError
+/// if memory runs out.
 #[cycle(targets)]
 fn push_targets(code: &mut Builder, parts: &[AssignmentTarget]) -> Result<(), AllocError>
     ensures { OnOk result (code.new ≡ put (targets_code (targets parts.now)) code.old) }
@@ -39,7 +40,7 @@ fn push_targets(code: &mut Builder, parts: &[AssignmentTarget]) -> Result<(), Al
     Ok(())
 }
 
-/// Adds the code of a value that is given to a target; AllocError.
+/// Emits the code of a value and its assignment to a target. AllocError if memory runs out.
 pub(crate) fn push_set(
     code: &mut Builder,
     target: &AssignmentTarget,
@@ -51,7 +52,7 @@ pub(crate) fn push_set(
     push_target(code, target)
 }
 
-/// Adds the code of values that are given to targets, one after the other; AllocError.
+/// Emits the code of assignments, one after the other. AllocError if memory runs out.
 pub(crate) fn push_assignments(code: &mut Builder, given: &[Assignment]) -> Result<(), AllocError>
     ensures { OnOk result (code.new ≡ put (assignments_code given.now) code.old) }
 {
@@ -61,7 +62,7 @@ pub(crate) fn push_assignments(code: &mut Builder, given: &[Assignment]) -> Resu
     Ok(())
 }
 
-/// Adds the code of what becomes of the text of a capture; AllocError.
+/// Emits the code that writes the text of a capture or assigns it. AllocError if memory runs out.
 pub(crate) fn push_use(code: &mut Builder, becomes: &CaptureUse) -> Result<(), AllocError>
     ensures { OnOk result (code.new ≡ put (use_code becomes.now) code.old) }
 {
