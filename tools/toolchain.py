@@ -46,10 +46,14 @@ def take_proved(made, crates):
     made.Crate.allowed = made.handles_of(ROOT)
     held, missing = made.Kept(crates), []
     for crate in crates:
-        # (what is there already would make a kept library look damaged)
-        shutil.rmtree(f"{crate.folder}/out/rlib", ignore_errors=True)
-        if any(it.name in missing for it in crate.below()) or not held.give(crate, False, held.key(crate)):
+        key = None if any(it.name in missing for it in crate.below()) else held.key(crate)
+        if not key or not os.path.isdir(held.place(crate, False, key)):
             missing.append(crate.name)
-        else:
+            continue
+        # (what is there already would make the kept library look damaged)
+        shutil.rmtree(f"{crate.folder}/out/rlib", ignore_errors=True)
+        if held.give(crate, False, key):
             held.is_built(crate)
+        else:
+            missing.append(crate.name)
     return missing
