@@ -8,5 +8,6 @@ pub returns-in-None : goal.returns-in-None
 returns-in-None g c =
     let defined = ap (λ b. refusal_of b Emission c.args.value.now) (sym c.undefined_behavior.ensures)
     ∙ no_refusal _ _ c.in_ok-check_defined.ensures in
-    by_default (g.H.Host.program c.args.host.now).host c.args.value.now c.args.self.now c.emission_text.result c.in-None.ensures
+    by_default (g.H.Host.program c.args.host.now).host c.args.value.now c.args.self.now c.emission_text.result
+    (c.objects.ensures.formatter ∙ c.in-None.ensures)
     defined (rw c.escape.ensures at c.emission_text.ensures)
