@@ -6,14 +6,13 @@ use Rattle.std.specs.Global.{Box}
 use Rattle.std.specs.Io.KnownBytes.{Appends}
 use Rattle.tm_meaning.specs.Calls.{NestedCall, enter_block, block_call, whole}
 use Rattle.tm_meaning.specs.declared.run_text.RunText.TheVariants as texts
-use Rattle.tm_meaning.specs.Instructions.{binary_of, call_block_of, get_attr_of, iterate_of, jump_if_false_of, lookup_of}
+use Rattle.tm_meaning.specs.Instructions.{call_block_of}
 use Rattle.tm_meaning.specs.Machine.{Config, Next, More, Program, after, asked_in_place, audible, first_run, nested, with_world}
 use Rattle.tm_meaning.specs.Meaning.{none_waits}
 use Rattle.tm_meaning.specs.declared.stream.StreamId.{StreamId}
 use Rattle.std.proofs.Common.{◌-◌}
 use Rattle.tm_meaning.specs.Steps.{act, charge_of, effect, pay, step}
 use Rattle.tm_trees.specs.Instructions.{Instruction}
-use Rattle.tm_trees.specs.Trees.{BinaryOperator}
 use Rattle.tm_state.specs.Answers.{KeepsFixed, KeepsFixedAndNames, OneDeeper, fixed_of}
 use Rattle.tm_vm.proofs.Ground.{same_as_no_fewer, standing_same, stays, stays_over}
 use Rattle.tm_vm.proofs.Loop.{fixed_same, fixed_then, kept_same}
@@ -335,28 +334,6 @@ free_at_once n old new told true s = record {
 }
 free_at_once n old new told false same = (same, refl)
 
--- one that is done alike under every host, or for every place
-pub lookup_at_once : (host : HostValue) (x : List ℕ) (old new : Config) (told : Told) (done : Bool) →
-    ((h : HostValue) → IsAtOnce done (lookup_of h x) old new) → Attempted (attempt_of done) (lookup_of host x) old new told told
-lookup_at_once host x old new told done s = at_once (lookup_of host x) old new told done (s host)
-
-pub get_attr_at_once : (host : HostValue) (x : List ℕ) (old new : Config) (told : Told) (done : Bool) →
-    ((h : HostValue) → IsAtOnce done (get_attr_of h x) old new) → Attempted (attempt_of done) (get_attr_of host x) old new told told
-get_attr_at_once host x old new told done s = at_once (get_attr_of host x) old new told done (s host)
-
-pub binary_at_once : (host : HostValue) (o : BinaryOperator) (old new : Config) (told : Told) (done : Bool) →
-    ((h : HostValue) → IsAtOnce done (binary_of h o) old new) → Attempted (attempt_of done) (binary_of host o) old new told told
-binary_at_once host o old new told done s = at_once (binary_of host o) old new told done (s host)
-
-pub jump_if_false_at_once : (host : HostValue) (place : ℕ) (old new : Config) (told : Told) (done : Bool) →
-    ((h : HostValue) → IsAtOnce done (jump_if_false_of h place) old new) →
-    Attempted (attempt_of done) (jump_if_false_of host place) old new told told
-jump_if_false_at_once host place old new told done s = at_once (jump_if_false_of host place) old new told done (s host)
-
-pub iterate_at_once : (place : ℕ) (old new : Config) (told : Told) (done : Bool) →
-    ((n : ℕ) → IsAtOnce done (iterate_of n) old new) → Attempted (attempt_of done) (iterate_of place) old new told told
-iterate_at_once place old new told done s = at_once (iterate_of place) old new told done (s place)
-
 pub of_charged : (done : Bool) → IsCharged (attempt_of done)
 of_charged true = tt
 of_charged false = tt
@@ -378,17 +355,7 @@ is_paid x fuel Left one more charged = tt
 
 pub ruleset charged = (of_charged, written_charged, captured_charged)
 
-pub ruleset attempts = (
-  lookup_at_once,
-  get_attr_at_once,
-  binary_at_once,
-  jump_if_false_at_once,
-  iterate_at_once,
-  at_once,
-  free_at_once,
-  is_paid,
-  of_charged,
-)
+pub ruleset attempts = (at_once, free_at_once, is_paid, of_charged)
 
 -- one that ends the run, or restarts it
 pub finished : {p : Program} {f : Base} {n : Next} {old new : Config} {told : Told} (result : Result Flow Halt) →
