@@ -114,7 +114,8 @@ impl<'source, O: Drop> EnvironmentOf<'source, O> {
 
     /// Removes the template named `name`, if there is one.
     pub fn remove_template(&mut self, name: &str)
-        ensures rest { self.new ≡ record self.old { templates = without name.now self.old.templates } }
+        ensures rest { self.new
+            ≡ record self.old { templates = without name.now self.old.templates } }
         ensures absent { find name.now self.old.templates ≡ None → self.new ≡ self.old }
         ensures gone { find name.now self.new.templates ≡ None }
         ensures others { (x : _) → x ≢ name.now →
@@ -302,7 +303,8 @@ impl<'source, O: Parties> EnvironmentOf<'source, O> {
     /// SyntaxError if the source spells no template, OutOfMemory if memory runs out; then nothing
     /// changes.
     pub fn add_template(&mut self, name: &str, source: &'source str) -> Result<(), Error>
-        ensures ok { OnOk result ((t : Compiled) × IsTemplateOf O.stated self.old name.now source.entry.now t
+        ensures ok { OnOk result ((t : Compiled)
+            × IsTemplateOf O.stated self.old name.now source.entry.now t
             × (self.new ≡ record self.old { templates = put name.now t self.old.templates })) }
         ensures refused { IfErr result (IsRefused self.old.syntax source.entry.now) }
         ensures err { OnErr result (self.new ≡ self.old) }

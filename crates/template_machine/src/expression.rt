@@ -94,7 +94,8 @@ impl<'env, 'source, O: Parties> ExpressionOf<'env, 'source, O> {
             (result ≡ Err (ErrorKind.InvalidOperation ∷ [])) × (ids.new ≡ ids.old) }
         ensures next { ids.old < greatest → ids.new ≡ ids.old + 1 }
         ensures evaluated { ids.old < greatest → IsOfTrees self.now →
-            Evaluated (value_meant O.stated self.now (first O.stated self.now ids.old context)) result }
+            Evaluated
+            (value_meant O.stated self.now (first O.stated self.now ids.old context)) result }
         ensures streams { ids.old < greatest →
             StreamValue O.stated self.now (first O.stated self.now ids.old context) result }
     {

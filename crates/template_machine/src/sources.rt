@@ -28,7 +28,8 @@ impl<'source, O: Parties> EnvironmentOf<'source, O> {
         &self,
         source: &'source str,
     ) -> Result<TemplateOf<'_, 'source, O>, Error>
-        ensures compiled { IfOk result (IsMadeIn O.stated self.now (codes "<string>") source.entry.now) }
+        ensures compiled { IfOk result
+            (IsMadeIn O.stated self.now (codes "<string>") source.entry.now) }
         ensures refused { IfErr result (IsRefused self.now.syntax source.entry.now) }
     {
         self.template_from_named_str(UNNAMED, source)

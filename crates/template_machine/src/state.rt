@@ -253,7 +253,8 @@ impl<'env, O: Parties> StateOf<'env, O> {
         ensures lists { runs_a_block (name_asked O.stated self.old name.now args.now) ≡ false →
             SameLists self.old.world self.new.world }
         ensures of_macro { (m : _) → find_name (view_of (host_of O.stated self.old.template)
-            self.old.world) name.now ≡ Ok (Some (macro m)) → SameLists self.old.world self.new.world }
+            self.old.world) name.now ≡ Ok (Some (macro m)) →
+            SameLists self.old.world self.new.world }
     {
         let alloc = self.rendering.allocator();
         let hashed = Name::new(alloc, name)?;
@@ -371,7 +372,8 @@ impl<'env, O: Parties> StateOf<'env, O> {
             StreamCalled O.stated self.old.template asked result
             (λ m. IsMacroCall result m self.new.world) }
         ensures template { self.new.template ≡ self.old.template }
-        ensures stays { (limit : _) (before : _) → CallLies limit (Ok called) before self.old.world →
+        ensures stays { (limit : _) (before : _) →
+            CallLies limit (Ok called) before self.old.world →
             StaysInPlace before self.new.world }
         ensures lists { (before : _) → KeepsLists called before self.old.world →
             SameLists before self.new.world }
@@ -395,7 +397,8 @@ impl<'env, O: Parties> StateOf<'env, O> {
             StreamCalled O.stated self.old.template asked result
             (λ m. IsMacroCall result m self.new.world) }
         ensures template { self.new.template ≡ self.old.template }
-        ensures stays { (limit : _) (before : _) → CallDeeper limit run.saved before self.old.world →
+        ensures stays { (limit : _) (before : _) →
+            CallDeeper limit run.saved before self.old.world →
             StaysInPlace before self.new.world }
         ensures lists { (before : _) → run.saved ≡ saved.Macro (saved_scopes before) →
             SameLists before self.new.world }

@@ -406,7 +406,8 @@ impl<W: Sink> WriteWrapper<W> {
         ensures no_fault { OnOk result (NoFailure (W.told self.old.w) (W.told self.new.w)) }
         ensures same_error { OnOk result (self.new.err ≡ self.old.err) }
         ensures kind { IfErr result (λ e. e ≡ WriteFailure ∷ []) }
-        ensures beginning { AppendsBeginning (W.told self.old.w).bytes (W.told self.new.w).bytes text.now }
+        ensures beginning { AppendsBeginning
+            (W.told self.old.w).bytes (W.told self.new.w).bytes text.now }
         ensures fault { OnErr result (OneFailure (W.told self.old.w) (W.told self.new.w)) }
         ensures kept { OnErr result (IsSome self.new.err) }
         ensures empty { text.now ≡ [] → IsOk result }

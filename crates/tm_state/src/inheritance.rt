@@ -131,7 +131,8 @@ impl StateData {
         waiting: &Option<TemplateId>,
         inside: bool,
     ) -> Result<TemplateId, Error>
-        ensures ok { IfOk result (λ t. load (H.program host.now).host value.now waiting.now inside self.old
+        ensures ok { IfOk result (λ t.
+            load (H.program host.now).host value.now waiting.now inside self.old
             ≡ Good t self.new) }
         ensures err { IfErr result (λ e. is_want_of_memory e ≡ false →
             load (H.program host.now).host value.now waiting.now inside self.old ≡ Bad e self.new) }
@@ -140,7 +141,8 @@ impl StateData {
           loaded = self.new.loaded;
         } }
         ensures fewer { OnOk result
-            (names_left (H.program host.now).host self.new + 1 ≤ names_left (H.program host.now).host self.old) }
+            (names_left (H.program host.now).host self.new + 1
+            ≤ names_left (H.program host.now).host self.old) }
         ensures names { OnErr result (self.new.loaded ≡ self.old.loaded) }
     {
         let name = self.parent_name(alloc, host, value, waiting, inside)?;
@@ -194,7 +196,8 @@ impl StateData {
           loaded = self.new.loaded;
         } }
         ensures fewer { OnOk result
-            (names_left (H.program host.now).host self.new + 1 ≤ names_left (H.program host.now).host self.old) }
+            (names_left (H.program host.now).host self.new + 1
+            ≤ names_left (H.program host.now).host self.old) }
         ensures names { OnErr result (self.new.loaded ≡ self.old.loaded) }
     {
         if self.lists.is_loaded(name.as_str()) {

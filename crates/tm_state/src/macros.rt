@@ -240,7 +240,8 @@ impl StateData {
         room: Vec<Value>,
     ) -> Option<(&StreamId, Vec<Value>)>
         requires { room.items ≡ [] }
-        ensures { IfSome result (λ r. enter_macro 0 (H.program host.now).host declared.now args.now self.now
+        ensures { IfSome result (λ r.
+            enter_macro 0 (H.program host.now).host declared.now args.now self.now
             ≡ runs_macro r.0.now declared.now r.1.items self.now
             (in_macro r.0.now declared.now self.now)) }
     {

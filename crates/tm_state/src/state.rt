@@ -172,7 +172,8 @@ impl StateData {
     /// The value that `name` is bound to: in the scopes, innermost first, else among the globals.
     /// InvalidOperation if the search meets a context value without a record.
     pub fn lookup<H: Host>(&self, host: &H, name: &Name) -> Result<Option<Value>, Error>
-        ensures { IsAnswer result (find_name (view_of (H.program host.now).host self.now) name.now) }
+        ensures { IsAnswer result
+            (find_name (view_of (H.program host.now).host self.now) name.now) }
     {
         match self.context.find(name, &self.closures, self)? {
             Some(found) => Ok(Some(found.value(self.id)?)),
@@ -391,7 +392,8 @@ impl StateData {
         number: usize,
         limit: usize,
     ) -> Result<(), Error>
-        ensures ok { OnOk result (self.new ≡ with_open_loop items.value.items flags number self.old) }
+        ensures ok { OnOk result
+            (self.new ≡ with_open_loop items.value.items flags number self.old) }
         ensures fits { OnOk result (nat_lt (depth self.old.scopes) limit ≡ true) }
         ensures kind { IfErr result (PushFails (nat_lt (depth self.old.scopes) limit)) }
         ensures err { OnErr result (self.new ≡ self.old) }
