@@ -24,7 +24,7 @@ use crate::library_parts::{compiles, runs_streams};
 use std::test::Fail;
 
 // example begins here
-/// Whether an answer is an error of this kind.
+/// Whether `answer` is an error of kind `kind`.
 pub(crate) fn is_fault<T: Drop>(answer: Result<T, Error>, kind: ErrorKind) -> bool {
     match answer {
         Ok(_) => false,
@@ -67,7 +67,7 @@ fn tells_values(alloc: Global) -> Result<bool, Error> {
             && !Value::none().is_true(),
     )
 }
-/// A map of one name.
+/// A map with `value` under `name`.
 pub(crate) fn named(alloc: Global, name: &str, value: Value) -> Result<Value, Error> {
     let mut map = ValueMap::new(alloc);
     map.insert(Value::text(alloc, name)?, value)?;
@@ -242,7 +242,7 @@ fn evaluates_owned<P: Parties>(
         .eval(&mut StateIds::new(), Value::undefined())?;
     Ok(value == Value::number(2))
 }
-/// Answers true.
+/// Returns true.
 #[derive(Drop)]
 struct Yes;
 
@@ -254,7 +254,7 @@ impl Answering for Yes {
     }
 }
 
-/// Tells the template's name, keeps a value before a fault, or asks for a further call.
+/// Returns the template's name, keeps a value and fails, or asks for a further call.
 #[derive(Clone, Copy)]
 pub(crate) enum Asking {
     Title,
@@ -327,7 +327,7 @@ fn calls_objects<P: Parties>(environment: &EnvironmentOf<'_, P>) -> Result<bool,
     let text = environment.render_str(&mut StateIds::new(), CALLS, Value::undefined())?;
     Ok(text.as_str() == "B<string> true true true M B")
 }
-/// Rules for methods, for what values are written as, for escapes and for names of templates.
+/// Rules for unknown methods, for the text of values, for escapes and for template names.
 #[derive(Drop)]
 pub(crate) struct OwnRules;
 
@@ -392,7 +392,7 @@ fn asks_rules<P: Parties>(environment: &mut EnvironmentOf<'_, P>) -> Result<bool
     let text = environment.render_str(&mut StateIds::new(), source, Value::undefined())?;
     Ok(text.as_str() == "twice&lt;.")
 }
-/// Keeps a value in a state, and tells whether none was there.
+/// Keeps a value in `state`. Returns whether it had none of that name.
 fn keeps<P: Parties>(state: &mut StateOf<'_, P>) -> Result<bool, Error> {
     Ok(state.set_temp("seen", Value::boolean(true))?.is_none())
 }

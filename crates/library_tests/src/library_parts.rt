@@ -80,7 +80,7 @@ pub(crate) fn compiles<P: Parties>(
     )
 }
 
-/// A greeting of a name, as a stream.
+/// The instructions of a greeting of a name.
 fn greeting(alloc: Global) -> Result<Vec<Instruction>, Error> {
     let mut stream = Vec::new(alloc);
     stream.push(Instruction::LoadConst(Value::text(alloc, "Hello ")?))?;
