@@ -151,147 +151,165 @@ block_tag u run b out w =
 abbrev pub RowValues : Type 0
 RowValues = List (Val × Val) → World → Res (List Val)
 
+-- one computation after another; a fault ends both
+infixl 10 ◌>>=◌
+abbrev pub ◌>>=◌ : {A B : Type 0} → (World → Res A) → (A → World → Res B) → World → Res B
+m >>= f = λ w. bind (m w) (λ a world1. f a world1)
+
+infixl 10 ◌>>◌
+abbrev pub ◌>>◌ : {A B : Type 0} → (World → Res A) → (World → Res B) → World → Res B
+m >> n = m >>= (λ _. n)
+
+abbrev pub chosen : {A : Type 0} → Bool → (World → Res A) → (World → Res A) → World → Res A
+chosen b m n w = choose b (λ _. m w) (λ _. n w)
+
+-- the value of what a call comes to
+abbrev pub asking : Under → Run → (World → Asked) → World → Res Val
+asking u run ask w = value_of u run (ask w)
+
+-- the text of a block of this template
+abbrev pub block_text : Under → Run → List ℕ → World → Res Val
+block_text u run b w = let o = block_tag u (capturing true run) b [] w in text_after o.ending o
+
 -- the guarded value and a charged jump if the condition is true; otherwise the other value
 abbrev pub under_condition : HostValue → (World → Res Val) → (World → Res Val) → (World → Res Val) → World → Res Val
-under_condition host test guarded other w =
-    bind (test w) (λ v world1. ticked world1 (λ world2. bind (truth host v world2) (λ b world3.
-    choose b (λ _. bind (guarded world3) (λ x world4. ticked world4 (λ world5. Good x world5))) (λ _. other world3))))
+under_condition host test guarded other = do
+  v ← test
+  tick
+  b ← truth host v
+  chosen b (do x ← guarded; tick; Good x) other
 
 abbrev mutual
   pub eval : Under → Run → Expr → World → Res Val
-  eval u run (Var x) w = ticked w (λ world1. looked_up u.host x world1)
-  eval u run (Const v) w = ticked w (λ world1. Good v world1)
-  eval u run (List' _ es) w = bind (eval_all u run es w) (λ vs world1. ticked world1 (λ world2. Good (list_of_values vs) world2))
-  eval u run (Tuple' _ es) w = bind (eval_all u run es w) (λ vs world1. ticked world1 (λ world2. Good (list_of_values vs) world2))
-  eval u run (Map' _ ps) w = bind (eval_pairs u run ps w) (λ es world1. ticked world1 (λ world2. Good (map_of_pairs es) world2))
-  eval u run (Call' f _ given _ named) w =
-      bind (passed u.host [] given named (λ world1. eval_arguments u run given world1)
-      (λ world1. eval_keywords u run mapped [] named world1) (λ by_name world1. eval_lists u run [] given by_name world1) w) (λ vs world1.
-      ticked world1 (λ world2. value_of u run (call_named u.host f vs world2)))
-  eval u run (SelfBlock b) w =
-      ticked w (λ world1. let o = block_tag u (capturing true run) b [] world1 in
-      bind (text_after o.ending o) (λ v world2. ticked world2 (λ world3. Good v world3)))
-  eval u run (unary op a) w = bind (eval u run a w) (λ v world1. ticked world1 (λ world2. applied_unary u.host op v world2))
-  eval u run (chained a _ ss) w = bind (eval u run a w) (λ v world1. eval_steps u run ss v world1)
-  eval u run (conditional a _ cs) w = eval_conditions u run cs (λ world1. eval u run a world1) w
+  eval u run (Var x) = do tick; looked_up u.host x
+  eval u run (Const v) = do tick; Good v
+  eval u run (List' _ es) = do vs ← eval_all u run es; tick; Good (list_of_values vs)
+  eval u run (Tuple' _ es) = do vs ← eval_all u run es; tick; Good (list_of_values vs)
+  eval u run (Map' _ ps) = do es ← eval_pairs u run ps; tick; Good (map_of_pairs es)
+  eval u run (Call' f _ given _ named) = do
+    vs ← passed u.host [] given named (eval_arguments u run given) (eval_keywords u run mapped [] named) (eval_lists u run [] given)
+    tick
+    asking u run (call_named u.host f vs)
+  eval u run (SelfBlock b) = do tick; v ← block_text u run b; tick; Good v
+  eval u run (unary op a) = do v ← eval u run a; tick; applied_unary u.host op v
+  eval u run (chained a _ ss) = do v ← eval u run a; eval_steps u run ss v
+  eval u run (conditional a _ cs) = eval_conditions u run cs (eval u run a)
 
   -- the last condition comes first
   pub eval_conditions : {n : _} → Under → Run → Row_of-Condition n → (World → Res Val) → World → Res Val
-  eval_conditions u run no_condition guarded w = guarded w
-  eval_conditions u run (with_condition c e more) guarded w =
-      eval_conditions u run more
-      (λ world1. under_condition u.host (λ world2. eval u run c world2) guarded (λ world2. eval u run e world2) world1) w
+  eval_conditions u run no_condition guarded = guarded
+  eval_conditions u run (with_condition c e more) guarded = eval_conditions u run more (under_condition u.host (eval u run c) guarded (eval u run e))
 
   -- from first to last
   pub eval_all : {n : _} → Under → Run → Row_of-Expr n → World → Res (List Val)
-  eval_all u run no_expr w = Good [] w
-  eval_all u run (expr e more) w = bind (eval u run e w) (λ v world1. bind (eval_all u run more world1) (λ vs world2. Good (v ∷ vs) world2))
+  eval_all u run no_expr = Good []
+  eval_all u run (expr e more) = do v ← eval u run e; vs ← eval_all u run more; Good (v ∷ vs)
 
   -- each key before its value
   pub eval_pairs : {n : _} → Under → Run → Row_of-Pair n → World → Res (List (Val × Val))
-  eval_pairs u run no_pair w = Good [] w
-  eval_pairs u run (with_pair k v more) w =
-      bind (eval u run k w) (λ x world1. bind (eval u run v world1) (λ y world2.
-      bind (eval_pairs u run more world2) (λ xs world3. Good ((x, y) ∷ xs) world3)))
+  eval_pairs u run no_pair = Good []
+  eval_pairs u run (with_pair k v more) = do x ← eval u run k; y ← eval u run v; xs ← eval_pairs u run more; Good ((x, y) ∷ xs)
 
   pub eval_argument : Under → Run → Argument → World → Res Val
-  eval_argument u run (plain a) w = eval u run a w
-  eval_argument u run (spread a) w = eval u run a w
+  eval_argument u run (plain a) = eval u run a
+  eval_argument u run (spread a) = eval u run a
 
   pub eval_arguments : {n : _} → Under → Run → Row_of-Argument n → World → Res (List Val)
-  eval_arguments u run no_argument w = Good [] w
-  eval_arguments u run (argument a more) w =
-      bind (eval_argument u run a w) (λ v world1. bind (eval_arguments u run more world1) (λ vs world2. Good (v ∷ vs) world2))
+  eval_arguments u run no_argument = Good []
+  eval_arguments u run (argument a more) = do v ← eval_argument u run a; vs ← eval_arguments u run more; Good (v ∷ vs)
 
   -- after a row of values: each row becomes a list; a spread value counts as one; the keyword
   -- arguments are part of the last row
   pub eval_lists : {n : _} → Under → Run → List Val → Row_of-Argument n → (World → Res (List Val)) → World → Res (List Val)
-  eval_lists u run row no_argument by_name w = bind (by_name w) (λ ks world1. listed (row ++ ks) world1)
-  eval_lists u run row (argument (plain a) more) by_name w =
-      bind (eval u run a w) (λ v world1. eval_lists u run (row ++ v ∷ []) more by_name world1)
-  eval_lists u run row (argument (spread a) more) by_name w =
-      bind (listed row w) (λ ls world1. bind (eval u run a world1) (λ v world2.
-      bind (eval_lists u run [] more by_name world2) (λ vs world3. Good (ls ++ v ∷ vs) world3)))
+  eval_lists u run row no_argument by_name = do ks ← by_name; listed (row ++ ks)
+  eval_lists u run row (argument (plain a) more) by_name = do v ← eval u run a; eval_lists u run (row ++ v ∷ []) more by_name
+  eval_lists u run row (argument (spread a) more) by_name = do
+    ls ← listed row
+    v ← eval u run a
+    vs ← eval_lists u run [] more by_name
+    Good (ls ++ v ∷ vs)
 
   -- after a row of names with their values, where each name is charged: each row becomes a map; a
   -- spread value counts as one; `end` ends the last row
   pub eval_keywords : {n : _} → Under → Run → RowValues → List (Val × Val) → Row_of-Keyword n → World → Res (List Val)
-  eval_keywords u run end row no_keyword w = end row w
-  eval_keywords u run end row (keyword_and (keyword x a) more) w =
-      ticked w (λ world1. bind (eval u run a world1) (λ v world2. eval_keywords u run end (row ++ (text x false, v) ∷ []) more world2))
-  eval_keywords u run end row (keyword_and (spread_keywords a) more) w =
-      bind (mapped row w) (λ ms world1. bind (eval u run a world1) (λ v world2.
-      bind (eval_keywords u run end [] more world2) (λ ns world3. Good (ms ++ v ∷ ns) world3)))
+  eval_keywords u run end row no_keyword = end row
+  eval_keywords u run end row (keyword_and (keyword x a) more) = do
+    tick
+    v ← eval u run a
+    eval_keywords u run end (row ++ (text x false, v) ∷ []) more
+  eval_keywords u run end row (keyword_and (spread_keywords a) more) = do
+    ms ← mapped row
+    v ← eval u run a
+    ns ← eval_keywords u run end [] more
+    Good (ms ++ v ∷ ns)
 
   -- a step after a value; `and` and `or` charge their test, and return the operand that was
   -- evaluated last
   pub eval_step : Under → Run → Step → Val → World → Res Val
-  eval_step u run (Attribute x) v w = ticked w (λ world1. attribute u.host v x world1)
-  eval_step u run (Apply' k x _ given _ named) v w =
-      bind (passed u.host (v ∷ []) given named (λ world1. eval_arguments u run given world1)
-      (λ world1. eval_keywords u run mapped [] named world1) (λ by_name world1. eval_lists u run (v ∷ []) given by_name world1) w) (λ vs world1.
-      ticked world1 (λ world2. bind (value_of u run (applied u.host k x vs world2)) (λ y world3. turned u.host k y world3)))
-  eval_step u run (Called _ given _ named) v w =
-      bind (passed u.host (v ∷ []) given named (λ world1. eval_arguments u run given world1)
-      (λ world1. eval_keywords u run mapped [] named world1) (λ by_name world1. eval_lists u run (v ∷ []) given by_name world1) w) (λ vs world1.
-      ticked world1 (λ world2. value_of u run (call_callee u.host vs world2)))
-  eval_step u run (item a) v w = bind (eval u run a w) (λ k world1. ticked world1 (λ world2. item_at u.host v k world2))
-  eval_step u run (slice a b c) v w =
-      bind (eval u run a w) (λ x world1. bind (eval u run b world1) (λ y world2.
-      bind (eval u run c world2) (λ z world3. ticked world3 (λ world4. slice_of u.host v x y z world4))))
-  eval_step u run (binary op a) v w = bind (eval u run a w) (λ y world1. ticked world1 (λ world2. applied_binary u.host op v y world2))
-  eval_step u run (compare op a _ cs) v w = bind (eval u run a w) (λ y world1. eval_links u run op cs v y world1)
-  eval_step u run (and_then a) v w =
-      ticked w (λ world1. bind (truth u.host v world1) (λ b world2. choose b (λ _. eval u run a world2) (λ _. Good v world2)))
-  eval_step u run (or_else a) v w =
-      ticked w (λ world1. bind (truth u.host v world1) (λ b world2. choose b (λ _. Good v world2) (λ _. eval u run a world2)))
+  eval_step u run (Attribute x) v = do tick; attribute u.host v x
+  eval_step u run (Apply' k x _ given _ named) v = do
+    vs ← passed u.host (v ∷ []) given named (eval_arguments u run given) (eval_keywords u run mapped [] named) (eval_lists u run (v ∷ []) given)
+    tick
+    y ← asking u run (applied u.host k x vs)
+    turned u.host k y
+  eval_step u run (Called _ given _ named) v = do
+    vs ← passed u.host (v ∷ []) given named (eval_arguments u run given) (eval_keywords u run mapped [] named) (eval_lists u run (v ∷ []) given)
+    tick
+    asking u run (call_callee u.host vs)
+  eval_step u run (item a) v = do k ← eval u run a; tick; item_at u.host v k
+  eval_step u run (slice a b c) v = do x ← eval u run a; y ← eval u run b; z ← eval u run c; tick; slice_of u.host v x y z
+  eval_step u run (binary op a) v = do y ← eval u run a; tick; applied_binary u.host op v y
+  eval_step u run (compare op a _ cs) v = do y ← eval u run a; eval_links u run op cs v y
+  eval_step u run (and_then a) v = do tick; b ← truth u.host v; chosen b (eval u run a) (Good v)
+  eval_step u run (or_else a) v = do tick; b ← truth u.host v; chosen b (Good v) (eval u run a)
 
   -- Chained comparisons, from the first. Each but the last charges its test. If it is false, it is
   -- the result, and dropping its right operand is charged. After the last one, its jump is charged.
   pub eval_links : {n : _} → Under → Run → BinaryOperator → Row_of-Comparison n → Val → Val → World → Res Val
-  eval_links u run op no_comparison x y w =
-      ticked w (λ world1. bind (applied_binary u.host op x y world1) (λ v world2. ticked world2 (λ world3. Good v world3)))
-  eval_links u run op (with_comparison op1 a more) x y w =
-      ticked w (λ world1. bind (operated u.host op x y world1) (λ v world2.
-      ticked world2 (λ world3. bind (truth u.host v world3) (λ b world4.
-      choose b
-      (λ _. bind (eval u run a world4) (λ z world5. eval_links u run op1 more y z world5))
-      (λ _. ticked world4 (λ world5. Good v world5))))))
+  eval_links u run op no_comparison x y = do tick; v ← applied_binary u.host op x y; tick; Good v
+  eval_links u run op (with_comparison op1 a more) x y = do
+    tick
+    v ← operated u.host op x y
+    tick
+    b ← truth u.host v
+    chosen b (do z ← eval u run a; eval_links u run op1 more y z) (do tick; Good v)
 
   pub eval_steps : {n : _} → Under → Run → Row_of-Step n → Val → World → Res Val
-  eval_steps u run no_step v w = Good v w
-  eval_steps u run (step s ss) v w = bind (eval_step u run s v w) (λ x world1. eval_steps u run ss x world1)
+  eval_steps u run no_step v = Good v
+  eval_steps u run (step s ss) v = do x ← eval_step u run s v; eval_steps u run ss x
 
 -- applies filters to a value, from left to right
 abbrev pub filtered : Under → Run → List Step → Val → World → Res Val
-filtered u run [] v w = Good v w
-filtered u run (f ∷ more) v w = bind (eval_step u run f v w) (λ x world1. filtered u run more x world1)
+filtered u run [] v = Good v
+filtered u run (f ∷ more) v = do x ← eval_step u run f v; filtered u run more x
 
 -- ---------------------------------------------------------------- targets
+abbrev pub storing : List ℕ → Val → World → Res (Unit {0})
+storing x v w = Good tt (store x v w)
+
 -- binds a name to a value, which is charged
 abbrev pub give : List ℕ → Val → World → Res (Unit {0})
-give x v w = ticked w (λ world1. Good tt (store x v world1))
+give x v = do tick; storing x v
 
 abbrev mutual
   pub assign : Under → Run → AssignmentTarget → Val → World → Res (Unit {0})
-  assign u run (To x) v w = give x v w
-  assign u run (Items _ ts) v w =
-      ticked w (λ world1. bind (unpacked_items (count_targets ts) v world1) (λ vs world2. assign_all u run ts vs world2))
-  assign u run (Member e x) v w = bind (eval u run e w) (λ o world1. ticked world1 (λ world2. set_member x v o world2))
+  assign u run (To x) v = give x v
+  assign u run (Items _ ts) v = do tick; vs ← unpacked_items (count_targets ts) v; assign_all u run ts vs
+  assign u run (Member e x) v = do o ← eval u run e; tick; set_member x v o
 
   -- assigns each value to its target; there are as many values as targets
   pub assign_all : {n : _} → Under → Run → Row_of-AssignmentTarget n → List Val → World → Res (Unit {0})
-  assign_all u run no_target vs w = Good tt w
-  assign_all u run (target t ts) [] w = Good tt w
-  assign_all u run (target t ts) (v ∷ vs) w = bind (assign u run t v w) (λ _ world1. assign_all u run ts vs world1)
+  assign_all u run no_target vs = Good tt
+  assign_all u run (target t ts) [] = Good tt
+  assign_all u run (target t ts) (v ∷ vs) = do assign u run t v; assign_all u run ts vs
 
 -- a value, and then its target
 abbrev pub set_to : Under → Run → AssignmentTarget → Expr → World → Res (Unit {0})
-set_to u run t e w = bind (eval u run e w) (λ v world1. assign u run t v world1)
+set_to u run t e = do v ← eval u run e; assign u run t v
 
 abbrev pub set_each : Under → Run → List Assignment → World → Res (Unit {0})
-set_each u run [] w = Good tt w
-set_each u run (a ∷ more) w = bind (set_to u run a.target a.value w) (λ _ world1. set_each u run more world1)
+set_each u run [] = Good tt
+set_each u run (a ∷ more) = do set_to u run a.target a.value; set_each u run more
 
 -- ---------------------------------------------------------------- includes and imports
 -- Runs the template that a value names in place, which is charged, with a new scope if `apart`. It
@@ -328,74 +346,83 @@ import_names u run e xs w =
     bind (included u (capturing false run) e w) (λ _ world1. bind (give_each u.host xs world1) (λ _ world2. tick world2))
 
 -- ---------------------------------------------------------------- macros
+-- the closure of the innermost scope
+abbrev pub own : World → Res (Option ℕ)
+own w = Good (own_closure w.scopes.frames) w
+
 -- adds each of the names to the closure, which is charged
 abbrev pub enclose_each : HostValue → List (List ℕ) → World → Res (Unit {0})
-enclose_each host [] w = Good tt w
-enclose_each host (x ∷ xs) w = ticked w (λ world1. bind (enclose host x world1) (λ _ world2. enclose_each host xs world2))
+enclose_each host [] = Good tt
+enclose_each host (x ∷ xs) = do tick; enclose host x; enclose_each host xs
 
 -- The macro with this number as a value. The jump over its body, each name in its closure, the
 -- closure and the names of its parameters are charged.
 abbrev pub declared : HostValue → ℕ → MacroHead → World → Res Val
-declared host n m w =
-    ticked w (λ world1. bind (enclose_each host m.free world1) (λ _ world2. ticked world2 (λ world3. ticked world3 (λ world4.
-    make_macro n (own_closure world3.scopes.frames) m.name m.parameters m.caller world4))))
+declared host n m = do
+  tick
+  enclose_each host m.free
+  tick
+  closure ← own
+  tick
+  make_macro n closure m.name m.parameters m.caller
 
 -- the value of an argument, or its default if it is undefined; the test is charged
 abbrev pub or_default : Under → Run → Option Expr → Val → World → Res Val
-or_default u run None v w = Good v w
-or_default u run (Some e) v w =
-    ticked w (λ world1. ticked world1 (λ world2. choose (is_undefined v) (λ _. eval u run e world2) (λ _. Good v world2)))
+or_default u run None v = Good v
+or_default u run (Some e) v = do tick; tick; chosen (is_undefined v) (eval u run e) (Good v)
 
 abbrev pub take_parameter : Under → Run → Parameter → Val → World → Res (Unit {0})
-take_parameter u run p v w = bind (or_default u run p.default v w) (λ x world1. assign u run (To p.name) x world1)
+take_parameter u run p v = do x ← or_default u run p.default v; assign u run (To p.name) x
 
 -- Binds the parameters to the arguments, from last to first. There are as many arguments as
 -- parameters.
 abbrev pub take_parameters : Under → Run → List Parameter → List Val → World → Res (Unit {0})
-take_parameters u run [] vs w = Good tt w
-take_parameters u run (p ∷ ps) [] w = Good tt w
-take_parameters u run (p ∷ ps) (v ∷ vs) w = bind (take_parameters u run ps vs w) (λ _ world1. take_parameter u run p v world1)
+take_parameters u run [] vs = Good tt
+take_parameters u run (p ∷ ps) [] = Good tt
+take_parameters u run (p ∷ ps) (v ∷ vs) = do take_parameters u run ps vs; take_parameter u run p v
 
 -- ---------------------------------------------------------------- calls with a macro as `caller`
 -- after a row of names with their values: adds the macro with this number as `caller`
 abbrev pub with_caller : HostValue → ℕ → MacroHead → RowValues
-with_caller host n m row w =
-    ticked w (λ world1. bind (declared host n m world1) (λ v world2. mapped (row ++ (text (codes "caller") false, v) ∷ []) world2))
+with_caller host n m row = do tick; v ← declared host n m; mapped (row ++ (text (codes "caller") false, v) ∷ [])
 
 -- The arguments of a call, above the values `before`; `end` ends the keyword arguments.
 abbrev pub passed_so : {n m : _} → Under → Run → RowValues → List Val → Row_of-Argument n → Row_of-Keyword m → World → Res (List Val)
-passed_so u run end before given named w =
-    passed u.host before given named (λ world1. eval_arguments u run given world1)
-    (λ world1. eval_keywords u run end [] named world1) (λ by_name world1. eval_lists u run before given by_name world1) w
+passed_so u run end before given named =
+    passed u.host before given named (eval_arguments u run given) (eval_keywords u run end [] named)
+    (eval_lists u run before given)
 
 -- calls a value with the end as its only argument
 abbrev pub call_alone : Under → Run → RowValues → Val → World → Res Val
-call_alone u run end v w =
-    bind (end [] w) (λ ks world1. ticked world1 (λ world2. value_of u run (call_callee u.host (v ∷ ks) world2)))
+call_alone u run end v = do ks ← end []; tick; asking u run (call_callee u.host (v ∷ ks))
 
 -- If the last step of a value is a call, the end is added to its arguments; otherwise the step's
 -- value is called.
 abbrev pub step_call : Under → Run → RowValues → Step → Val → World → Res Val
-step_call u run end (Apply' k x _ given _ named) v w =
-    bind (passed_so u run end (v ∷ []) given named w) (λ vs world1.
-    ticked world1 (λ world2. bind (value_of u run (applied u.host k x vs world2)) (λ y world3. turned u.host k y world3)))
-step_call u run end (Called _ given _ named) v w =
-    bind (passed_so u run end (v ∷ []) given named w) (λ vs world1.
-    ticked world1 (λ world2. value_of u run (call_callee u.host vs world2)))
-step_call u run end s v w = bind (eval_step u run s v w) (λ x world1. call_alone u run end x world1)
+step_call u run end (Apply' k x _ given _ named) v = do
+  vs ← passed_so u run end (v ∷ []) given named
+  tick
+  y ← asking u run (applied u.host k x vs)
+  turned u.host k y
+step_call u run end (Called _ given _ named) v = do
+  vs ← passed_so u run end (v ∷ []) given named
+  tick
+  asking u run (call_callee u.host vs)
+step_call u run end s v = do x ← eval_step u run s v; call_alone u run end x
 
 abbrev pub steps_call : {n : _} → Under → Run → RowValues → Row_of-Step n → Val → World → Res Val
-steps_call u run end no_step v w = call_alone u run end v w
-steps_call u run end (step s no_step) v w = step_call u run end s v w
-steps_call u run end (step s (step t more)) v w = bind (eval_step u run s v w) (λ x world1. steps_call u run end (step t more) x world1)
+steps_call u run end no_step v = call_alone u run end v
+steps_call u run end (step s no_step) v = step_call u run end s v
+steps_call u run end (step s (step t more)) v = do x ← eval_step u run s v; steps_call u run end (step t more) x
 
 -- If an expression is a call, the end is added to its arguments; otherwise its value is called.
 abbrev pub call : Under → Run → RowValues → Expr → World → Res Val
-call u run end (Call' f _ given _ named) w =
-    bind (passed_so u run end [] given named w) (λ vs world1.
-    ticked world1 (λ world2. value_of u run (call_named u.host f vs world2)))
-call u run end (chained a _ ss) w = bind (eval u run a w) (λ v world1. steps_call u run end ss v world1)
-call u run end e w = bind (eval u run e w) (λ v world1. call_alone u run end v world1)
+call u run end (Call' f _ given _ named) = do
+  vs ← passed_so u run end [] given named
+  tick
+  asking u run (call_named u.host f vs)
+call u run end (chained a _ ss) = do v ← eval u run a; steps_call u run end ss v
+call u run end e = do v ← eval u run e; call_alone u run end v
 
 -- ---------------------------------------------------------------- statements
 -- Closes what was opened around a body, however it ended, except after a fault.
