@@ -100,7 +100,7 @@ run-run_nested-requires g t c κs within =
     let fits = deep.2 in
     let above = c.steps.invariant.no_fewer.0 in
     let outer = c.steps.invariant.no_fewer.1.1 in
-    (omega (arith, c.decreases, more, fits, above, outer), (within.0, (within.1, stands.0)))
+    (omega (arith, c.decreases, more, fits, above, outer), (within.0, (within.1.0, (within.1.1, stands.0))))
 
 pub run-returns-in-Err-run_nested-clause-ended : goal.run-returns-in-Err-run_nested-clause-ended
 run-returns-in-Err-run_nested-clause-ended g t c =
