@@ -238,7 +238,7 @@ module _ {O : Type 0} (stated : O → StatedObjects) (s : StateValue O) (b : Lis
     pub block_failed : (why : Halt) → BlockRan stated s b (Err why) new old told now →
         BlockStreamed stated s b (Err (error_of why)) new told now
     block_failed why (block_refused chain failed own same) =
-        let e : why ≡ halt.Fault chain = cc failed.0 in block_refused chain (ap (λ x. Err (error_of x)) e, failed.1, failed.2) own same
+        let e : why ≡ halt.Fault chain = cc failed.0 in block_refused chain (ap (λ x. Err (error_of x)) e, failed.1) own same
     block_failed why (block_ran c w left asked ran undo) =
         block_ran c w left asked
         (into_failed stated s.template w left old none told now (λ r. IsBlockDone r left) (λ chain Ends ends. ends) why ran) undo

@@ -20,7 +20,7 @@ use Rattle.template_machine.specs.Renders.{stream_ran, stream_by_writer, stream_
 use Rattle.template_machine.proofs.Evaluations.{mapped}
 
 module _ {O : Type 0} (stated : O → StatedObjects) (t : TemplateValue O) (w left : World) (old : List Capture) (none : old ≡ []) where
-  abbrev Came : Result (List Capture) Halt → Option (List ℕ) → Option (List ℕ) → Type 0
+  abbrev Came : Result (List Capture) Halt → Type 0
   Came result = StreamRan stated t w result left old untold untold
 
   -- of a run that failed, with no writer that could
