@@ -48,7 +48,9 @@ impl Machine {
         requires { CanGoOn self.old.run }
         ensures { Silently (export_locals_of self.old) self.old self.new result }
     {
-        let value = self.run.popped()?;
+        let Some(value) = self.run.pop() else {
+            return Err(Halt::Stuck);
+        };
         let module = self.state.module(alloc, value)?;
         self.push_next(module)
     }

@@ -174,10 +174,18 @@ impl Machine {
         ensures { Silently (slice_instruction_of (H.program host.now).host self.old)
             self.old self.new result }
     {
-        let by = self.run.popped()?;
-        let stop = self.run.popped()?;
-        let start = self.run.popped()?;
-        let value = self.run.popped()?;
+        let Some(by) = self.run.pop() else {
+            return Err(Halt::Stuck);
+        };
+        let Some(stop) = self.run.pop() else {
+            return Err(Halt::Stuck);
+        };
+        let Some(start) = self.run.pop() else {
+            return Err(Halt::Stuck);
+        };
+        let Some(value) = self.run.pop() else {
+            return Err(Halt::Stuck);
+        };
         let undefined = host.undefined_behavior();
         let part = slice(alloc, &value, &start, &stop, &by, undefined)?;
         self.push_next(part)

@@ -82,7 +82,9 @@ impl Machine {
         if host.objects().has_formatter() {
             return self.emit_formatted(alloc, host, base, writer);
         }
-        let value = self.run.popped()?;
+        let Some(value) = self.run.pop() else {
+            return Err(Halt::Stuck);
+        };
         self.state.check_value(alloc, host, &value)?;
         self.run.advance();
         self.write_value(base, &value, writer)
@@ -102,7 +104,9 @@ impl Machine {
         ensures { WritesNext (emit_of (H.program host.now).host base.now self.old) self.old self.new
             (W.told writer.old) (W.told writer.new) result }
     {
-        let value = self.run.popped()?;
+        let Some(value) = self.run.pop() else {
+            return Err(Halt::Stuck);
+        };
         let formatted = self.state.format(alloc, host, &value)?;
         self.run.advance();
         self.write_text(base, formatted.as_str(), writer)
