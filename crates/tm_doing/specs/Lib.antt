@@ -1,0 +1,10 @@
+pub mod Doing
+pub mod Parts
+pub mod Expressions
+pub mod Same
+pub mod Clauses
+pub mod Targets
+pub mod Timing
+pub mod Saying
+pub mod LoopItems
+pub mod Statements
