@@ -1,3 +1,0 @@
-pub mod Long
-pub mod Pushing
-pub mod Expressions
