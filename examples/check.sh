@@ -14,7 +14,7 @@ compare_code() {
     shown=$(sed -n '/^```rust$/,/^```$/p' "../$document" | sed '/^```/d' | tr -d '[:space:]' | sed 's/,)/)/g')
     tested=$(cat "${@/#/../crates/}" | sed -n '/example begins here/,/example ends here/p' \
         | sed '/example begins here/d; /example ends here/d; s/^pub(crate) //' | tr -d '[:space:]' \
-        | sed -E "s/<P:Parties>//g; s/(Environment|Template|State)Of<('_(,'_)*),P>/\1<\2>/g; s/CapturedOf<State<'_>>/Captured<'_>/g; s/,(\))/\1/g")
+        | sed -E "s/<P:Parties>//g; s/,P:Parties>/>/g; s/(Environment|Template|State)Of<('\w+(,'_)*),P>/\1<\2>/g; s/CapturedOf<State<'_>>/Captured<'_>/g; s/,(\))/\1/g")
     if [[ -z $shown || $shown != "$tested" ]]; then
         echo "the code in $document isn't that of $*" >&2
         exit 1

@@ -177,18 +177,55 @@ fn follows_settings<P: Parties>(environment: &mut EnvironmentOf<'_, P>) -> Resul
     let refused = environment.render_str(&mut ids, source, Value::undefined());
     let is_refused = is_fault(refused, ErrorKind::UndefinedError);
     environment.set_recursion_limit(1000);
+    environment.set_value_limit(64);
     Ok(
         text.as_str() == "42"
             && is_spent
             && is_refused
             && environment.fuel() == Some(2)
             && environment.undefined_behavior() == UndefinedBehavior::Strict
-            && environment.recursion_limit() == 500,
+            && environment.recursion_limit() == 500
+            && environment.value_limit() == 64,
     )
 }
 
 fn has_nothing<P: Parties>(environment: &EnvironmentOf<'_, P>) -> bool {
     environment.globals().next().is_none() && environment.templates().next().is_none()
+}
+
+fn limits_strangers<P: Parties>(environment: &mut EnvironmentOf<'_, P>) {
+    environment.set_fuel(Some(100_000));
+    environment.set_recursion_limit(50);
+    environment.set_value_limit(1_000_000);
+}
+
+fn end_of_stranger<'source, P: Parties>(
+    alloc: Global,
+    environment: &EnvironmentOf<'source, P>,
+    source: &'source str,
+) -> Option<ErrorKind> {
+    let template = match environment.template_from_str(source) {
+        Ok(template) => template,
+        Err(error) => return Some(error.kind()),
+    };
+    let mut writer = Limited::new(Counted::new(Vec::new(alloc)), 100_000);
+    match template.render_captured_to(&mut StateIds::new(), Value::undefined(), &mut writer) {
+        Ok(_captured) => None,
+        Err(error) => Some(error.kind()),
+    }
+}
+
+fn stops_strangers<P: Parties>(alloc: Global, environment: &EnvironmentOf<'_, P>) -> bool {
+    let doubles =
+        "{% set n = namespace(s=[1]) %}{% for i in range(60) %}{% set n.s = [n.s, n.s] %}{% endfor %}{{ n.s == n.s }}";
+    let loops = "{% for a in range(100000) %}{% for b in range(100000) %}{% endfor %}{% endfor %}";
+    let writes = "{% for a in range(1000) %}{{ range(100) }}{% endfor %}";
+    let calls = "{% macro m() %}{{ m() }}{% endmacro %}{{ m() }}";
+    end_of_stranger(alloc, environment, doubles) == Some(ErrorKind::OutOfMemory)
+        && end_of_stranger(alloc, environment, loops) == Some(ErrorKind::OutOfFuel)
+        && end_of_stranger(alloc, environment, writes) == Some(ErrorKind::WriteFailure)
+        && end_of_stranger(alloc, environment, calls) == Some(ErrorKind::InvalidOperation)
+        && end_of_stranger(alloc, environment, "{{ 1 + 1 }}").is_none()
 }
 
 fn own_syntax(alloc: Global) -> Result<SyntaxConfig, Error> {
@@ -546,6 +583,8 @@ fn settings_serve(rt: HostRuntime) -> Result<(), Fail> {
     assert!(rt; compiles(alloc, &environment)?);
     assert!(rt; runs_streams(alloc, &environment)?);
     assert!(rt; follows_settings(&mut environment)?);
+    limits_strangers(&mut environment);
+    assert!(rt; stops_strangers(alloc, &environment));
     assert!(rt; has_nothing(&Environment::empty(alloc)));
     Ok(())
 }

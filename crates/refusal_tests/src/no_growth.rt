@@ -116,6 +116,10 @@ fn sets(alloc: Global, environment: &mut Environment<'static>) -> Result<bool, E
     mark(alloc, "set_recursion_limit")?;
     let limit = environment.recursion_limit();
     mark(alloc, "recursion_limit")?;
+    environment.set_value_limit(1_000_000);
+    mark(alloc, "set_value_limit")?;
+    let largest = environment.value_limit();
+    mark(alloc, "value_limit")?;
     environment.set_undefined_behavior(UndefinedBehavior::Chainable);
     mark(alloc, "set_undefined_behavior")?;
     let behavior = environment.undefined_behavior();
@@ -124,7 +128,7 @@ fn sets(alloc: Global, environment: &mut Environment<'static>) -> Result<bool, E
     mark(alloc, "set_syntax")?;
     let is_kept = environment.syntax().keeps_newline();
     mark(alloc, "syntax")?;
-    let are_set = fuel == Some(1000) && limit == 500 && !is_kept;
+    let are_set = fuel == Some(1000) && limit == 500 && largest == 1_000_000 && !is_kept;
     Ok(are_set && behavior == UndefinedBehavior::Chainable)
 }
 
@@ -257,6 +261,7 @@ fn new_loop(alloc: Global) -> Result<LoopState, Error> {
         template: TemplateId::Own,
         block: None,
     };
+    let stream = Rc::new(alloc, stream)?;
     Ok(LoopState::new(Rc::new(alloc, items)?, 0, 0, true, stream))
 }
 
@@ -279,6 +284,8 @@ fn turns(alloc: Global) -> Result<bool, Error> {
     let item = state.cycle(&[Value::number(5)])?;
     mark(alloc, "LoopState::cycle of a number")?;
     let is_item = item == Value::number(5);
+    state.leave()?;
+    mark(alloc, "LoopState::leave")?;
     Ok(is_first && has_next && !has_previous && has_items && is_item && state.number() == 0)
 }
 

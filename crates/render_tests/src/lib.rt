@@ -12,6 +12,8 @@ mod caches;
 #[cfg(test)]
 mod callbacks;
 #[cfg(test)]
+mod doubling;
+#[cfg(test)]
 mod expressions;
 #[cfg(test)]
 mod guards;

@@ -17,7 +17,10 @@ pub(crate) const LOOPS: &str = r#"Loops.
 - {% for x in [1,2,3] if x > 1 %}{{ loop.index }}:{{ x }};{% endfor %} => 1:2;2:3; => 55
 - {% for x in [1,1,2] %}{{ loop.changed(x) }} {% endfor %} => true false true  => 29
 - {% for x in [1,1,2] %}{{ loop.cycle("x", "y") }}{{ loop.cycle() }}{% endfor %} => xyx => 38
-- {% for x in [1,true] %}{% do loop.changed(x, a=x) %}{{ loop.changed(x, a=1) }}{% endfor %} => falsefalse => 36"#;
+- {% for x in [1,true] %}{% do loop.changed(x, a=x) %}{{ loop.changed(x, a=1) }}{% endfor %} => falsefalse => 36
+- {% set ns = namespace() %}{% for x in ["a","b","c","d"] %}{% set ns.l = loop %}{% if x == "c" %}{% break %}{% endif %}{% endfor %}{% set l = ns.l %}{{ l.length }}{{ l.index }}{{ l.revindex }}{{ l.previtem }}{{ l.nextitem }} => 432bd => 55
+- {% set ns = namespace() %}{% for x in ["a","b","c"] %}{% set ns.l = loop %}{% break %}{% endfor %}{% set l = ns.l %}{{ l.length }}{{ l.index }}{{ l.revindex }}{{ l.previtem }}{{ l.nextitem }} => 313b => 30
+- {% set ns = namespace() %}{% for x in ["a","b"] %}{% set ns.l = loop %}{% endfor %}{% set l = ns.l %}{{ l.length }}{{ l.index }}{{ l.revindex }}{{ l.previtem }}{{ l.nextitem }} => 230b => 36"#;
 
 /// Loops that are called.
 pub(crate) const RECURSIONS: &str = r#"Loops that are called.

@@ -126,6 +126,7 @@ fn set<P: Parties>(environment: &mut EnvironmentOf<'_, P>, word: &str, rest: &st
         "fuel" => environment.set_fuel(rest.parse().ok()),
         "paid" => environment.set_fuel(Some(fuel_for(rest.parse().unwrap_or(0)))),
         "limit" => environment.set_recursion_limit(rest.parse().unwrap_or(0)),
+        "values" => environment.set_value_limit(rest.parse().unwrap_or(0)),
         "undefined" => environment.set_undefined_behavior(behavior(rest)),
         "remove" => environment.remove_global(rest),
         "set" => return is_set(environment, rest),
@@ -243,7 +244,7 @@ pub(crate) fn expect_table<'source>(
     Ok(())
 }
 
-static TABLES: [&str; 26] = [
+static TABLES: [&str; 28] = [
     rows::TEXTS,
     rows::CALLS,
     rows::FILTERS,
@@ -269,6 +270,8 @@ static TABLES: [&str; 26] = [
     values::UNDEFINED,
     "\n- @undefined lenient",
     bounds::BOUNDS,
+    bounds::SIZES,
+    bounds::GROWTH,
     SETTINGS,
 ];
 

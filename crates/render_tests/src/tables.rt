@@ -3,10 +3,11 @@
 use crate::blocks::expect;
 use crate::bounds::expect_long;
 use crate::caches::all_answer;
+use crate::doubling::expect_doubling;
 use crate::expressions::expect_expressions;
 use crate::includes::expect_includes;
 use crate::limited::expect_ends;
-use crate::party::Rows;
+use crate::party::{Rows, add_objects};
 use crate::settings::{expect_empty, expect_tables};
 use crate::states::expect_states;
 use std::test::Fail;
@@ -25,6 +26,14 @@ fn filters_answer(rt: HostRuntime) -> Result<(), Fail> {
     let alloc = rt.alloc();
     let mut environment = Rows::new(alloc)?;
     expect(all_answer(alloc, &mut environment)?, "many filters")
+}
+
+#[test]
+fn doubling_ends(rt: HostRuntime) -> Result<(), Fail> {
+    let alloc = rt.alloc();
+    let mut environment = Rows::new(alloc)?;
+    add_objects(&mut environment)?;
+    expect_doubling(alloc, &mut environment)
 }
 
 #[test]

@@ -1,5 +1,5 @@
 -- Environments and templates as plain data, with the caller's objects as one value.
-use Rattle.std.specs.Prelude.{◌≡◌, ℕ, List, [], map as each, Ok, Err, Option, Some, None, codes}
+use Rattle.std.specs.Prelude.{◌≡◌, ℕ, max, List, [], map as each, Ok, Err, Option, Some, None, codes}
 use Rattle.tm_values.specs.Answer.{Answer, refused}
 use Rattle.tm_values.specs.declared.error.ErrorKind.TheVariants.{TemplateNotFound}
 use Rattle.tm_values.specs.Val.{Val, function}
@@ -30,6 +30,7 @@ pub record EnvironmentValue (O : Type 0) : Type 0 where
   pub undefined : UndefinedBehavior
   pub fuel : Option ℕ
   pub limit : ℕ
+  pub value_limit : ℕ
 
 -- A template, its environment, and its id there: the entry of a name, or `Own` if it is no entry.
 pub record TemplateValue (O : Type 0) : Type 0 where
@@ -41,6 +42,14 @@ pub record TemplateValue (O : Type 0) : Type 0 where
 abbrev pub greatest_limit : ℕ
 greatest_limit = 500
 
+-- the value limit of a new environment
+abbrev pub first_value_limit : ℕ
+first_value_limit = 67108864
+
+-- the size of the largest value that a render may make
+abbrev pub largest_value : {O : Type 0} → TemplateValue O → ℕ
+largest_value t = max t.environment.value_limit 1
+
 abbrev pub empty_environment : {O : Type 0} → O → EnvironmentValue O
 empty_environment objects = record {
   templates = [];
@@ -50,6 +59,7 @@ empty_environment objects = record {
   undefined = Lenient;
   fuel = None;
   limit = greatest_limit;
+  value_limit = first_value_limit;
 }
 
 -- an environment with the names of the language's functions

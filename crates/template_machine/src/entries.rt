@@ -6,7 +6,7 @@ ghost use Rattle.template_machine.specs.Environment.{entries_of};
 use crate::environment::{BoxedObjects, EnvironmentOf};
 use crate::template::{TemplateOf, TemplateRef};
 use std::marker::Model;
-use tm_templates::GlobalMap;
+use tm_templates::{GlobalMap, TemplatesIter};
 use tm_values::Value;
 
 /// An iterator over the templates of an environment, with their names and in the order of these. A
@@ -14,26 +14,29 @@ use tm_values::Value;
 #[derive(Drop)]
 pub struct TemplatesOf<'env, 'source, O: Drop> {
     environment: &'env EnvironmentOf<'source, O>,
-    place: usize,
+    entries: TemplatesIter<'env, 'source>,
 }
 
 /// The templates of a program's environment.
 pub type Templates<'env, 'source> = TemplatesOf<'env, 'source, BoxedObjects>;
 
 impl<'env, 'source, O: Drop> Model for TemplatesOf<'env, 'source, O> {
-    ghost use Rattle.std.specs.Prelude.{drop};
     ghost use Rattle.std.specs.Coded.{codes};
+    ghost use Rattle.std.specs.Prelude.{map as each};
     ghost use Rattle.tm_syntax.specs.Named.{Named};
     ghost use Rattle.tm_syntax.specs.contracts.tree.Expr as expression;
     ghost use Rattle.tm_syntax.specs.contracts.tree.Stmt as statement;
     ghost use Rattle.tm_values.specs.Code.{coded_Val};
-    ghost use Rattle.template_machine.specs.Environment.{entries_of, TemplateValue};
+    ghost use Rattle.tm_templates.specs.Templates.{AreFoundIn};
+    ghost use Rattle.template_machine.specs.Environment.{named_entry, TemplateValue};
 
     ghost Value = { Named (TemplateValue O) };
 
     ghost coded = { Prim.hlevel (codes, coded_Val, expression.the_row.coded, statement.the_row.coded, O.code) };
 
-    ghost view = { λ t. drop t.place (entries_of t.environment.now) };
+    ghost view = { λ t. each (named_entry t.environment.now) t.entries };
+
+    ghost invariant = { λ t. AreFoundIn t.environment.now.templates t.entries };
 }
 
 impl<'env, 'source, O: Drop> TemplatesOf<'env, 'source, O> {
@@ -43,7 +46,7 @@ impl<'env, 'source, O: Drop> TemplatesOf<'env, 'source, O> {
     {
         TemplatesOf {
             environment,
-            place: 0,
+            entries: environment.compiled_templates().iter(),
         }
     }
 }
@@ -56,14 +59,9 @@ impl<'env, 'source, O: Drop> Iterator for TemplatesOf<'env, 'source, O> {
     ghost remaining = { item_count (λ rest. rest) };
 
     fn next(&mut self) -> Option<(&'env str, TemplateOf<'env, 'source, O>)> {
-        let templates = self.environment.compiled_templates();
-        let place = self.place;
-        if place >= templates.len() {
-            return None;
-        }
-        let (name, compiled) = templates.at(place);
-        self.place = place + 1;
-        let template = TemplateOf::new(self.environment, TemplateRef::Lent(name, compiled));
+        let environment = self.environment;
+        let (name, compiled) = self.entries.next()?;
+        let template = TemplateOf::new(environment, TemplateRef::Lent(name, compiled));
         Some((name.as_str(), template))
     }
 }

@@ -1,5 +1,5 @@
 //! The environment.
-ghost use Rattle.std.specs.Prelude.{◌≡◌, ◌≢◌, ◌<◌, [], ◌∷◌, Some, None, codes, min, OnOk, OnErr, IfOk, IfErr};
+ghost use Rattle.std.specs.Prelude.{◌≡◌, ◌≢◌, ◌<◌, [], ◌∷◌, Some, None, codes, max, min, OnOk, OnErr, IfOk, IfErr};
 ghost use Rattle.std.specs.Prelude.{MatchOption, MatchResult};
 ghost use Rattle.tm_syntax.specs.Named.{find, put, without};
 ghost use Rattle.tm_scopes.specs.Places.{AreOrdered};
@@ -25,10 +25,13 @@ use tm_tables::{
     language_globals,
 };
 use tm_templates::{CompiledTemplate, EscapeSetting, GlobalMap, Source, Templates};
-use tm_values::{Error, ErrorKind, UndefinedBehavior, Value};
+use tm_values::{Error, ErrorKind, UndefinedBehavior, Value, longest_text};
 
 /// The greatest depth of scopes that can be set.
 const GREATEST_LIMIT: usize = 500;
+
+// The value limit of a new environment.
+const FIRST_VALUE_LIMIT: usize = 1 << 26;
 
 /// The name for states without a template.
 const UNKNOWN: &str = "<unknown>";
@@ -43,6 +46,7 @@ pub struct EnvironmentOf<'source, O: Drop> {
     undefined: UndefinedBehavior,
     fuel: Option<u64>,
     limit: usize,
+    value_limit: usize,
 }
 
 // Written by hand, so that the crates above need no proof of their own that all of it can be
@@ -58,6 +62,7 @@ impl<O: Drop> Drop for EnvironmentOf<'_, O> {
             undefined: _undefined,
             fuel: _fuel,
             limit: _limit,
+            value_limit: _value_limit,
         } = self;
     }
 }
@@ -93,6 +98,7 @@ impl<'source, O: Drop> Model for EnvironmentOf<'source, O> {
       undefined = e.undefined;
       fuel = e.fuel;
       limit = e.limit;
+      value_limit = e.value_limit;
     } };
 }
 
@@ -166,6 +172,38 @@ impl<'source, O: Drop> EnvironmentOf<'source, O> {
         ensures { result ≡ self.now.limit }
     {
         self.limit
+    }
+
+    /// Sets the size of the largest value that each later render may make; 0 counts as 1. A value
+    /// has the size 1, the size of each part and 1, and for each 16 bytes of a text 1. What would be
+    /// larger finds no memory: lists, maps and keyword arguments, modules, texts, captured texts,
+    /// and what functions, filters, tests and methods answer. It bounds the time that an instruction
+    /// takes, and the memory of each value that it makes. Values of the context and globals may be
+    /// larger.
+    pub fn set_value_limit(&mut self, limit: usize)
+        ensures { self.new ≡ record self.old { value_limit = limit } }
+    {
+        self.value_limit = limit;
+    }
+
+    /// The size of the largest value that a render may make, as it was set; at first 2^26.
+    pub fn value_limit(&self) -> usize
+        ensures { result ≡ self.now.value_limit }
+    {
+        self.value_limit
+    }
+
+    /// The size of the largest value that a render may make, at least 1.
+    #[inline(always)]
+    pub(crate) fn largest_value(&self) -> usize
+        ensures { result ≡ max self.now.value_limit 1 }
+    {
+        self.value_limit.max(1)
+    }
+
+    /// The length in bytes of the longest text that a render may capture.
+    pub(crate) fn longest_text(&self) -> usize {
+        longest_text(self.largest_value())
     }
 
     /// Sets how undefined values behave in each later render.
@@ -401,6 +439,7 @@ impl<'source, C: Drop, M: Drop, F: Drop, R: Drop, J: Drop> EnvironmentOf<
             undefined: UndefinedBehavior::Lenient,
             fuel: None,
             limit: GREATEST_LIMIT,
+            value_limit: FIRST_VALUE_LIMIT,
         }
     }
 

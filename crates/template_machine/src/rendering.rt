@@ -247,24 +247,28 @@ impl<O: Parties> Rendering<'_, O> {
         let alloc = self.allocator();
         let stream = state.stream().share()?;
         self.accepted();
-        let mut machine = Machine::new(alloc, stream, Captures::new(alloc), state.take(alloc));
+        let captures = Captures::within(alloc, self.environment.longest_text());
+        let mut machine = Machine::new(alloc, stream, captures, state.take(alloc));
         let result = machine.run(alloc, self, true, &mut NullWriter);
         let (value, left) = machine.into_value();
         *state = left;
         result?;
         match value {
-            Some(value) => with_maps(alloc, &value, state),
+            Some(value) => with_maps(alloc, &value, state, self.value_limit() as u64),
             None => Err(Error::from(ErrorKind::InvalidOperation)),
         }
     }
 }
 
 impl<O: Parties> Host for Rendering<'_, O> {
+    ghost use Rattle.template_machine.specs.Environment.{largest_value};
     ghost use Rattle.template_machine.specs.Renders.{program_of};
 
     type Objects = O;
 
     ghost program = { program_of O.stated };
+
+    ghost largest = { largest_value };
 
     #[inline(always)]
     fn objects(&self) -> &O {
@@ -277,6 +281,11 @@ impl<O: Parties> Host for Rendering<'_, O> {
 
     fn recursion_limit(&self) -> usize {
         self.environment.recursion_limit()
+    }
+
+    #[inline(always)]
+    fn value_limit(&self) -> usize {
+        self.environment.largest_value()
     }
 
     fn undefined_behavior(&self) -> UndefinedBehavior {

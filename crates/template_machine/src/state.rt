@@ -282,6 +282,7 @@ impl<'env, O: Parties> StateOf<'env, O> {
         let alloc = self.rendering.allocator();
         let mut captures = Captures::new(alloc);
         captures.begin(alloc, CaptureMode::Capture)?;
+        captures.limit_texts(self.rendering.environment().longest_text());
         let mut captures = self.run_block(name, captures, &mut NullWriter)?;
         match captures.end() {
             Some((_mode, text)) => Ok(text),
@@ -305,7 +306,8 @@ impl<'env, O: Parties> StateOf<'env, O> {
         ensures stays { StaysInPlace self.old.world self.new.world }
         ensures kept { KeepsFixed self.old.world self.new.world }
     {
-        let captures = Captures::new(self.rendering.allocator());
+        let most = self.rendering.environment().longest_text();
+        let captures = Captures::within(self.rendering.allocator(), most);
         let _captures = self.run_block(name, captures, writer)?;
         Ok(())
     }
@@ -432,6 +434,7 @@ impl<'env, O: Parties> StateOf<'env, O> {
         let alloc = self.rendering.allocator();
         let mut captures = Captures::new(alloc);
         captures.begin(alloc, CaptureMode::Capture)?;
+        captures.limit_texts(self.rendering.environment().longest_text());
         let mut captures = self.run_over(run, captures)?;
         match captures.end() {
             Some((_mode, text)) => Ok(text),

@@ -212,7 +212,8 @@ impl<'env, 'source, O: Parties> TemplateOf<'env, 'source, O> {
     {
         let mut first = self.first_state(ids, context)?;
         let alloc = self.environment.allocator();
-        let _captures = self.run_over(&mut first, Captures::new(alloc), writer)?;
+        let captures = Captures::within(alloc, self.environment.longest_text());
+        let _captures = self.run_over(&mut first, captures, writer)?;
         Ok(CapturedOf::new(String::new(alloc), StateOf::new(self.rendering(), first)))
     }
 
@@ -256,6 +257,7 @@ impl<'env, 'source, O: Parties> TemplateOf<'env, 'source, O> {
         let alloc = self.environment.allocator();
         let mut captures = Captures::new(alloc);
         captures.begin(alloc, CaptureMode::Capture)?;
+        captures.limit_texts(self.environment.longest_text());
         let mut captures = self.run_over(state, captures, &mut NullWriter)?;
         match captures.end() {
             Some((_mode, text)) => Ok(text),

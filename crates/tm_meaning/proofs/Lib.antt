@@ -1,3 +1,4 @@
 pub mod Ends
 pub mod LookUp
+pub mod Left
 pub mod Loaded

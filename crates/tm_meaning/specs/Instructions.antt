@@ -7,7 +7,7 @@ use Rattle.tm_trees.specs.Instructions.{CaptureMode, LoopFlags}
 use Rattle.tm_trees.specs.Instructions.modes
 use Rattle.tm_trees.specs.Trees.{UnaryOperator, BinaryOperator, Application}
 use Rattle.tm_meaning.specs.declared.mark.LoopMark.{LoopMark}
-use Rattle.tm_meaning.specs.World.{choose, TemplateId, World, HostValue, Loop, top_mark, top_loop, open_loop, next_turn, cleared}
+use Rattle.tm_meaning.specs.World.{choose, TemplateId, World, HostValue, Loop, top_mark, top_loop, open_loop, next_turn, leave_loop, cleared}
 use Rattle.tm_meaning.specs.World.{items_over, Res, answered, looked_up, emitted, escape_for, with_escape, store, unpacked_items}
 use Rattle.tm_meaning.specs.World.{set_member, push, pop, plain_scope, captured_text, module_with, enclose, own_closure, make_macro}
 use Rattle.tm_syntax.specs.Loops.{loops_before}
@@ -233,7 +233,7 @@ abbrev pub returned : Return → List (Option Return) → Config → Config
 returned r rs c =
     record c {
       run = record c.run { place = r.place; operands = r.operands; escapes = r.escapes; floor = r.floor; loops = rs };
-      world = pop c.world;
+      world = leave_loop c.world;
     }
 
 -- pushes the text of the innermost capture and restores the parent
@@ -249,7 +249,7 @@ returns r true c = with_text r.parent c.captures c
 -- Ends a loop. A loop that was called returns, and its captures and escapes are closed.
 abbrev pub pop_loop_with : List (Option Return) → Config → Next
 pop_loop_with [] c = stuck c.world
-pop_loop_with (None ∷ rs) c = goes c.run.operands (pop c.world) (looping rs c)
+pop_loop_with (None ∷ rs) c = goes c.run.operands (leave_loop c.world) (looping rs c)
 pop_loop_with (Some r ∷ rs) c = returns r r.value (returned r rs c)
 
 -- A loop from before the run can't be ended.

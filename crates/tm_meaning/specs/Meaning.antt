@@ -19,7 +19,7 @@ use Rattle.tm_syntax.specs.Code.{count_targets, for_flags, pass_flags, macro_hea
 use Rattle.tm_syntax.specs.Fragments.{MacroHead}
 use Rattle.tm_syntax.specs.Loops.{passes, Numbers, within_loop, past, pasts}
 use Rattle.tm_meaning.specs.World.{choose, TemplateId, World, HostValue, Res, Good, Bad, bind, answered, tick, ticked, looked_up}
-use Rattle.tm_meaning.specs.World.{emitted, escape_for, with_escape, captured_text, open_loop, next_turn}
+use Rattle.tm_meaning.specs.World.{emitted, escape_for, with_escape, captured_text, open_loop, next_turn, leave_loop}
 use Rattle.tm_meaning.specs.World.{cleared, items_over, store, set_member, unpacked_items, push, pop, plain_scope, enclose, own_closure}
 use Rattle.tm_meaning.specs.World.{make_macro, module_of}
 use Rattle.tm_meaning.specs.Calls.{Callee, NestedCall, Asked, has, refused, runs, recurs, undone, wrapped, run_value}
@@ -463,13 +463,13 @@ after_first (otherwise _ body) run o =
 -- the end of a round, which is charged: the loop ends, or continues
 abbrev pub round_end : Ending → Run → Outcome → (Run → List ℕ → World → Outcome) → Outcome
 round_end (fault chain) run o f = o
-round_end leave run o f = use_it (tick o.world) run o.text (λ _ world1. so_far run o.text (pop world1))
+round_end leave run o f = use_it (tick o.world) run o.text (λ _ world1. so_far run o.text (leave_loop world1))
 round_end e run o f = use_it (tick o.world) run o.text (λ _ world1. f run o.text world1)
 
 -- A round for each item: taking the item is charged, the names of the scope are dropped, and the
 -- body runs. The loop ends when no item is left.
 abbrev pub rounds : (Val → Run → List ℕ → World → Outcome) → List Val → Run → List ℕ → World → Outcome
-rounds turn [] run out w = use_it (tick w) run out (λ _ world1. so_far run out (pop (next_turn world1)))
+rounds turn [] run out w = use_it (tick w) run out (λ _ world1. so_far run out (leave_loop (next_turn world1)))
 rounds turn (v ∷ vs) run out w =
     use_it (tick w) run out (λ _ world1.
     let o = turn v run out (cleared (next_turn world1)) in
@@ -492,7 +492,7 @@ one_counted n w =
 -- charged, the names of the scope are dropped, and the condition is tested, which is charged. A
 -- selected item is counted, and the jump back is charged. The loop ends when no item is left.
 abbrev pub selected : HostValue → (Val → World → Res Val) → ℕ → List Val → World → Res (List Val)
-selected host condition n [] w = ticked w (λ world1. Good [] (pop (next_turn world1)))
+selected host condition n [] w = ticked w (λ world1. Good [] (leave_loop (next_turn world1)))
 selected host condition n (v ∷ vs) w =
     ticked w (λ world1. bind (condition v (cleared (next_turn world1))) (λ c world2.
     ticked world2 (λ world3. bind (truth host c world3) (λ b world4.

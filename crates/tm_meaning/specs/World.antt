@@ -9,7 +9,7 @@ use Rattle.tm_values.specs.Map.{member}
 use Rattle.tm_values.specs.Map as maps
 use Rattle.tm_values.specs.Equality.{same_value}
 use Rattle.tm_values.specs.Records.{RecordData, LoopData, namespace_at}
-use Rattle.tm_values.specs.Val.{Val, undefined, boolean, text, exports, macro, namespace, loop, pairs_of}
+use Rattle.tm_values.specs.Val.{Val, undefined, none, boolean, text, exports, macro, namespace, loop, pairs_of}
 use Rattle.tm_values.specs.declared.error.ErrorKind.{ErrorKind}
 use Rattle.tm_values.specs.declared.error.ErrorKind.TheVariants.{OutOfFuel, InvalidOperation}
 use Rattle.tm_values.specs.declared.escape.AutoEscape.{AutoEscape}
@@ -470,6 +470,33 @@ without_locals (s ∷ ss) = record s { locals = [] } ∷ ss
 -- Drops the names of the innermost scope.
 abbrev pub cleared : World → World
 cleared w = with_frames (without_locals w.scopes.frames) w
+
+-- The items of a loop that was left, as many as there were: the first value up to the current one,
+-- and then the second.
+abbrev pub spread : ℕ → ℕ → Val → Val → List Val
+spread zero turns before after = []
+spread (suc n) zero before after = after ∷ spread n zero before after
+spread (suc n) (suc turns) before after = before ∷ spread n turns before after
+
+-- Forgets the items of a loop but the one before the current one and the one after it, so that the
+-- record answers as before.
+abbrev pub left_loop : Loop → Loop
+left_loop l = record l {
+  items = spread (length l.items) l.turns (or_is (previous_of l.items l.turns) none) (or_is (following_of l.items l.turns) none);
+}
+
+abbrev pub leaving_at : ℕ → List Loop → List Loop
+leaving_at n [] = []
+leaving_at zero (l ∷ ls) = left_loop l ∷ ls
+leaving_at (suc n) (l ∷ ls) = l ∷ leaving_at n ls
+
+abbrev pub leaving_of : Option LoopMark → World → World
+leaving_of None w = w
+leaving_of (Some m) w = record w { loops = leaving_at m.number w.loops }
+
+-- Closes the innermost scope, which is a loop's, and forgets the loop's items.
+abbrev pub leave_loop : World → World
+leave_loop w = pop (leaving_of (top_mark w.scopes.frames) w)
 
 -- the record of the innermost scope, if that is a loop's
 abbrev pub top_loop : World → Option Loop

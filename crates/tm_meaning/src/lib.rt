@@ -8,7 +8,7 @@ ghost use Rattle.tm_values.specs.Val.{Val};
 ghost use Rattle.tm_meaning.specs.LookUp.{Finds};
 ghost use Rattle.tm_meaning.specs.Machine.{Program, Base, Next};
 ghost use Rattle.tm_meaning.specs.Steps.{Final, Leads};
-ghost use Rattle.tm_meaning.specs.World.{View, find_name};
+ghost use Rattle.tm_meaning.specs.World.{Loop, View, find_name, left_loop, loop_data};
 
 mod base;
 mod function;
@@ -46,4 +46,10 @@ pub fn look_up_order()
         Finds view x view.frames a → find_name view x ≡ a }
     ensures found { (view : View) (x : List ℕ) (a : Answer (Option Val)) →
         find_name view x ≡ a → Finds view x view.frames a }
+{}
+
+/// A loop that was left answers what it answered before, though its items are forgotten: its place,
+/// its count, its depth, and the items before and after the current one.
+pub fn left_loops_answer()
+    ensures { (l : Loop) → loop_data (left_loop l) ≡ loop_data l }
 {}

@@ -1,5 +1,5 @@
 //! What the machine asks of a render's environment.
-ghost use Rattle.std.specs.Prelude.{◌≡◌};
+ghost use Rattle.std.specs.Prelude.{◌≡◌, ℕ};
 ghost use Rattle.tm_meaning.specs.Machine.{Program};
 ghost use Rattle.tm_meaning.specs.World.{template_at, card_at};
 ghost use Rattle.tm_meaning.specs.Calls.{is_required};
@@ -13,13 +13,17 @@ use tm_shapes::Verified;
 use tm_syntax::NameMap;
 use tm_values::{AutoEscape, UndefinedBehavior, Value};
 
-/// What a render runs under: the environment, the template that is rendered, and the caller's objects.
+/// What a render runs under: the environment, the template that is rendered, and the caller's
+/// objects.
 pub trait Host {
     /// The caller's objects.
     type Objects: Parties;
 
     /// The host of the definitions, and the instructions of each stream.
     ghost program: { Self → Program };
+
+    /// The size of the largest value that a run may make.
+    ghost largest: { Self → ℕ };
 
     /// The caller's objects, which are those of the definitions.
     fn objects(&self) -> &Self::Objects
@@ -41,6 +45,10 @@ pub trait Host {
     /// How many scopes may be nested.
     fn recursion_limit(&self) -> usize
         ensures { result ≡ (program self.now).host.limit };
+
+    /// The size of the largest value that a run may make: what would be larger finds no memory.
+    fn value_limit(&self) -> usize
+        ensures { result ≡ largest self.now };
 
     /// How undefined values behave.
     fn undefined_behavior(&self) -> UndefinedBehavior

@@ -1,13 +1,13 @@
 //! Arithmetic.
-ghost use Rattle.std.specs.Prelude.{◌≡◌, ◌∷◌, [], None, MatchOption};
+ghost use Rattle.std.specs.Prelude.{◌≡◌, ◌∷◌, [], None, Ok, MatchOption, MatchResult};
 ghost use Rattle.tm_definitions.specs.Arithmetic.{both, number_answer, added, subtracted, multiplied, floor_divided, remaining, raised};
-ghost use Rattle.tm_definitions.specs.Arithmetic.{negated, divided, text_added, list_added};
+ghost use Rattle.tm_definitions.specs.Arithmetic.{negated, divided, text_added};
 ghost use Rattle.tm_values.specs.Answer.{IsAnswer};
-ghost use Rattle.tm_values.specs.Val.{whole_in, text_in, list_in};
+ghost use Rattle.tm_values.specs.Val.{list, whole_in, text_in, vals_in};
 
 use std::alloc::Global;
 use tm_primitives::whole;
-use tm_values::{Error, ErrorKind, Node, SharedText, Value, share_all};
+use tm_values::{Error, ErrorKind, Node, SharedText, Value};
 
 /// The sum of two numbers, where truth values count as 0 and 1, or the concatenation of two texts
 /// or two lists, not marked safe. InvalidOperation for other values and if a sum is out of range.
@@ -18,27 +18,46 @@ pub fn add(alloc: Global, left: &Value, right: &Value) -> Result<Value, Error>
     add_to(alloc, left.share()?, right)
 }
 
-/// The same, but takes the left value: a text that has no other owner is appended to in place.
+/// The same, but takes the left value: a text or a list that has no other owner is appended to in
+/// place.
 pub fn add_to(alloc: Global, left: Value, right: &Value) -> Result<Value, Error>
     ensures { IsAnswer result (added left right.now) }
 {
     match left.into_text() {
         Ok((content, _safe)) => add_text(alloc, content, right),
-        Err(left) => add_others(alloc, &left, right),
+        Err(left) => add_others(alloc, left, right),
     }
 }
 
 // The sum, if the left value isn't a text.
-fn add_others(alloc: Global, left: &Value, right: &Value) -> Result<Value, Error>
-    requires { text_in left.now ≡ None }
-    ensures { IsAnswer result (added left.now right.now) }
+fn add_others(alloc: Global, left: Value, right: &Value) -> Result<Value, Error>
+    requires { text_in left ≡ None }
+    ensures { IsAnswer result (added left right.now) }
 {
-    if let Node::List(items, _) = &left.node {
-        return add_list(alloc, items.as_slice(), right);
+    if let Node::List(_, _) = &left.node {
+        return add_list(alloc, left, right);
     }
-    match whole_operands(left, right) {
+    match whole_operands(&left, right) {
         Some((a, b)) => number_or_invalid(alloc, whole::add(a, b)),
         None => Err(not_numbers(alloc)),
+    }
+}
+
+/// The sum of two texts or two lists, in place if the left one has no other owner. Returns the left
+/// value as it was if memory runs out, and for other values.
+pub fn grow(alloc: Global, left: Value, right: &Value) -> Result<Value, Value>
+    ensures { MatchResult result (λ sum. added left right.now ≡ Ok sum) (λ same. same ≡ left) }
+{
+    if let (Some(_), Some(more)) = (left.as_list(), right.as_list()) {
+        return left.extended(alloc, more);
+    }
+    let Some(after) = right.as_str() else {
+        return Err(left);
+    };
+    let (mut content, safe) = left.into_text()?;
+    match content.append(after) {
+        Ok(()) => Ok(Value::shared_text(content, false)),
+        Err(_) => Err(Value::shared_text(content, safe)),
     }
 }
 
@@ -174,14 +193,16 @@ fn add_text(alloc: Global, mut content: SharedText, right: &Value) -> Result<Val
     Ok(Value::shared_text(content, false))
 }
 
-fn add_list(alloc: Global, items: &[Value], right: &Value) -> Result<Value, Error>
-    ensures { IsAnswer result (list_added items.now (list_in right.now)) }
+// The sum, if the left value is a list.
+fn add_list(alloc: Global, left: Value, right: &Value) -> Result<Value, Error>
+    requires { left ≡ list (vals_in left) }
+    ensures { IsAnswer result (added left right.now) }
 {
-    let Some(after) = right.as_list() else {
+    let Some(more) = right.as_list() else {
         return Err(not_numbers(alloc));
     };
-    let mut joined = Vec::with_capacity(alloc, items.len())?;
-    share_all(items, &mut joined)?;
-    share_all(after, &mut joined)?;
-    Value::list(alloc, joined)
+    match left.extended(alloc, more) {
+        Ok(sum) => Ok(sum),
+        Err(_) => Err(Error::from(ErrorKind::OutOfMemory)),
+    }
 }

@@ -1,5 +1,5 @@
 //! Iterating over values, and unpacking them into several targets.
-ghost use Rattle.std.specs.Prelude.{◌≡◌, ◌∷◌, [], Ok, map as each};
+ghost use Rattle.std.specs.Prelude.{◌≡◌, ◌∷◌, [], IfErr, IfOk, Ok, map as each};
 ghost use Rattle.std.specs.Str.{chars};
 ghost use Rattle.tm_definitions.specs.Iteration.{IsAnswerRead, UnpacksAsIterated, keys_of, character_texts, items_or, items_of, iterated};
 ghost use Rattle.tm_definitions.specs.Iteration.{exactly, unpacked};
@@ -19,18 +19,20 @@ use tm_values::{
 /// of a text, not marked safe; the keys of a map, keyword map, module or namespace, in order; the
 /// attribute names of a loop or a macro; and none for undefined. UndefinedError if the value is
 /// undefined and the behaviour refuses that. InvalidOperation for other values, and for a namespace
-/// that has no record. OutOfMemory if memory runs out.
+/// that has no record. OutOfMemory if memory runs out, or if the list of a text's characters would
+/// be larger than `most`.
 pub fn iterate<R: Records>(
     alloc: Global,
     value: &Value,
     records: &R,
     behavior: UndefinedBehavior,
+    most: usize,
 ) -> Result<Rc<Vec<Value>>, Error>
     ensures { IsAnswerRead result (λ items. items.value.items)
         (iterated behavior (R.records records.now) value.now) }
 {
     check_defined(value, behavior, UndefinedUse::Iteration)?;
-    items(alloc, value, records)
+    items(alloc, value, records, most)
 }
 
 /// The items that are unpacked into `count` targets: those that `for` iterates over, except that
@@ -65,17 +67,19 @@ pub fn collection<R: Records>(
 }
 
 /// The items that `for` iterates over, except that undefined has none. InvalidOperation for other
-/// values, and for a namespace that has no record. OutOfMemory if memory runs out.
+/// values, and for a namespace that has no record. OutOfMemory if memory runs out, or if the list of
+/// a text's characters would be larger than `most`.
 pub(crate) fn items<R: Records>(
     alloc: Global,
     value: &Value,
     records: &R,
+    most: usize,
 ) -> Result<Rc<Vec<Value>>, Error>
     ensures { IsAnswerRead result (λ items. items.value.items)
         (items_of (R.records records.now) value.now) }
 {
     match &value.node {
-        Node::Text(content, _) => characters(alloc, content.as_str()),
+        Node::Text(content, _) => characters(alloc, content.as_str(), most),
         Node::Undefined(_) => Ok(Rc::new(alloc, Vec::new(alloc))?),
         _ => items_or(alloc, value, records, ErrorKind::InvalidOperation),
     }
@@ -117,17 +121,30 @@ fn exactly(alloc: Global, items: Rc<Vec<Value>>, count: usize) -> Result<Rc<Vec<
     }
 }
 
-// Each character as a text of its own.
-fn characters(alloc: Global, content: &str) -> Result<Rc<Vec<Value>>, Error>
+// Each character as a text of its own. OutOfMemory also if the list of them would be larger than
+// `most`; then none is made.
+fn characters(alloc: Global, content: &str, most: usize) -> Result<Rc<Vec<Value>>, Error>
     ensures { IsAnswerRead result (λ items. items.value.items)
         (Ok (character_texts (chars content.now))) }
 {
-    let mut values = Vec::with_capacity(alloc, characters::count(content))?;
+    let mut values = room_for(alloc, characters::count(content), most)?;
     for character in content.chars() {
         let mut bytes = [0; 4];
         values.push(Value::text(alloc, character.encode_utf8(&mut bytes))?)?;
     }
     Ok(Rc::new(alloc, values)?)
+}
+
+// An empty vector with room for a list of `count` small values. OutOfMemory if the list would be
+// larger than `most`.
+fn room_for(alloc: Global, count: usize, most: usize) -> Result<Vec<Value>, Error>
+    ensures empty { IfOk result (λ values. values.items ≡ []) }
+    ensures kind { IfErr result (λ e. e ≡ ErrorKind.OutOfMemory ∷ []) }
+{
+    if count.saturating_mul(2) >= most {
+        return Err(Error::from(ErrorKind::OutOfMemory));
+    }
+    Ok(Vec::with_capacity(alloc, count)?)
 }
 
 fn keys(alloc: Global, pairs: &[(Value, Value)]) -> Result<Rc<Vec<Value>>, Error>

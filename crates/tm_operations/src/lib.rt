@@ -16,13 +16,13 @@ mod slices;
 mod spread;
 
 pub use arithmetic::{
-    add, add_to, divide, floor_divide, multiply, negate, power, remainder, subtract,
+    add, add_to, divide, floor_divide, grow, multiply, negate, power, remainder, subtract,
 };
 pub use comparisons::compare;
 pub use condition::truth;
 pub use containment::contains;
 pub use iteration::{collection, iterate, unpack, unpack_law};
-pub use mapped::with_maps;
+pub use mapped::{with_maps, within};
 pub use maps::{dict, dict_law, namespace};
 pub use members::{attribute, check_settable, is_callable, item};
 pub use ranges::{range, range_law};

@@ -8,7 +8,7 @@ ghost use Rattle.tm_operations.specs.Begun.{left_of_next, namespace_weight, part
 ghost use Rattle.tm_values.specs.Answer.{IsAnswer, OkOrOutOfMemory, is_memory_alone};
 ghost use Rattle.tm_values.specs.Map.{IsMap};
 ghost use Rattle.tm_values.specs.Records.{RecordData};
-ghost use Rattle.tm_values.specs.Val.{pairs_of, vals_of};
+ghost use Rattle.tm_values.specs.Val.{pairs_of, val_size, vals_of};
 
 use std::alloc::Global;
 use tm_values::{Error, ErrorKind, Node, Records, SharedText, Value, ValueMap, find_namespace};
@@ -69,15 +69,38 @@ pub enum Ahead<'a> {
 }
 
 /// The value with its namespaces replaced by maps, at any depth except in keys. InvalidOperation if
-/// a namespace has no record or contains itself. OutOfMemory if memory runs out.
-pub fn with_maps<R: Records>(alloc: Global, value: &Value, records: &R) -> Result<Value, Error>
+/// a namespace has no record or contains itself. OutOfMemory if memory runs out, or if the value
+/// would be larger than `most`; each part that is looked at counts towards that, since namespaces
+/// in namespaces can make a value that is exponentially larger.
+pub fn with_maps<R: Records>(
+    alloc: Global,
+    value: &Value,
+    records: &R,
+    most: u64,
+) -> Result<Value, Error>
+    ensures answer { IsAnswer result (with_maps (R.records records.now) value.now) }
+    ensures within { IfOk result (λ made. val_size made ≤ most) }
+{
+    within(replaced(alloc, value, records, most)?, most)
+}
+
+// `with_maps`, but only the parts that are looked at count.
+fn replaced<R: Records>(
+    alloc: Global,
+    value: &Value,
+    records: &R,
+    most: u64,
+) -> Result<Value, Error>
     ensures { IsAnswer result (with_maps (R.records records.now) value.now) }
 {
     let mut begun = Vec::new(alloc);
+    let mut left = most;
     let mut next = Ahead::Part(value, records.namespace_count());
     loop {
         next = match next {
-            Ahead::Part(part, levels) => enter(alloc, part, levels, records, &mut begun)?,
+            Ahead::Part(part, levels) => {
+                enter(alloc, part, levels, records, &mut begun, &mut left)?
+            }
             Ahead::Made(made) => match begun.pop() {
                 Some(outer) => resume(alloc, outer, made, &mut begun)?,
                 None => return Ok(made),
@@ -86,13 +109,37 @@ pub fn with_maps<R: Records>(alloc: Global, value: &Value, records: &R) -> Resul
     }
 }
 
-// Begins a part, or returns it finished if it contains no namespace.
+// Counts a part that is looked at. OutOfMemory if none is left.
+fn count(left: &mut u64) -> Result<(), Error>
+    ensures { IfErr result (λ e. e ≡ ErrorKind.OutOfMemory ∷ []) }
+{
+    let Some(fewer) = left.checked_sub(1) else {
+        return Err(Error::from(ErrorKind::OutOfMemory));
+    };
+    *left = fewer;
+    Ok(())
+}
+
+/// The value, if its size is at most `most`. OutOfMemory otherwise.
+pub fn within(value: Value, most: u64) -> Result<Value, Error>
+    ensures same { OkOrOutOfMemory result (λ v. v ≡ value) }
+    ensures within { IfOk result (λ v. val_size v ≤ most) }
+{
+    if value.size() > most {
+        return Err(Error::from(ErrorKind::OutOfMemory));
+    }
+    Ok(value)
+}
+
+// Begins a part, or returns it finished if it contains no namespace. OutOfMemory if `left` parts
+// were looked at already.
 fn enter<'a, R: Records>(
     alloc: Global,
     part: &'a Value,
     levels: usize,
     records: &'a R,
     begun: &mut Vec<Begun<'a>>,
+    left: &mut u64,
 ) -> Result<Ahead<'a>, Error>
     ensures ok { IfOk result (λ n. comes_to (R.records records.now) begun.new.items n
         ≡ outermost (R.records records.now) begun.old.items
@@ -104,6 +151,7 @@ fn enter<'a, R: Records>(
         < left_in_all (R.records records.now) begun.old.items
         + weight (namespace_weight (R.records records.now) levels) part.now) }
 {
+    count(left)?;
     if part.writable().in_json {
         return Ok(Ahead::Made(part.share()?));
     }

@@ -7,7 +7,7 @@ pub record Told : Type 0 where
   pub bytes : Option (List ℕ)
   pub failures : ℕ
 
--- a writer that keeps nothing, and never fails
+-- what a writer is told that keeps nothing and never fails
 abbrev pub untold : Told
 untold = record { bytes = None; failures = 0 }
 

@@ -1,6 +1,6 @@
 -- The innermost capture, which lies last in memory, takes a text.
 use Rattle.std.proofs.Common.{◌≡◌, ◌≢◌, ◌-◌, ℕ, List, [], ◌∷◌, ◌++◌, Bool, true, false, length, reverse, take, slice_index_or, slice_set}
-use Rattle.std.proofs.Common.{Option, None, Some, MatchOption, Result, Ok, Err, if◌then◌else◌}
+use Rattle.std.proofs.Common.{Option, None, Some, MatchOption, Result, Ok, Err, OnOk, OnErr, is_ok, if◌then◌else◌}
 use Rattle.std.proofs.Common.{refl, sym, ◌∙◌, ap, subst, arith}
 use Rattle.std.proofs.lemmas.List.{append-nil, length-append, length-reverse, reverse-append}
 use Rattle.tm_values.specs.Answer.{OrStays}
@@ -65,6 +65,12 @@ some_open xs n long some none = some (long ∙ sym (length-reverse xs) ∙ ap le
 put_nothing : (ks : List Capture) → put_in ks [] ≡ ks
 put_nothing [] = refl
 put_nothing (k ∷ ks) = ap (λ (t : List ℕ). record k { text = t } ∷ ks) (append-nil k.text)
+
+-- what an answer says of a text, by whether it is Ok
+pub taken_or_not : {U E : Type 0} (r : Result U E) (before after t : List ℕ) → OnOk r (after ≡ before ++ t) → OnErr r (after ≡ before) →
+    after ≡ (if is_ok r then before ++ t else before)
+taken_or_not (Ok u) before after t ok err = ok
+taken_or_not (Err e) before after t ok err = err
 
 -- it took the text, or all stays
 pub put_or_stays : (done : Bool) (xs : List Capture) (n : ℕ) (heard : Bool) (before after t : List ℕ) → n ≡ length xs → n ≢ 0 →

@@ -15,7 +15,7 @@ use tm_operations::{
 use tm_primitives::whole;
 use tm_printing::concatenate_to;
 use tm_syntax::{BinaryOperator, UnaryOperator};
-use tm_values::{Error, Node, Records, UndefinedBehavior, Value};
+use tm_values::{Error, Node, Records, UndefinedBehavior, Value, longest_text};
 
 /// The result of a prefix operator, or its error.
 pub fn unary(
@@ -32,12 +32,14 @@ pub fn unary(
     }
 }
 
-/// The result of a binary operator, or its error. Takes the left value.
+/// The result of a binary operator, or its error. Takes the left value. OutOfMemory also if the
+/// value of a concatenated text would be larger than `most`.
 pub fn binary<R: Records>(
     alloc: Global,
     operator: BinaryOperator,
     left: Value,
     right: &Value,
+    most: usize,
     records: &R,
     undefined: UndefinedBehavior,
 ) -> Result<Value, Error>
@@ -60,7 +62,12 @@ pub fn binary<R: Records>(
         BinaryOperator::Add => return add_to(alloc, left, right),
         BinaryOperator::Subtract => return subtract(alloc, &left, right),
         BinaryOperator::Concatenate => return concatenate_to(
-            alloc, left, right, records, undefined,
+            alloc,
+            left,
+            right,
+            longest_text(most),
+            records,
+            undefined,
         ),
         BinaryOperator::Multiply => return multiply(alloc, &left, right),
         BinaryOperator::Divide => return divide(alloc, &left, right),

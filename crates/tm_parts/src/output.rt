@@ -1,5 +1,5 @@
 //! Output: captures that receive text before the writer does.
-ghost use Rattle.std.specs.Prelude.{◌≡◌, ◌≢◌, ◌⊎◌, ◌↔◌, ℕ, Bool, IsTrue, [], ◌∷◌, length, take, None, Err, IsOk, IsSome, OnOk};
+ghost use Rattle.std.specs.Prelude.{◌≡◌, ◌++◌, ◌≢◌, ◌⊎◌, ◌↔◌, ℕ, Bool, IsTrue, [], ◌∷◌, length, take, None, Err, IsOk, IsSome, OnOk};
 ghost use Rattle.std.specs.Prelude.{OnErr, IfErr};
 ghost use Rattle.std.specs.Prelude.{MatchOption, not, string_bytes};
 ghost use Rattle.std.specs.Io.KnownBytes.{Appends};
@@ -20,7 +20,7 @@ use crate::halt::Halt;
 use std::alloc::Global;
 use std::io;
 use std::marker::Model;
-use tm_output::{Sink, TargetFailed, put_text, write_text};
+use tm_output::{BoundedString, Sink, TargetFailed, put_text, write_text};
 use tm_printing::{Unwritten, emit, emit_at_once};
 use tm_syntax::CaptureMode;
 use tm_values::{AutoEscape, Error, ErrorKind, Records, Value};
@@ -29,24 +29,24 @@ use tm_values::{AutoEscape, Error, ErrorKind, Records, Value};
 #[derive(Drop)]
 struct Capture {
     mode: CaptureMode,
-    text: String,
+    text: BoundedString,
 }
 
 impl Model for Capture {
-    ghost use Rattle.std.specs.Prelude.{string_bytes};
     ghost use Rattle.tm_meaning.specs.Instructions.{is_heard};
     ghost use Rattle.tm_meaning.specs.Machine.{Capture as Waiting};
 
     ghost Value = { Waiting };
 
-    ghost view = { λ capture. record { heard = is_heard capture.mode; text = string_bytes capture.text } };
+    ghost view = { λ capture. record { heard = is_heard capture.mode; text = capture.text } };
 }
 
-/// The open captures, and buffers that new captures reuse. A contract sees the open captures,
-/// innermost first.
+/// The open captures, buffers that new captures reuse, and the greatest length of a text. A contract
+/// sees the open captures, innermost first.
 pub struct Captures {
     open: Vec<Capture>,
     spare: Vec<String>,
+    most: usize,
 }
 
 // By hand: one call for each owner, instead of a drop of each part.
@@ -55,6 +55,7 @@ impl Drop for Captures {
         let Captures {
             open: _open,
             spare: _spare,
+            most: _most,
         } = self;
     }
 }
@@ -69,14 +70,30 @@ impl Model for Captures {
 }
 
 impl Captures {
-    /// No captures.
+    /// No captures. Their texts are only bounded by memory.
     pub fn new(alloc: Global) -> Captures
+        ensures { result ≡ [] }
+    {
+        Captures::within(alloc, usize::MAX)
+    }
+
+    /// No captures. The text of each will have at most `most` bytes; what would make it longer finds
+    /// no memory.
+    pub fn within(alloc: Global, most: usize) -> Captures
         ensures { result ≡ [] }
     {
         Captures {
             open: Vec::new(alloc),
             spare: Vec::new(alloc),
+            most,
         }
+    }
+
+    /// Sets the greatest length of the texts of captures that are begun from now on.
+    pub fn limit_texts(&mut self, most: usize)
+        ensures { self.new ≡ self.old }
+    {
+        self.most = most;
     }
 
     /// The allocator of the texts.
@@ -115,21 +132,17 @@ impl Captures {
         ensures kind { IfErr result (λ e. e ≡ OutOfMemory ∷ []) }
         ensures err { OnErr result (self.new ≡ self.old) }
     {
-        let text = self.room(alloc);
+        let text = BoundedString::emptied(self.room(alloc), self.most);
         self.open.push(Capture { mode, text })?;
         Ok(())
     }
 
-    /// An empty text, in a returned buffer if there is one.
+    /// The buffer of a new capture: a returned one if there is one.
     fn room(&mut self, alloc: Global) -> String
-        ensures empty { string_bytes result ≡ [] }
-        ensures same { self.new ≡ self.old }
+        ensures { self.new ≡ self.old }
     {
         match self.spare.pop() {
-            Some(mut text) => {
-                text.clear();
-                text
-            }
+            Some(buffer) => buffer,
             None => String::new(alloc),
         }
     }
@@ -150,7 +163,7 @@ impl Captures {
             record { heard = is_heard ended.0; text = string_bytes ended.1 } ∷ self.new) }
     {
         let Capture { mode, text } = self.open.pop()?;
-        Some((mode, text))
+        Some((mode, text.into_string()))
     }
 
     /// Appends a text to the innermost capture, or writes it if none is open. `Writer` if the

@@ -7,6 +7,7 @@ ghost use Rattle.tm_values.specs.Answer.{IsAnswer};
 use crate::check::check_print;
 use crate::printing::print;
 use std::alloc::Global;
+use tm_output::BoundedText;
 use tm_values::{
     Error, ErrorKind, Records, SharedText, UndefinedBehavior, UndefinedUse, Value, check_defined,
 };
@@ -23,14 +24,16 @@ pub fn concatenate<R: Records>(
 ) -> Result<Value, Error>
     ensures { IsAnswer result (concatenated behavior (R.records records.now) left.now right.now) }
 {
-    concatenate_to(alloc, left.share()?, right, records, behavior)
+    concatenate_to(alloc, left.share()?, right, usize::MAX, records, behavior)
 }
 
 /// The same, but takes the left value: a text that has no other owner is appended to in place.
+/// OutOfMemory also if the text would be longer than `most` bytes; no more of it is printed.
 pub fn concatenate_to<R: Records>(
     alloc: Global,
     left: Value,
     right: &Value,
+    most: usize,
     records: &R,
     behavior: UndefinedBehavior,
 ) -> Result<Value, Error>
@@ -38,28 +41,40 @@ pub fn concatenate_to<R: Records>(
 {
     check_defined(&left, behavior, UndefinedUse::Comparison)?;
     check_defined(right, behavior, UndefinedUse::Comparison)?;
-    join(alloc, left, right, records)
+    join(alloc, left, right, most, records)
 }
 
-fn join<R: Records>(alloc: Global, left: Value, right: &Value, records: &R) -> Result<Value, Error>
+fn join<R: Records>(
+    alloc: Global,
+    left: Value,
+    right: &Value,
+    most: usize,
+    records: &R,
+) -> Result<Value, Error>
     ensures { IsAnswer result (joined (R.records records.now) left right.now) }
 {
     check_print(alloc, &left, records)?;
     check_print(alloc, right, records)?;
-    let mut text = into_printed(alloc, left, records)?;
+    let mut text = into_printed(alloc, left, most, records)?;
     print_after(alloc, right, records, &mut text)?;
-    Ok(Value::shared_text(text, false))
+    Ok(Value::shared_text(text.into_text(), false))
 }
 
 // The printed text of the value; a text is its own.
-fn into_printed<R: Records>(alloc: Global, value: Value, records: &R) -> Result<SharedText, Error>
+fn into_printed<R: Records>(
+    alloc: Global,
+    value: Value,
+    most: usize,
+    records: &R,
+) -> Result<BoundedText, Error>
     ensures { MatchResult result (λ text. text ≡ printed (R.records records.now) value)
         (λ e. e ≡ ErrorKind.OutOfMemory ∷ []) }
 {
     match value.into_text() {
-        Ok((content, _safe)) => Ok(content),
+        Ok((content, _safe)) => Ok(BoundedText::new(content, most)?),
         Err(value) => {
-            let mut text = SharedText::from_string(String::new(alloc))?;
+            let empty = SharedText::from_string(String::new(alloc))?;
+            let mut text = BoundedText::new(empty, most)?;
             print_after(alloc, &value, records, &mut text)?;
             Ok(text)
         }
@@ -71,7 +86,7 @@ fn print_after<R: Records>(
     alloc: Global,
     value: &Value,
     records: &R,
-    text: &mut SharedText,
+    text: &mut BoundedText,
 ) -> Result<(), Error>
     ensures { MatchResult result
         (λ _. text.new ≡ text.old ++ printed (R.records records.now) value.now)

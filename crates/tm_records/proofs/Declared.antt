@@ -26,7 +26,7 @@ blocks_same (Some x) None e = absurd (true≢false (sym e))
 blocks_same (Some x) (Some y) e = ap Some (same_text x y (sym e))
 
 -- streams that are the same are one
-streams_same : (s t : StreamId) → same_stream s t ≡ true → s ≡ t
+pub streams_same : (s t : StreamId) → same_stream s t ≡ true → s ≡ t
 streams_same s t e =
     let parts = both (same_template s.template t.template) (same_block s.block t.block) e in
     ap (λ x. record { template = x; block = s.block }) (templates_same s.template t.template parts.0)

@@ -19,7 +19,7 @@ pub use levels::{INCLUDE_DEPTH, include_cost};
 pub use methods::method_of;
 pub use nested::{NestedRun, RunOf};
 pub use pool::ContextPool;
-pub use records::{add_loop, changed_at, keep_each, set_in, turn_at};
+pub use records::{add_loop, changed_at, keep_each, leave_at, set_in, turn_at};
 pub use results::{CallResult, Further, Recursion, because, is_macro, text_for};
 pub use rooms::Rooms;
 pub use saved::{Saved, SavedBlock, SavedInclude, SavedMacro, SavedSuper, shared_name};

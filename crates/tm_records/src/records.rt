@@ -2,9 +2,10 @@
 ghost use Rattle.std.specs.Prelude.{◌≡◌, [], ◌∷◌, ◌++◌, None, false, slice_get, OnOk, OnErr, IfErr, IfOk};
 ghost use Rattle.tm_meaning.specs.Calls.{keeping_at};
 ghost use Rattle.tm_meaning.specs.Memory.{is_want_of_memory};
-ghost use Rattle.tm_meaning.specs.World.{turned_at, with_member};
+ghost use Rattle.tm_meaning.specs.World.{leaving_at, turned_at, with_member};
 ghost use Rattle.tm_records.specs.Records.{IsChangedAt, loop_record};
 ghost use Rattle.tm_syntax.specs.Named.{put_each};
+ghost use Rattle.tm_values.specs.Answer.{OkOrOutOfMemory};
 
 use std::alloc::Global;
 use std::rc::Rc;
@@ -35,6 +36,20 @@ pub fn set_in(
     namespaces[index].insert(key, value)
 }
 
+/// `stream` with an owner more: that of one of the last two of `loops`, if its stream is the same,
+/// so that the loops of a stream share it, and else a new one. Fails only with OutOfMemory.
+#[tactic(auto, using(crate::proofs::Declared::streams_same))]
+fn shared_stream(loops: &Vec<LoopState>, stream: &StreamId) -> Result<Rc<StreamId>, Error>
+    ensures { OkOrOutOfMemory result (λ shared. shared.value ≡ stream.now) }
+{
+    for state in loops.iter().rev().take(2) {
+        if state.stream().is(stream) {
+            return Ok(state.stream().clone()?);
+        }
+    }
+    Ok(Rc::new(*loops.allocator(), stream.share()?)?)
+}
+
 /// Appends the record of a loop over `items` with the depth `depth` and the number `number` in
 /// `stream`; `recursive` tells whether it can be called. Fails only with OutOfMemory; then nothing
 /// changes.
@@ -51,7 +66,7 @@ pub fn add_loop(
     ensures kind { IfErr result (λ e. e ≡ ErrorKind.OutOfMemory ∷ []) }
     ensures err { OnErr result (loops.new.items ≡ loops.old.items) }
 {
-    let stream = stream.share()?;
+    let stream = shared_stream(loops, stream)?;
     loops.push(LoopState::new(items, depth, number, recursive, stream))?;
     Ok(())
 }
@@ -63,6 +78,19 @@ pub fn turn_at(loops: &mut Vec<LoopState>, number: usize)
     if number < loops.len() {
         loops[number].turn();
     }
+}
+
+/// Forgets the items of the loop `number`, if there is such a loop, but those beside the current one.
+/// Fails only with OutOfMemory; then nothing changes.
+pub fn leave_at(loops: &mut Vec<LoopState>, number: usize) -> Result<(), Error>
+    ensures ok { OnOk result (loops.new.items ≡ leaving_at number loops.old.items) }
+    ensures kind { IfErr result (λ e. e ≡ ErrorKind.OutOfMemory ∷ []) }
+    ensures err { OnErr result (loops.new.items ≡ loops.old.items) }
+{
+    if number >= loops.len() {
+        return Ok(());
+    }
+    loops[number].leave()
 }
 
 /// Whether `args` differ from the arguments that the loop `number` kept last; if so, it keeps

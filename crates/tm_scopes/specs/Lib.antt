@@ -1,5 +1,6 @@
 pub mod Closures
 pub mod Found
+pub mod LoopItems
 pub mod Known
 pub mod Marks
 pub mod Pairs

@@ -1,10 +1,13 @@
 //! The records of loops.
 ghost use Rattle.std.specs.Prelude.{◌≡◌, ◌<◌, ◌^◌, ◌∷◌, ◌&&◌, [], None, Some, SomeIff, IfErr, IfOk, OnErr, OnOk, length, map};
+ghost use Rattle.std.specs.Option.{option_copied};
 ghost use Rattle.std.specs.Prelude.{nat_eq, option_and_then, option_map, slice_get};
 ghost use Rattle.tm_values.specs.Answer.{IsLent, OkOrOutOfMemory};
 ghost use Rattle.tm_values.specs.Position.{position_of};
-ghost use Rattle.tm_meaning.specs.World.{turned, loop_data, depth_inside, place_of, same_stream};
+ghost use Rattle.tm_values.specs.Val.{none};
+ghost use Rattle.tm_meaning.specs.World.{turned, left_loop, loop_data, or_is, depth_inside, place_of, same_stream};
 ghost use Rattle.tm_meaning.specs.Calls.{is_changed, keeping, cycled};
+ghost use Rattle.tm_scopes.specs.LoopItems.{items_of};
 
 use std::alloc::Global;
 use std::marker::Model;
@@ -12,17 +15,81 @@ use std::rc::Rc;
 use tm_meaning::StreamId;
 use tm_values::{Error, ErrorKind, LoopPosition, Value, same_items, share_all};
 
-/// A loop: its items, how many times the next item was requested, how many callable loops directly
-/// enclose it, its number in its stream, whether it can be called, that stream, and the arguments
-/// that `changed` kept.
+/// The items of a loop. Its record has their number.
+enum LoopItems {
+    /// All items.
+    All(Rc<Vec<Value>>),
+    /// Those of a loop that was left after `turns` turns: `before` stands in place of each up to
+    /// the current one, and `after` in place of each later one.
+    Left {
+        turns: usize,
+        before: Value,
+        after: Value,
+    },
+}
+
+// Written by hand: one drop call per owner instead of dropping each part.
+impl Drop for LoopItems {
+    fn drop(self) {
+        match self {
+            LoopItems::All(_items) => {}
+            LoopItems::Left {
+                turns: _turns,
+                before: _before,
+                after: _after,
+            } => {}
+        }
+    }
+}
+
+impl LoopItems {
+    /// The item `index` of `count` items, if there are so many.
+    fn get(&self, count: usize, index: usize) -> Option<&Value>
+        requires { length (items_of count self.now) ≡ count }
+        ensures { IsLent result (slice_get (items_of count self.now) index) }
+    {
+        match self {
+            LoopItems::All(items) => items.get(index),
+            LoopItems::Left {
+                turns,
+                before,
+                after,
+            } => {
+                if index >= count {
+                    None
+                } else if index < *turns {
+                    Some(before)
+                } else {
+                    Some(after)
+                }
+            }
+        }
+    }
+}
+
+/// A second owner of the item, or the value `none` if there is no item. Fails only with
+/// OutOfMemory.
+fn or_none(item: Option<&Value>) -> Result<Value, Error>
+    ensures { OkOrOutOfMemory result (λ v. v ≡ or_is (option_copied item.entry) none) }
+{
+    match item {
+        Some(item) => item.share(),
+        None => Ok(Value::none()),
+    }
+}
+
+/// A loop: its items, their number, how many times the next item was requested, how many callable
+/// loops directly enclose it, its number in its stream, that stream, whether it can be called, and
+/// the arguments that `changed` kept. A state has one for each of its loops, so it is kept small.
 pub struct LoopState {
-    items: Rc<Vec<Value>>,
+    items: LoopItems,
+    count: usize,
     turns: usize,
     depth: usize,
     number: usize,
+    stream: Rc<StreamId>,
     recursive: bool,
-    stream: StreamId,
-    kept: Option<Vec<Value>>,
+    kept: Option<Box<Vec<Value>>>,
 }
 
 // Written by hand: one drop call per owner instead of dropping each part.
@@ -30,37 +97,39 @@ impl Drop for LoopState {
     fn drop(self) {
         let LoopState {
             items: _items,
+            count: _count,
             turns: _turns,
             depth: _depth,
             number: _number,
-            recursive: _recursive,
             stream: _stream,
+            recursive: _recursive,
             kept: _kept,
         } = self;
     }
 }
 
 impl Model for LoopState {
-    ghost use Rattle.std.specs.Prelude.{option_map, ◌≤◌, ◌+◌, length};
+    ghost use Rattle.std.specs.Prelude.{option_map};
     ghost use Rattle.std.specs.Coded.{codes};
     ghost use Rattle.tm_values.specs.Code.{coded_Val};
     ghost use Rattle.tm_meaning.specs.World.{Loop};
+    ghost use Rattle.tm_scopes.specs.LoopItems.{HasTurns, items_of};
 
     ghost Value = { Loop };
 
     ghost coded = { Prim.hlevel (codes, coded_Val) };
 
     ghost view = { λ l. record {
-      items = l.items.value.items;
+      items = items_of l.count l.items;
       turns = l.turns;
       depth = l.depth;
       number = l.number;
       recursive = l.recursive;
-      stream = l.stream;
-      kept = option_map (λ v. v.items) l.kept;
+      stream = l.stream.value;
+      kept = option_map (λ v. v.value.items) l.kept;
     } };
 
-    ghost invariant = { λ l. l.turns ≤ length l.items.value.items + 1 };
+    ghost invariant = { λ l. HasTurns (items_of l.count l.items) l.count l.turns };
 }
 
 impl LoopState {
@@ -70,7 +139,7 @@ impl LoopState {
         depth: usize,
         number: usize,
         recursive: bool,
-        stream: StreamId,
+        stream: Rc<StreamId>,
     ) -> LoopState
         ensures { result ≡ record {
           items = items.value.items;
@@ -78,17 +147,18 @@ impl LoopState {
           depth = depth;
           number = number;
           recursive = recursive;
-          stream = stream;
+          stream = stream.value;
           kept = None;
         } }
     {
         LoopState {
-            items,
+            count: items.len(),
+            items: LoopItems::All(items),
             turns: 0,
             depth,
             number,
-            recursive,
             stream,
+            recursive,
             kept: None,
         }
     }
@@ -97,23 +167,40 @@ impl LoopState {
     pub fn next_item(&self) -> Option<&Value>
         ensures { IsLent result (slice_get self.now.items self.now.turns) }
     {
-        self.items.get(self.turns)
+        self.items.get(self.count, self.turns)
     }
 
     /// Advances to the next item, or past the last one.
     pub fn turn(&mut self)
         ensures { self.new ≡ turned self.old }
     {
-        if self.turns <= self.items.len() {
+        if self.turns <= self.count {
             self.turns += 1;
         }
+    }
+
+    /// Forgets the items but the one before the current one and the one after it, when the loop is
+    /// left. Fails only with OutOfMemory; then nothing changes.
+    pub fn leave(&mut self) -> Result<(), Error>
+        ensures ok { OnOk result (self.new ≡ left_loop self.old) }
+        ensures kind { IfErr result (λ e. e ≡ ErrorKind.OutOfMemory ∷ []) }
+        ensures err { OnErr result (self.new ≡ self.old) }
+    {
+        let before = or_none(self.previous_item())?;
+        let after = or_none(self.following_item())?;
+        self.items = LoopItems::Left {
+            turns: self.turns,
+            before,
+            after,
+        };
+        Ok(())
     }
 
     /// Whether the loop has no items.
     pub fn did_not_iterate(&self) -> bool
         ensures { result ≡ nat_eq (length self.now.items) 0 }
     {
-        self.items.is_empty()
+        self.count == 0
     }
 
     /// The loop's number in its stream.
@@ -121,6 +208,13 @@ impl LoopState {
         ensures { result ≡ self.now.number }
     {
         self.number
+    }
+
+    /// The loop's stream, to be shared.
+    pub fn stream(&self) -> &Rc<StreamId>
+        ensures { result.now.value ≡ self.now.stream }
+    {
+        &self.stream
     }
 
     /// Whether the loop can be called from `stream`: it is callable, and `stream` is its own.
@@ -158,7 +252,7 @@ impl LoopState {
         }
         let mut kept = Vec::new(alloc);
         share_all(args, &mut kept)?;
-        self.kept = Some(kept);
+        self.kept = Some(Box::new(alloc, kept)?);
         Ok(true)
     }
 
@@ -182,7 +276,7 @@ impl LoopState {
     {
         LoopPosition {
             place: self.turns.checked_sub(1),
-            count: self.items.len(),
+            count: self.count,
             depth: self.depth,
         }
     }
@@ -191,7 +285,7 @@ impl LoopState {
     pub fn previous_item(&self) -> Option<&Value>
         ensures { IsLent result (loop_data self.now).previous }
     {
-        self.items.get(self.turns.checked_sub(2)?)
+        self.items.get(self.count, self.turns.checked_sub(2)?)
     }
 
     /// The item after the current one, if any.
@@ -201,7 +295,7 @@ impl LoopState {
         if self.turns == 0 {
             return None;
         }
-        self.items.get(self.turns)
+        self.items.get(self.count, self.turns)
     }
 }
 

@@ -38,8 +38,8 @@ use Rattle.tm_simulation.specs.Kept.{Differs, in_closure_too}
 use Rattle.tm_simulation.proofs.Advances.{AdvancesBut, Advances, KeptBut, advances_then, lasts_by_namespaces, kept_same, kept_then}
 use Rattle.tm_simulation.proofs.Advances.{kept_lasting, kept_advances}
 use Rattle.tm_simulation.proofs.RunAdvances.{in_stream}
-use Rattle.tm_simulation.proofs.Advances.{store_kept, kept_popped, kept_cleared}
-use Rattle.tm_simulation.proofs.RunAdvances.{mark_after, in_loop_of, kept_turned, advances_around}
+use Rattle.tm_simulation.proofs.Advances.{store_kept, kept_cleared}
+use Rattle.tm_simulation.proofs.RunAdvances.{mark_after, in_loop_of, kept_left, kept_turned, advances_around}
 use Rattle.tm_simulation.proofs.RunAdvances.{opened, opened_kept}
 use Rattle.tm_simulation.proofs.Gives.{GivesBut, RunEnds, run_ends_as, EndingKeepsBut, EndingKeeps, OutcomeKeepsBut, ends_as, gives_bind}
 use Rattle.tm_simulation.proofs.Gives.{gives_kept}
@@ -101,7 +101,7 @@ pub selected_gives : {i : Differs} (host : HostValue) (w : World) → nat_lt (de
     GivesBut i host w (selected host condition n vs x)
 selected_gives host w room condition given n [] x j =
     gives_kept host w x (tick x) _ (advances_around pass_flags w x room j) (tick_gives _ host x) (λ _ world1 h.
-    kept_popped (loop_scope (mark_after pass_flags w)) w (next_turn world1) (kept_turned pass_flags w world1 (kept_then j h)))
+    kept_left pass_flags w (next_turn world1) (kept_turned pass_flags w world1 (kept_then j h)))
 selected_gives {i = i} host w room condition given n (v ∷ vs) x j =
     gives_kept host w x (tick x) _ (advances_around pass_flags w x room j) (tick_gives _ host x) (λ _ world1 h1.
     let y = cleared (next_turn world1) in

@@ -5,7 +5,7 @@ use Rattle.std.specs.Prelude.{slice_get}
 use Rattle.tm_values.specs.Val.{Val}
 use Rattle.tm_values.specs.declared.error.ErrorKind.{ErrorKind}
 use Rattle.tm_trees.specs.Instructions.{Instruction, LoopFlags}
-use Rattle.tm_meaning.specs.World.{choose, World, HostValue, Scope, Res, Good, Bad, bind, tick, pop, loop_scope}
+use Rattle.tm_meaning.specs.World.{choose, World, HostValue, Scope, Res, Good, Bad, bind, tick, leave_loop, loop_scope}
 use Rattle.tm_meaning.specs.Meaning.{Run, Outcome, Ending, done, leave, next, fault, ended, so_far, use_it, then_do, closing_by, closing}
 use Rattle.tm_meaning.specs.Meaning.{captured_by, captured, round_end}
 use Rattle.tm_simulation.proofs.Advances.{Kept, within, one_more}
@@ -302,7 +302,7 @@ round_by : (context : RunContext) (b : Bed) (run : Run) (e : Ending) (parent : O
     (g : Run → List ℕ → World → Outcome) (D L N : Then) →
     Ends context b (round_end e (record run { parent = parent }) (whole_of e parent out w) g) D L N →
     Ends context b (whole_of e parent out w) (Goes context b run g D L N) (Goes context b run
-    (λ run1 out1 world1. so_far run1 out1 (pop world1)) D L N) (Goes context b run g D L N)
+    (λ run1 out1 world1. so_far run1 out1 (leave_loop world1)) D L N) (Goes context b run g D L N)
 unfolding Ends
 round_by context b run (done vs) parent out w g D L N h = h
 round_by context b run leave parent out w g D L N h = h
@@ -311,7 +311,7 @@ round_by context b run (fault chain) parent out w g D L N h = h
 
 pub round_then : (context : RunContext) (b : Bed) (run : Run) (o : Outcome) (g : Run → List ℕ → World → Outcome) (D L N : Then) →
     Ends context b (round_end o.ending (record run { parent = o.parent }) o g) D L N →
-    Ends context b o (Goes context b run g D L N) (Goes context b run (λ run1 out1 world1. so_far run1 out1 (pop world1)) D L N)
+    Ends context b o (Goes context b run g D L N) (Goes context b run (λ run1 out1 world1. so_far run1 out1 (leave_loop world1)) D L N)
     (Goes context b run g D L N)
 round_then context b run o g D L N h = round_by context b run o.ending o.parent o.text o.world g D L N h
 

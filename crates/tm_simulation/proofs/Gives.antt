@@ -7,7 +7,7 @@ use Rattle.tm_values.specs.declared.error.ErrorKind.TheVariants.{InvalidOperatio
 use Rattle.tm_trees.specs.Instructions.{LoopFlags}
 use Rattle.tm_syntax.specs.Code.{for_flags}
 use Rattle.tm_meaning.specs.World.{choose, World, HostValue, Scope, loop_scope, next_turn, cleared, Res, Good, Bad, bind, answered, can_be_paid, charged}
-use Rattle.tm_meaning.specs.World.{with_fuel, tick, pop, depth, ticked, top_mark, turned_of}
+use Rattle.tm_meaning.specs.World.{with_fuel, tick, leave_loop, leaving_of, depth, ticked, top_mark, turned_of}
 use Rattle.tm_meaning.specs.declared.mark.LoopMark.{LoopMark}
 use Rattle.tm_meaning.specs.Inheritance.{count_left, names_left}
 use Rattle.tm_meaning.specs.Meaning.{Run, Outcome, Ending, done, leave, next, fault, use_it, then_do, so_far, ended}
@@ -18,9 +18,9 @@ use Rattle.tm_simulation.proofs.Raised.{Raises, raised_arise}
 use Rattle.tm_simulation.specs.Kept.{Differs, in_closure_too}
 use Rattle.tm_simulation.proofs.Advances.{AdvancesBut, KeptBut, Kept, advances_then, lasts_by_fuel, advances_same, kept_same}
 use Rattle.tm_simulation.proofs.Advances.{kept_then, Lasts, kept_advances, kept_wider, advances_over}
-use Rattle.tm_simulation.proofs.Advances.{kept_lasting, within, one_more, kept_popped, kept_cleared}
+use Rattle.tm_simulation.proofs.Advances.{kept_lasting, within, one_more, kept_cleared}
 use Rattle.tm_simulation.proofs.RunAdvances.{in_stream, mark_after, in_loop_of}
-use Rattle.tm_simulation.proofs.RunAdvances.{kept_turned, kept_in, names_last}
+use Rattle.tm_simulation.proofs.RunAdvances.{kept_left, kept_turned, kept_in, names_last}
 use Rattle.tm_meaning.specs.declared.stream.StreamId.{StreamId}
 use Rattle.tm_simulation.proofs.RunAdvances.{advances_around, opened, opened_kept, recorded, NoMore, charged_by}
 
@@ -128,6 +128,14 @@ turned_loaded (Some m) w = refl
 
 next_names : (host : HostValue) (w : World) → names_left host (next_turn w) ≡ names_left host w
 next_names host w = ap (count_left host.templates) (turned_loaded (top_mark w.scopes.frames) w)
+
+-- leaving a loop loads nothing either
+leaving_loaded : (o : Option LoopMark) (w : World) → (leaving_of o w).loaded ≡ w.loaded
+leaving_loaded None w = refl
+leaving_loaded (Some m) w = refl
+
+leaving_names : (host : HostValue) (w : World) → names_left host (leave_loop w) ≡ names_left host w
+leaving_names host w = ap (count_left host.templates) (leaving_loaded (top_mark w.scopes.frames) w)
 
 -- ---------------------------------------------------------------- results
 module _ {i : Differs} (host : HostValue) where
@@ -343,8 +351,8 @@ module _ {i : Differs} (host : HostValue) where
         ends_kept_at w world1 (tick world1) run out _ (advances_around (for_flags false) w world1 room (kept_then j h)) p
         (tick_gives i host world1)
         (λ _ world2 h2. ends_from host w _
-        (kept_popped (loop_scope (mark_after (for_flags false) w)) w world2 (kept_then j (kept_then h (kept_wider h2))))
-        (omega (arith, p, parents_last host run.parent h2.lasts)))
+        (kept_left (for_flags false) w world2 (kept_then j (kept_then h (kept_wider h2))))
+        (omega (arith, p, parents_last host run.parent h2.lasts, leaving_names host world2)))
     round_end_ends x run f k next out world1 j h p =
         ends_kept_at w world1 (tick world1) run out _ (advances_around (for_flags false) w world1 room (kept_then j h)) p
         (tick_gives i host world1)
@@ -364,8 +372,8 @@ module _ {i : Differs} (host : HostValue) where
         (λ _ world2 h.
         let x = next_turn world2 in
         let turned = kept_turned (for_flags false) w world2 (kept_then j (kept_wider h)) in
-        ends_from host w (so_far run out (pop x)) (kept_popped (loop_scope (mark_after (for_flags false) w)) w x turned)
-        (omega (arith, p, parents_last host run.parent h.lasts, next_names host world2)))
+        ends_from host w (so_far run out (leave_loop x)) (kept_left (for_flags false) w x turned)
+        (omega (arith, p, parents_last host run.parent h.lasts, next_names host world2, leaving_names host x)))
     rounds_end {q = q} turn k (v ∷ vs) run out world1 j p =
         ends_kept_at w world1 (tick world1) run out _ (advances_around (for_flags false) w world1 room j) p (tick_gives i host world1)
         (λ _ world2 h.

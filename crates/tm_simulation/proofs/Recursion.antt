@@ -10,7 +10,7 @@ use Rattle.tm_syntax.specs.Fragments.{beyond}
 use Rattle.tm_syntax.specs.Fragments.{looped as a_loop}
 use Rattle.tm_syntax.specs.Code.{target_code, statements_code}
 use Rattle.tm_meaning.specs.World.{choose, World, Loop, loop_scope, new_loop, open_loop}
-use Rattle.tm_meaning.specs.World.{top_loop, depth, pop}
+use Rattle.tm_meaning.specs.World.{top_loop, depth, leave_loop}
 use Rattle.tm_meaning.specs.World.{captured_text}
 use Rattle.tm_meaning.specs.Meaning.{ended, text_after, Run, Ending, done, leave, next}
 use Rattle.tm_meaning.specs.Runs.{again_in}
@@ -108,7 +108,7 @@ module _ (setting : Setting) where
   called_rounds : (l : FoundLoop) (place : ℕ) → Looped (context.program.code id) l place →
       (o : Return) (m : ℕ) (items : List Val) (run : Run) (s1 : Spot) (w : World) (D : Then) (L N : Then) →
       DeepIn context n id (suc level) run s1 w → nat_lt (depth w.scopes) context.program.host.limit ≡ true →
-      ((q : Option TemplateId) (out : List ℕ) (x : World) → D q out (pop x) → (at_place : ℕ) (below : List Val) →
+      ((q : Option TemplateId) (out : List ℕ) (x : World) → D q out (leave_loop x) → (at_place : ℕ) (below : List Val) →
       LeadsToEnd context (told_by s1.bed out) (returns o o.value (returned o s1.run.loops
       (cfg (later (looped (Some o) (in_call s1)) q out) at_place below x)))) →
       Ends context s1.bed (rounds (turn_of setting l.target l.at l.body.row) items (as_at run s1) s1.out
@@ -136,7 +136,7 @@ module _ (setting : Setting) where
       lp.place) → (value : Bool) (m : ℕ) (items : List Val) (run : Run) (s s1 : Spot) (pc : ℕ) (stack old : List Val) (w0 w : World)
       (D L N : Then) →
       s1.run ≡ s.run → s1.parent ≡ s.parent → DeepIn context n id (suc level) run s1 w →
-      ((q : Option TemplateId) (out : List ℕ) (x : World) → D q out (pop x) → (at_place : ℕ) (below : List Val) →
+      ((q : Option TemplateId) (out : List ℕ) (x : World) → D q out (leave_loop x) → (at_place : ℕ) (below : List Val) →
       LeadsToEnd context (told_by s1.bed out) (returns (from_call value s pc stack) value
       (returned (from_call value s pc stack) s1.run.loops (cfg (later (looped (Some (from_call value s pc stack)) (in_call s1)) q out)
       at_place below x)))) →
@@ -176,7 +176,7 @@ module _ (setting : Setting) where
       (cfg (looped (Some (from_call false s pc stack)) (in_call s)) (lp.place + 1) [] x)))
       (λ _. Over (Failed (InvalidOperation ∷ []) w)))) (sym both.0)
       (recursed_by l.recursive l lp both.1 false m items run s s pc stack old w0 w D L N refl refl d
-      (λ q out x e at_place below. silent context (told_by s.bed out) _ (g q out (pop x) e)) h)
+      (λ q out x e at_place below. silent context (told_by s.bed out) _ (g q out (leave_loop x) e)) h)
 
   -- as a value: its text goes into a capture of its own
   pub text_ends : (s : Spot) (e : Ending) (parent : Option TemplateId) (out : List ℕ) (w : World) (K : Val → World → Type 0) →
@@ -210,4 +210,4 @@ module _ (setting : Setting) where
       (cfg (looped (Some (from_call true s pc stack)) (in_call s1)) (lp.place + 1) [] x)))
       (λ _. Over (Failed (InvalidOperation ∷ []) w)))) (sym both.0)
       (recursed_by l.recursive l lp both.1 true m items (capturing true run) s s1 pc stack old w0 w D D D refl refl (d.0, fits, d.2)
-      (λ q out x e at_place below. silent context (told s) _ (g q out (pop x) e)) placed)
+      (λ q out x e at_place below. silent context (told s) _ (g q out (leave_loop x) e)) placed)

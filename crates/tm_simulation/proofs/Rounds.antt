@@ -16,7 +16,7 @@ use Rattle.tm_syntax.specs.Code.{iterable_code, pass_round}
 use Rattle.tm_syntax.specs.Code.{target_code}
 use Rattle.tm_syntax.specs.Code.{statements_code}
 use Rattle.tm_meaning.specs.World.{choose, World, Loop, loop_scope, new_loop, open_loop, turned, next_turn, cleared}
-use Rattle.tm_meaning.specs.World.{top_loop, items_over, Res, Good, bind, tick, depth, pop}
+use Rattle.tm_meaning.specs.World.{top_loop, items_over, Res, Good, bind, tick, depth, leave_loop}
 use Rattle.tm_meaning.specs.Meaning.{Run, Outcome}
 use Rattle.tm_meaning.specs.Meaning.{Under, so_far, use_it}
 use Rattle.tm_meaning.specs.Operators.{truth, operated}
@@ -83,7 +83,7 @@ module _ (setting : Setting) where
   pub left_loop_then : (g : LoopFlags) (s : Spot) (q : Option TemplateId) (out : List ℕ) (pc : ℕ) (stack : List Val) (w x : World)
       (l : Loop) → context.base.scopes ≤ length w.scopes.frames → Kept (in_loop_of g w) x →
       slice_get (shapes x.loops) (length w.loops) ≡ Some l →
-      slice_get (context.program.code s.run.stream) pc ≡ Some i.PopLoopFrame → Go context (later s q out) (pc + 1) stack (pop x) →
+      slice_get (context.program.code s.run.stream) pc ≡ Some i.PopLoopFrame → Go context (later s q out) (pc + 1) stack (leave_loop x) →
       Go context (later (looped None s) q out) pc stack x
   left_loop_then g s q out pc stack w x l d k e is z =
       let stands : context.base.scopes < length x.scopes.frames = omega (arith, kept_frames k, d) in
@@ -130,7 +130,7 @@ module _ (setting : Setting) where
   abbrev Rounded : Option Return → Spot → List Val → List Val → World → Then → ℕ → Type 0
   Rounded o s stack items w D end =
       (q : Option TemplateId) (out : List ℕ) (x : World) (l : Loop) → Kept (in_loop_of (for_flags false) w) x →
-      slice_get (shapes x.loops) (length w.loops) ≡ Some l → l.items ≡ items → D q out (pop x) →
+      slice_get (shapes x.loops) (length w.loops) ≡ Some l → l.items ≡ items → D q out (leave_loop x) →
       Go context (later (looped o s) q out) end stack x
 
   -- A loop's rounds, from where the next item is asked for.
@@ -154,7 +154,7 @@ module _ (setting : Setting) where
       record1 (no_item r items left)))
       (silent context (told s) _ (over_it s.parent s.out (next_turn world1) (turned r) (kept_turned (for_flags false) w world1 kept)
       (next_record (for_flags false) w world1 r kept record1) (turned_items r items left)
-      (so_far_then context s.bed (as_at run s) s.out (pop (next_turn world1)) D L N h1))))))
+      (so_far_then context s.bed (as_at run s) s.out (leave_loop (next_turn world1)) D L N h1))))))
   rounds_run o g t numbers body l pc rest part items (v ∷ vs) run s stack w x r D L N fits d k e left is nth over_it h =
       let all = context.program.code s.run.stream in
       let again = pc + 1 in
@@ -172,7 +172,7 @@ module _ (setting : Setting) where
       let turned_by = turn_of t numbers body v (as_at run s) s.out y in
       let next_round : Run → List ℕ → World → Outcome = λ run1 out1 z. rounds (turn_of t numbers body) vs run1 out1 z in
       let DoneThen = Goes context s.bed (as_at run s) next_round D L N in
-      let LeaveThen = Goes context s.bed (as_at run s) (λ run1 out1 z. so_far run1 out1 (pop z)) D L N in
+      let LeaveThen = Goes context s.bed (as_at run s) (λ run1 out1 z. so_far run1 out1 (leave_loop z)) D L N in
       let nexts : Jumps setting again [] (looped o s) stack y DoneThen =
       λ q out1 z place kz none is1 g1.
       at context (i.Jump again) (later (looped o s) q out1) place stack z is1 (after_then context (told_by s.bed out1) (tick z) _
@@ -188,7 +188,7 @@ module _ (setting : Setting) where
       (use_then context s.bed z (tick z) (record run { parent = q }) out1 _ D L N _ (tick_gives _ _ z) g1 (λ _ z1 kz1 g2.
       silent context (told_by s.bed out1) _
       (over_it q out1 z1 (turned r) (kept_then kept_y (kept_then kz kz1)) (kept_record (kept_then kz kz1) (length w.loops) (turned r)
-      record_y) left_y.same (so_far_then context s.bed (record run { parent = q }) out1 (pop z1) D L N g2))))) in
+      record_y) left_y.same (so_far_then context s.bed (record run { parent = q }) out1 (leave_loop z1) D L N g2))))) in
       subst (λ n. LeadsToEnd context (told s) n)
       (sym (iterate_is o (for_flags false) s s.parent s.out again end stack w world1 r (Some v) kept
       record1 (next_item r items v vs left)))

@@ -6,14 +6,14 @@ use Rattle.std.proofs.lemmas.List.{append-nil}
 use Rattle.tm_values.specs.Val.{Val, undefined}
 use Rattle.tm_values.specs.declared.escape.AutoEscape.{AutoEscape}
 use Rattle.tm_trees.specs.Instructions.{LoopFlags}
-use Rattle.tm_meaning.specs.World.{Bindings, World, Scopes, Scope, Loop, loop_scope, new_loop, turned_at, turned_of}
-use Rattle.tm_meaning.specs.World.{top_mark, next_turn, Res, Good, depth, plain_scope}
+use Rattle.tm_meaning.specs.World.{Bindings, World, Scopes, Scope, Loop, loop_scope, new_loop, turned_at, turned_of, leaving_at, leaving_of}
+use Rattle.tm_meaning.specs.World.{top_mark, next_turn, leave_loop, pop, Res, Good, depth, plain_scope}
 use Rattle.tm_meaning.specs.World.{own_closure, owning}
 use Rattle.tm_meaning.specs.Calls.{keeping_at, include_frames, is_changed, outermost, undone, of_block, of_super, of_macro, of_include, run_undone}
 use Rattle.tm_meaning.specs.Calls.{scopes_after}
 use Rattle.tm_meaning.specs.declared.stream.TemplateId.{TemplateId}
 use Rattle.tm_meaning.specs.declared.mark.LoopMark.{LoopMark}
-use Rattle.tm_simulation.specs.Kept.{shape, shapes, Differs, in_closure_too, but}
+use Rattle.tm_simulation.specs.Kept.{shape, shapes, GoesOn, Differs, in_closure_too, but}
 use Rattle.tm_simulation.proofs.Parents.{blocks_same, blocks_after, names_same}
 use Rattle.tm_meaning.proofs.Loaded.{count_fewer}
 use Rattle.tm_meaning.specs.Inheritance.{with_blocks, names_left}
@@ -26,7 +26,7 @@ use Rattle.std.specs.declared.cmp.Ordering.{Ordering}
 use Rattle.std.specs.declared.cmp.Ordering.TheVariants.{Less, Equal, Greater}
 use Rattle.tm_simulation.proofs.Advances.{shapes_long, shapes_after, goes_on_same, outermost_below, outermost_but, Lasts}
 use Rattle.tm_simulation.proofs.Advances.{AdvancesBut, Advances, KeptBut, lasts_then, lasts_anywhere, lasts_by_loops, kept_lasting}
-use Rattle.tm_simulation.proofs.Advances.{kept_top, kept_advances, own_bare, own_again, within, advances_over}
+use Rattle.tm_simulation.proofs.Advances.{kept_top, kept_advances, kept_popped, own_bare, own_again, within, advances_over}
 
 -- ---------------------------------------------------------------- runs
 -- a world in another stream
@@ -242,22 +242,17 @@ mark_after g w = record { number = length w.loops; variable = g.variable }
 abbrev pub in_loop_of : LoopFlags → World → World
 in_loop_of g w = within (loop_scope (mark_after g w)) w
 
-pub kept_turned : {i : Differs} (g : LoopFlags) (w world1 : World) → KeptBut i (in_loop_of g w) world1 →
-    KeptBut i (in_loop_of g w) (next_turn world1)
-kept_turned {i = i} g w world1 k =
-    let top : top_mark world1.scopes.frames ≡ Some (mark_after g w) = kept_top k in
-    let is : next_turn world1 ≡ record world1 { loops = turned_at (length w.loops) world1.loops } = ap (λ m. turned_of m world1) top in
+-- what keeps a world keeps it with further records of loops
+kept_loops : {i : Differs} {w world1 : World} (ls : List Loop) → KeptBut i w world1 → GoesOn w.loops ls →
+    KeptBut i w (record world1 { loops = ls })
+kept_loops ls k goes =
     let l = k.lasts in
-    let long = ap (λ n. turned_at n (shapes w.loops ++ l.loops.0)) (sym (shapes_long w.loops)) in
-    let loops : shapes (turned_at (length w.loops) world1.loops) ≡ shapes w.loops ++ turned_at 0 l.loops.0 =
-    turned_shapes (length w.loops) world1.loops ∙ ap (turned_at (length w.loops)) l.loops.1 ∙ long ∙ turned_after
-    (shapes w.loops) l.loops.0 in
-    subst (λ x. KeptBut i (in_loop_of g w) x) (sym is) (record {
+    record {
       lasts = record {
         same_id = l.same_id;
         same_fuel_set = l.same_fuel_set;
         fuel = l.fuel;
-        loops = (turned_at 0 l.loops.0, loops);
+        loops = goes;
         namespaces = l.namespaces;
         closures = l.closures;
         streams = l.streams;
@@ -271,7 +266,45 @@ kept_turned {i = i} g w world1 k =
       same_stream = k.same_stream;
       same_block = k.same_block;
       same_escape = k.same_escape;
-    })
+    }
+
+pub kept_turned : {i : Differs} (g : LoopFlags) (w world1 : World) → KeptBut i (in_loop_of g w) world1 →
+    KeptBut i (in_loop_of g w) (next_turn world1)
+kept_turned {i = i} g w world1 k =
+    let top : top_mark world1.scopes.frames ≡ Some (mark_after g w) = kept_top k in
+    let is : next_turn world1 ≡ record world1 { loops = turned_at (length w.loops) world1.loops } = ap (λ m. turned_of m world1) top in
+    let more = k.lasts.loops in
+    let long = ap (λ n. turned_at n (shapes w.loops ++ more.0)) (sym (shapes_long w.loops)) in
+    let loops : shapes (turned_at (length w.loops) world1.loops) ≡ shapes w.loops ++ turned_at 0 more.0 =
+    turned_shapes (length w.loops) world1.loops ∙ ap (turned_at (length w.loops)) more.1 ∙ long ∙ turned_after
+    (shapes w.loops) more.0 in
+    subst (λ x. KeptBut i (in_loop_of g w) x) (sym is)
+    (kept_loops (turned_at (length w.loops) world1.loops) k (turned_at 0 more.0, loops))
+
+-- the record that is left
+leaving_after : (a b : List Loop) → leaving_at (length a) (a ++ b) ≡ a ++ leaving_at 0 b
+leaving_after [] b = refl
+leaving_after (l ∷ ls) b = ap (λ m. l ∷ m) (leaving_after ls b)
+
+leaving_shapes : (n : ℕ) (ls : List Loop) → shapes (leaving_at n ls) ≡ leaving_at n (shapes ls)
+leaving_shapes n [] = refl
+leaving_shapes zero (l ∷ ls) = refl
+leaving_shapes (suc n) (l ∷ ls) = ap (λ m. shape l ∷ m) (leaving_shapes n ls)
+
+-- what keeps a loop's scope keeps what lies around it after the loop was left
+pub kept_left : {i j : Differs} (g : LoopFlags) (w world1 : World) → KeptBut j (in_loop_of g w) world1 → KeptBut i w (leave_loop world1)
+kept_left {i = i} {j = j} g w world1 k =
+    let top : top_mark world1.scopes.frames ≡ Some (mark_after g w) = kept_top k in
+    let is : leave_loop world1 ≡ pop (record world1 { loops = leaving_at (length w.loops) world1.loops }) =
+    ap (λ m. pop (leaving_of m world1)) top in
+    let more = k.lasts.loops in
+    let long = ap (λ n. leaving_at n (shapes w.loops ++ more.0)) (sym (shapes_long w.loops)) in
+    let loops : shapes (leaving_at (length w.loops) world1.loops) ≡ shapes w.loops ++ leaving_at 0 more.0 =
+    leaving_shapes (length w.loops) world1.loops ∙ ap (leaving_at (length w.loops)) more.1 ∙ long ∙ leaving_after
+    (shapes w.loops) more.0 in
+    subst (λ x. KeptBut i w x) (sym is)
+    (kept_popped {i = i} {j = j} (loop_scope (mark_after g w)) w (record world1 { loops = leaving_at (length w.loops) world1.loops })
+    (kept_loops (leaving_at (length w.loops) world1.loops) k (leaving_at 0 more.0, loops)))
 
 -- what is so in a loop's scope, for which there was room, is so around it
 pub advances_around : {i j : Differs} {host : HostValue} (g : LoopFlags) (w world1 : World) →

@@ -17,7 +17,7 @@ use Rattle.tm_syntax.specs.Code.{statements_code, branches_code, after_loop_code
 use Rattle.tm_syntax.specs.declared.opened.Opened.{Opened}
 use Rattle.tm_syntax.specs.declared.opened.Opened.TheVariants.{Scope as a_scope, Escape as an_escape, Capture as a_capture}
 use Rattle.tm_meaning.specs.World.{choose, World, Loop, loop_scope, new_loop, open_loop}
-use Rattle.tm_meaning.specs.World.{tick, depth, push, pop, plain_scope}
+use Rattle.tm_meaning.specs.World.{tick, depth, push, pop, leave_loop, plain_scope}
 use Rattle.tm_meaning.specs.World.{answered, escape_for, with_escape, captured_text}
 use Rattle.tm_meaning.specs.Inheritance.{load}
 use Rattle.tm_meaning.specs.Calls.{call_innermost, enter_super}
@@ -40,9 +40,9 @@ use Rattle.tm_simulation.proofs.Begins.{after_none}
 use Rattle.tm_simulation.proofs.TreeLoops.{expr_loopless, target_loopless, assignments_loopless, found, iterable_begins, statement_begins}
 use Rattle.tm_simulation.proofs.TreeLoops.{statements_begin, call_has}
 use Rattle.tm_simulation.proofs.Loops.{new_record}
-use Rattle.tm_simulation.proofs.Advances.{Kept, kept_top, kept_frames, kept_same, kept_then, kept_popped}
+use Rattle.tm_simulation.proofs.Advances.{Kept, kept_top, kept_frames, kept_same, kept_then}
 use Rattle.tm_simulation.proofs.Advances.{within}
-use Rattle.tm_simulation.proofs.RunAdvances.{mark_after, in_loop_of, opened, opened_kept}
+use Rattle.tm_simulation.proofs.RunAdvances.{mark_after, in_loop_of, kept_left, opened, opened_kept}
 use Rattle.tm_simulation.proofs.Gives.{loop_ends, tick_gives}
 use Rattle.tm_simulation.proofs.Asks.{escape_gives}
 use Rattle.tm_simulation.proofs.Asks.{innermost_asks, super_asks}
@@ -364,27 +364,27 @@ module _ (setting : Setting) where
         In setting s l end (after_loop_code os other) →
         Counts (context.program.code s.run.stream) numbers end (after_loop_code os other) →
         (q : Option TemplateId) (out : List ℕ) →
-        Ends context s.bed (exec_after_loop u numbers other (has_none vs) (record run { parent = q }) out (pop x))
+        Ends context s.bed (exec_after_loop u numbers other (has_none vs) (record run { parent = q }) out (leave_loop x))
         (λ q1 out1 v. Go context (later s q1 out1) (beyond end (after_loop_code os other)) stack v) L N →
         Go context (later (looped None s) q out) end stack x
     after_loop_runs os numbers no_else vs run s l end stack w x r L N fits d j kept e same is nth q out h =
         left_loop_then setting (for_flags false) s q out end stack w x r d.0.scopes kept e is.0
-        (so_far_then context s.bed (record run { parent = q }) out (pop x) _ L N h)
+        (so_far_then context s.bed (record run { parent = q }) out (leave_loop x) _ L N h)
     after_loop_runs os numbers (otherwise _ eb) vs run s l end stack w x r L N fits d j kept e same is nth q out h =
         let all = context.program.code s.run.stream in
         let b = has_none vs in
         let D0 : Then = λ q1 out1 v. Go context (later s q1 out1) (beyond (end + 1 + 1 + 1) (statements_code os eb)) stack v in
         let nth1 = nth.1.1 in
-        let popped = kept_popped (loop_scope (mark_after (for_flags false) w)) w x kept in
+        let popped = kept_left (for_flags false) w x kept in
         at context i.PushDidNotIterate (later (looped None s) q out) end stack x is.0.0
         (subst (λ n. LeadsToEnd context (told_by s.bed out) n)
         (sym (did_not_is setting None (for_flags false) s q out end stack w x r vs kept
         e same))
         (silent context (told_by s.bed out) _
         (left_loop_then setting (for_flags false) s q out (end + 1) (boolean b ∷ stack) w x r d.0.scopes kept e is.0.1.0
-        (at context _ (later s q out) (end + 1 + 1) (boolean b ∷ stack) (pop x) is.1.0
-        (after_then context (told_by s.bed out) (tick (pop x)) _
-        (use_then context s.bed (pop x) (tick (pop x)) (record run { parent = q }) out _ D0 L N _ (tick_gives _ _ (pop x)) h (λ _ v k1 h1.
+        (at context _ (later s q out) (end + 1 + 1) (boolean b ∷ stack) (leave_loop x) is.1.0
+        (after_then context (told_by s.bed out) (tick (leave_loop x)) _
+        (use_then context s.bed (leave_loop x) (tick (leave_loop x)) (record run { parent = q }) out _ D0 L N _ (tick_gives _ _ (leave_loop x)) h (λ _ v k1 h1.
         choose_ends context b (exec_all u numbers eb (record run { parent = q }) out v) (so_far (record run { parent = q }) out v) _ _
         (told_by s.bed out) s.bed D0 L N h1
         (λ h2. silent context (told_by s.bed out) _

@@ -3,3 +3,4 @@ mod Answered
 pub mod Formatted
 pub mod Stored
 pub mod Included
+pub mod BoundAgain

@@ -6,6 +6,7 @@ mod calls;
 mod formatting;
 mod fuel;
 mod further;
+mod growth;
 mod includes;
 mod inheritance;
 mod macros;

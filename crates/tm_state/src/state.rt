@@ -6,7 +6,7 @@ ghost use Rattle.tm_values.specs.Answer.{IsAnswer, OkOrOutOfMemory, OrStays, IsL
 ghost use Rattle.tm_meaning.specs.Memory.{is_want_of_memory};
 ghost use Rattle.tm_syntax.specs.Named.{find, name_cmp, put, put_each, texts_of};
 ghost use Rattle.tm_meaning.specs.World.{depth, with_escape, innermost, loop_depth, top_loop, top_mark, next_turn};
-ghost use Rattle.tm_meaning.specs.World.{cleared, pop, store, set_member, make_namespace, emitted, records_of};
+ghost use Rattle.tm_meaning.specs.World.{cleared, leave_loop, pop, store, set_member, make_namespace, emitted, records_of};
 ghost use Rattle.tm_meaning.specs.World.{HostValue, find_name, top_locals, view_of, name_of, Good, Bad, block_of};
 ghost use Rattle.tm_meaning.specs.Calls.{enter_block, given_by, refused, of_loop, told_changed, told_turn};
 ghost use Rattle.tm_definitions.specs.Emitted.{emitted_text};
@@ -22,7 +22,7 @@ use std::rc::Rc;
 use tm_meaning::{GlobalFunction, LoopMark, StreamId, TemplateId};
 use tm_operations::{check_settable, dict, namespace, range};
 use tm_printing::check_emission;
-use tm_records::{Rooms, Streams, add_loop, changed_at, keep_each, set_in, turn_at};
+use tm_records::{Rooms, Streams, add_loop, changed_at, keep_each, leave_at, set_in, turn_at};
 use tm_syntax::{LoopFlags, Name, NameMap};
 use tm_tables::{
     BlockNames, Closures, Context, Frame, FuelTracker, Host, Lists, LoopState, NO_PLACE, View,
@@ -37,7 +37,7 @@ use tm_values::{
 pub struct StateData {
     id: u64,
     pub(crate) context: Context,
-    namespaces: Vec<ValueMap>,
+    pub(crate) namespaces: Vec<ValueMap>,
     loops: Vec<LoopState>,
     pub(crate) closures: Closures,
     pub(crate) streams: Streams,
@@ -416,7 +416,7 @@ impl StateData {
             None => Err(Error::from(ErrorKind::OutOfMemory)),
         };
         if added.is_err() {
-            self.pop_scope();
+            self.context.pop_frame();
         }
         added
     }
@@ -518,6 +518,20 @@ impl StateData {
         ensures { self.new ≡ record self.old { loops = [] } }
     {
         self.loops.clear();
+    }
+
+    /// Drops the innermost scope, which is a loop's, and forgets the loop's items. Fails only with
+    /// OutOfMemory; then nothing changes.
+    pub fn leave_loop(&mut self) -> Result<(), Error>
+        ensures ok { OnOk result (self.new ≡ leave_loop self.old) }
+        ensures kind { IfErr result (λ e. e ≡ ErrorKind.OutOfMemory ∷ []) }
+        ensures err { OnErr result (self.new ≡ self.old) }
+    {
+        if let Some(mark) = self.context.top_mark() {
+            leave_at(&mut self.loops, mark.number)?;
+        }
+        self.pop_scope();
+        Ok(())
     }
 
     /// Drops the innermost scope.

@@ -1,6 +1,5 @@
 -- All that templates run is accepted.
-use Rattle.std.proofs.Common.{◌≡◌, ℕ, List, [], ◌∷◌, ◌++◌, refl, sym, ap, subst, ◌∙◌, Option, Some, None, Bool, true, false, cond, get_or, set, insert, remove}
-use Rattle.std.specs.Prelude.{if◌then◌else◌}
+use Rattle.std.proofs.Common.{◌≡◌, ℕ, List, [], ◌∷◌, refl, subst, Option, Some, None, Bool, true, false, cond}
 use Rattle.std.specs.BTreeMap.{is_at}
 use Rattle.std.specs.List.{AllByRecursion}
 use Rattle.std.specs.Ordering.{match_ordering}
@@ -19,8 +18,6 @@ use Rattle.tm_shapes.specs.declared.code.BlockCode.{BlockCode}
 use Rattle.tm_shapes.specs.declared.kind.Form.{Form}
 use Rattle.tm_shapes.specs.declared.kind.Form.TheVariants as forms
 use Rattle.tm_accepted.specs.Laid.{form_of}
-use Rattle.tm_scopes.specs.Places.{AreOrdered, IsNameAt, IsNameGap}
-use Rattle.tm_scopes.proofs.Places.{added, taken, written}
 use Rattle.tm_templates.specs.Templates.{AllAccepted, AreAccepted, Compiled, EachAccepted, block_codes, code_or_none, part_code}
 
 -- ---------------------------------------------------------------- maps by name
@@ -86,18 +83,5 @@ parts_accepted t root blocks (Some x) =
 pub put_accepted : (x : List ℕ) (a : Compiled) (ps : Named Compiled) → AreAccepted a → EachAccepted ps → EachAccepted (put x a ps)
 put_accepted x a ps is all = put_all AreAccepted x a ps is all
 
-pub written_accepted : (x y : List ℕ) (a : Compiled) (ps seen : Named Compiled) (i : ℕ) (p : List ℕ × Compiled) → ps ≡ seen → y ≡ x →
-    AreOrdered ps → IsNameAt y seen i → p ≡ get_or ps i p → AreAccepted a → EachAccepted ps → EachAccepted (set ps i (p.0, a))
-written_accepted x y a ps seen i p e f o t at is all =
-    subst EachAccepted (sym (written x y a ps seen i p e f o t at)) (put_accepted x a seen is (subst EachAccepted e all))
-
-pub added_accepted : (x y : List ℕ) (a : Compiled) (ps seen : Named Compiled) (i : ℕ) (b : Bool) → ps ≡ seen → y ≡ x →
-    IsNameGap y seen i → AreAccepted a → EachAccepted ps → EachAccepted (if b then insert ps i (x, a) else ps)
-added_accepted x y a ps seen i true e f g is all =
-    subst EachAccepted (sym (added x y a ps seen i e f g)) (put_accepted x a seen is (subst EachAccepted e all))
-added_accepted x y a ps seen i false e f g is all = all
-
-pub taken_accepted : (x : List ℕ) (ps seen : Named Compiled) (i : ℕ) → ps ≡ seen → AreOrdered ps → IsNameAt x seen i → EachAccepted ps →
-    EachAccepted (remove ps i)
-taken_accepted x ps seen i e o t all =
-    subst EachAccepted (sym (taken x ps seen i e o t)) (without_all AreAccepted x seen (subst EachAccepted e all))
+pub without_accepted : (x : List ℕ) (ps : Named Compiled) → EachAccepted ps → EachAccepted (without x ps)
+without_accepted x ps all = without_all AreAccepted x ps all

@@ -10,10 +10,10 @@ use Rattle.tm_syntax.proofs.Named.{same_text}
 use Rattle.tm_scopes.specs.Places.{AreOrdered}
 
 module _ {A : Type 0} where
-  abbrev AreAbove : List ℕ → Named A → Type 0
+  abbrev pub AreAbove : List ℕ → Named A → Type 0
   AreAbove x ps = AllByRecursion (λ y. name_cmp x y ≡ Less) (keys_of ps)
 
-  above-none : (x : List ℕ) (ps : Named A) → AreAbove x ps → find x ps ≡ None
+  pub above-none : (x : List ℕ) (ps : Named A) → AreAbove x ps → find x ps ≡ None
   above-none x [] a = refl
   above-none x (p ∷ ps) a = rw a.0 (above-none x ps a.1)
 

@@ -5,3 +5,5 @@ pub mod Globals
 pub mod Gone
 pub mod Ascending
 pub mod Accepted
+pub mod Ordered
+pub mod Placed

@@ -1,9 +1,10 @@
 -- Templates as plain data.
 use Rattle.std.specs.List.Sorted.{IsStrictlySortedBy}
-use Rattle.std.specs.Map.{keys_of}
-use Rattle.std.specs.Prelude.{◌≡◌, ℕ, List, [], ◌∷◌, Option, None, Some, map as each, codes, Bool, false}
+use Rattle.std.specs.BTreeMap.{is_at}
+use Rattle.std.specs.Map.{keys_of, set_value}
+use Rattle.std.specs.Prelude.{◌≡◌, ℕ, List, [], ◌∷◌, Option, None, Some, ◌<◌, map as each, length, slice_index_or, codes, Bool, false}
 use Rattle.std.specs.Borrow.{Bor}
-use Rattle.std.specs.List.{AllByRecursion}
+use Rattle.std.specs.List.{All, AllByRecursion}
 use Rattle.tm_values.specs.declared.error.ErrorKind.{ErrorKind}
 use Rattle.tm_values.specs.declared.escape.AutoEscape.{AutoEscape}
 use Rattle.tm_values.specs.declared.escape.AutoEscape.TheVariants as escapes
@@ -20,6 +21,7 @@ use Rattle.tm_delimiters.specs.Syntax.{Syntax}
 use Rattle.tm_values.specs.Answer.{Refused}
 use Rattle.tm_compiler.specs.Spells.{Spells, SpellsExpr, SpellsNoExpr, SpellsNone}
 use Rattle.tm_meaning.specs.Tree.{TemplateTree, card}
+use Rattle.tm_scopes.specs.Places.{AreOrdered}
 use Rattle.tm_meaning.specs.World.{Card, Template}
 
 -- A template or an expression: its name, its source, its escape, the tree that the source spells,
@@ -103,6 +105,44 @@ tree_or_none (Some tree) = tree
 abbrev pub tree_of : Compiled → TemplateTree
 tree_of t = record { name = t.name; escape = t.escape; root = stream_of (tree_or_none t.tree) }
 
+-- ---------------------------------------------------------------- by name
+-- no template; it stands for what lies beyond the end of a list
+abbrev pub nothing : Compiled
+nothing = record { name = []; source = []; escape = escapes.None; tree = None; root = []; blocks = [] }
+
+-- the template at a place
+abbrev pub template_at : Named Compiled → ℕ → Compiled
+template_at entries i = (slice_index_or entries i ([], nothing)).1
+
+-- the templates at these places, each with the name of its place
+abbrev pub placed : Named Compiled → Named ℕ → Named Compiled
+placed entries places = each (λ (p : List ℕ × ℕ). (p.0, template_at entries p.1)) places
+
+-- the places, with another one for this name if it has one
+abbrev pub with_place : List ℕ → ℕ → Named ℕ → Named ℕ
+with_place x i places = set_value (is_at (name_cmp x)) places i
+
+-- An entry of this name is at place i.
+pub record IsEntryAt (entries : Named Compiled) (x : List ℕ) (i : ℕ) : Type 0 where
+  pub in_range : i < length entries
+  pub named : (slice_index_or entries i ([], nothing)).0 ≡ x
+
+-- Each name has the place of an entry of that name, and each entry is at the place of its name; the
+-- names ascend.
+pub record ArePlacesOf (places : Named ℕ) (entries : Named Compiled) : Type 0 where
+  pub ordered : AreOrdered places
+  pub of_names : (x : List ℕ) (i : ℕ) → find x places ≡ Some i → IsEntryAt entries x i
+  pub of_entries : (x : List ℕ) (i : ℕ) → IsEntryAt entries x i → find x places ≡ Some i
+
+-- At each of these places is the entry of its name.
+abbrev pub EachPlaced : Named Compiled → Named ℕ → Type 0
+EachPlaced entries places = All (λ (p : List ℕ × ℕ). IsEntryAt entries p.0 p.1) places
+
+-- Each of these is what its name means among the templates.
+abbrev pub AreFoundIn : Named Compiled → Named Compiled → Type 0
+AreFoundIn ts these = All (λ (t : List ℕ × Compiled). find t.0 ts ≡ Some t.1) these
+
+-- ---------------------------------------------------------------- accepted
 -- The code of each block is accepted.
 abbrev pub AllAccepted : Named BlockCode → Type 0
 AllAccepted bs = AllByRecursion (λ (b : List ℕ × BlockCode). IsAccepted b.1.code) bs

@@ -9,4 +9,4 @@ mod templates;
 pub use compiled::{CompiledTemplate, Source, TemplateConfig};
 pub use defaults::{EscapeSetting, default_auto_escape_callback};
 pub use global_map::GlobalMap;
-pub use templates::Templates;
+pub use templates::{Templates, TemplatesIter};

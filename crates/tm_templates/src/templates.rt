@@ -1,28 +1,44 @@
 //! Templates by name.
-ghost use Rattle.std.specs.Prelude.{◌≡◌, ◌≢◌, ◌<◌, [], ◌∷◌, None, Some, OnOk, OnErr, IfErr, MatchOption, MatchResult, length, slice_get};
-ghost use Rattle.tm_syntax.specs.Named.{find, put, name_cmp, without};
+ghost use Rattle.std.specs.Iterator.{item_count, YieldsFirstBy};
+ghost use Rattle.std.specs.Prelude.{◌≡◌, ◌≢◌, [], ◌∷◌, None, Some, OnOk, OnErr, IfErr, MatchOption, length};
+ghost use Rattle.tm_syntax.specs.Named.{find, named_of, put, without};
 ghost use Rattle.tm_values.specs.Answer.{IsLent};
-ghost use Rattle.tm_scopes.specs.Places.{AreOrdered, IsNameAt, IsNameGap};
-ghost use Rattle.tm_templates.specs.Templates.{EachAccepted};
+ghost use Rattle.tm_scopes.specs.Places.{AreOrdered};
+ghost use Rattle.tm_templates.specs.Templates.{AreFoundIn, EachAccepted, with_place};
 
 use crate::compiled::CompiledTemplate;
 use std::alloc::Global;
+use std::collections::BTreeMap;
+use std::collections::btree_map::Iter;
 use std::marker::Model;
+use std::rc::RcStr;
 use tm_compiler::Name;
 use tm_values::{Error, ErrorKind};
+
+/// Gives `name` another place, if it has one.
+fn set_place(places: &mut BTreeMap<RcStr, usize>, name: &str, place: usize)
+    ensures { named_of places.new.entries
+        ≡ with_place name.now place (named_of places.old.entries) }
+{
+    if let Some(at) = places.get_mut(name) {
+        *at = place;
+    }
+}
 
 /// The templates of an environment. A contract sees them as pairs of a name and a template, ordered
 /// by name.
 #[derive(Drop)]
 pub struct Templates<'source> {
-    // Not one of the library's maps: in such a map a template can't be borrowed for less time than
-    // its source is.
+    // Not one map with the templates in it: in the library's maps a template can't be borrowed for
+    // less time than its source is. So the map has the places of the templates in `entries`.
+    places: BTreeMap<RcStr, usize>,
+    // In no order.
     entries: Vec<(Name, CompiledTemplate<'source>)>,
 }
 
 impl<'source> Model for Templates<'source> {
     ghost use Rattle.std.specs.Coded.{codes};
-    ghost use Rattle.tm_syntax.specs.Named.{Named};
+    ghost use Rattle.tm_syntax.specs.Named.{Named, named_of};
     ghost use Rattle.tm_syntax.specs.contracts.tree.Expr as expression;
     ghost use Rattle.tm_syntax.specs.contracts.tree.Stmt as statement;
     ghost use Rattle.tm_values.specs.Code.{coded_Val};
@@ -32,12 +48,12 @@ impl<'source> Model for Templates<'source> {
 
     ghost coded = { Prim.hlevel (codes, coded_Val, expression.the_row.coded, statement.the_row.coded) };
 
-    ghost use Rattle.tm_scopes.specs.Places.{AreOrdered};
-    ghost use Rattle.tm_templates.specs.Templates.{EachAccepted};
+    ghost use Rattle.tm_templates.specs.Templates.{placed, ArePlacesOf, EachAccepted};
 
-    ghost view = { λ a. a.entries.items };
+    ghost view = { λ a. placed a.entries.items (named_of a.places.entries) };
 
-    ghost invariant = { λ a. AreOrdered a.entries.items × EachAccepted a.entries.items };
+    ghost invariant = { λ a. ArePlacesOf (named_of a.places.entries) a.entries.items
+        × EachAccepted (placed a.entries.items (named_of a.places.entries)) };
 }
 
 impl<'source> Templates<'source> {
@@ -46,6 +62,7 @@ impl<'source> Templates<'source> {
         ensures { result ≡ [] }
     {
         Templates {
+            places: BTreeMap::new(alloc),
             entries: Vec::new(alloc),
         }
     }
@@ -56,9 +73,9 @@ impl<'source> Templates<'source> {
     pub fn get(&self, place: usize, name: &str) -> Option<&CompiledTemplate<'source>>
         ensures { IsLent result (find name.now self.now) }
     {
-        match self.place_from(place, name) {
-            Ok(at) => Some(&self.entries[at].1),
-            Err(_) => None,
+        match self.entry(place, name) {
+            Some((_place, _name, template)) => Some(template),
+            None => None,
         }
     }
 
@@ -73,9 +90,15 @@ impl<'source> Templates<'source> {
         ensures { MatchOption result (find name.now self.now ≡ None)
             (λ found. (found.1.now ≡ name.now) × (find name.now self.now ≡ Some found.2.now)) }
     {
-        match self.place_from(place, name) {
-            Ok(at) => Some((at, &self.entries[at].0, &self.entries[at].1)),
-            Err(_) => None,
+        match self.entries.get(place) {
+            Some(entry) if entry.0.is(name) => Some((place, &entry.0, &entry.1)),
+            _ => match self.places.get(name) {
+                Some(at) => {
+                    let entry = &self.entries[*at];
+                    Some((*at, &entry.0, &entry.1))
+                }
+                None => None,
+            },
         }
     }
 
@@ -87,27 +110,19 @@ impl<'source> Templates<'source> {
         ensures err { OnErr result (self.new ≡ self.old) }
     {
         template.accepted();
-        match self.place(name.as_str()) {
-            Ok(at) => {
-                self.entries[at].1 = template;
+        match self.places.get(name.as_str()) {
+            Some(at) => {
+                self.entries[*at].1 = template;
                 Ok(())
             }
-            Err(at) => {
-                self.entries.insert(at, (name, template))?;
+            None => {
+                let text = name.text()?;
+                let place = self.entries.len();
+                self.entries.reserve(1)?;
+                self.places.insert(text, place)?;
+                self.entries.push_reserved((name, template));
                 Ok(())
             }
-        }
-    }
-
-    /// The place of the template named `name`, or as an error the place to insert it at. `place`
-    /// is a hint: one comparison is enough if the template is there.
-    #[inline(always)]
-    fn place_from(&self, place: usize, name: &str) -> Result<usize, usize>
-        ensures { MatchResult result (IsNameAt name.now self.now) (IsNameGap name.now self.now) }
-    {
-        match self.entries.get(place) {
-            Some(entry) if entry.0.is(name) => Ok(place),
-            _ => self.place(name),
         }
     }
 
@@ -118,8 +133,12 @@ impl<'source> Templates<'source> {
         ensures gone { find name.now self.new ≡ None }
         ensures others { (x : _) → x ≢ name.now → find x self.new ≡ find x self.old }
     {
-        if let Ok(at) = self.place(name) {
-            let _removed = self.entries.remove(at);
+        if let Some(place) = self.places.remove(name) {
+            let _removed = self.entries.swap_remove(place);
+            // The last entry is at `place` now, unless it was removed itself.
+            if let Some(moved) = self.entries.get(place) {
+                set_place(&mut self.places, moved.0.as_str(), place);
+            }
         }
     }
 
@@ -127,6 +146,7 @@ impl<'source> Templates<'source> {
     pub fn clear(&mut self)
         ensures { self.new ≡ [] }
     {
+        self.places.clear();
         self.entries.clear();
     }
 
@@ -134,17 +154,18 @@ impl<'source> Templates<'source> {
     pub fn len(&self) -> usize
         ensures { result ≡ length self.now }
     {
-        self.entries.len()
+        self.places.len()
     }
 
-    /// The template at index `place` in the order of names, with its name.
-    pub fn at(&self, place: usize) -> (&Name, &CompiledTemplate<'source>)
-        requires { place < length self.now }
-        ensures entry { slice_get self.now place ≡ Some (result.0.now, result.1.now) }
-        ensures found { find result.0.now self.now ≡ Some result.1.now }
+    /// The templates with their names, in the order of these. Allocates nothing.
+    pub fn iter(&self) -> TemplatesIter<'_, 'source>
+        ensures items { result ≡ self.now }
+        ensures found { AreFoundIn self.now result }
     {
-        let entry = &self.entries[place];
-        (&entry.0, &entry.1)
+        TemplatesIter {
+            places: self.places.iter(),
+            entries: &self.entries,
+        }
     }
 
     /// Proves that all streams of the templates are accepted; does nothing.
@@ -160,15 +181,46 @@ impl<'source> Templates<'source> {
     {
         let _ = &self.entries;
     }
+}
 
-    /// The place of the template named `name`, or as an error the place to insert it at.
-    fn place(&self, name: &str) -> Result<usize, usize>
-        ensures { MatchResult result (IsNameAt name.now self.now) (IsNameGap name.now self.now) }
-    {
-        self.entries.binary_search_by(
-            |entry|
-                ensures { result ≡ name_cmp entry.now.0 name.entry.now }
-            { entry.0.compare(name) },
-        )
+/// An iterator over templates with their names, in the order of these. A contract sees those that
+/// are left.
+#[derive(Drop)]
+pub struct TemplatesIter<'env, 'source> {
+    places: Iter<'env, RcStr, usize>,
+    entries: &'env Vec<(Name, CompiledTemplate<'source>)>,
+}
+
+impl<'env, 'source> Model for TemplatesIter<'env, 'source> {
+    ghost use Rattle.std.specs.Coded.{codes};
+    ghost use Rattle.tm_syntax.specs.Named.{Named, named_of};
+    ghost use Rattle.tm_syntax.specs.contracts.tree.Expr as expression;
+    ghost use Rattle.tm_syntax.specs.contracts.tree.Stmt as statement;
+    ghost use Rattle.tm_values.specs.Code.{coded_Val};
+    ghost use Rattle.tm_templates.specs.Templates.{Compiled};
+
+    ghost Value = { Named Compiled };
+
+    ghost coded = { Prim.hlevel (codes, coded_Val, expression.the_row.coded, statement.the_row.coded) };
+
+    ghost use Rattle.tm_templates.specs.Templates.{placed, EachPlaced};
+
+    ghost view = { λ a. placed a.entries.now.items (named_of a.places) };
+
+    ghost invariant = { λ a. EachPlaced a.entries.now.items (named_of a.places) };
+}
+
+impl<'env, 'source> Iterator for TemplatesIter<'env, 'source> {
+    type Item = (&'env Name, &'env CompiledTemplate<'source>);
+
+    ghost next_gives = { YieldsFirstBy (λ p. (p.0.now, p.1.now)) (λ rest. rest) };
+
+    ghost remaining = { item_count (λ rest. rest) };
+
+    fn next(&mut self) -> Option<(&'env Name, &'env CompiledTemplate<'source>)> {
+        let entries = self.entries;
+        let (_name, place) = self.places.next()?;
+        let entry = &entries[*place];
+        Some((&entry.0, &entry.1))
     }
 }

@@ -1,5 +1,5 @@
 -- Values as plain data.
-use Rattle.std.specs.Prelude.{ℕ, ◌+◌, ℤ, pos, Bool, true, false, List, [], ◌∷◌, Option, Some, None}
+use Rattle.std.specs.Prelude.{ℕ, ◌+◌, ◌/◌, ◌++◌, length, ℤ, pos, Bool, true, false, List, [], ◌∷◌, Option, Some, None}
 
 -- a macro: its name, the names of its arguments, whether it takes `caller`; the state that declared
 -- it, the number of its stream there, its entry in the stream, and the number of its closure, if
@@ -89,6 +89,11 @@ vals_in _ = no_vals
 abbrev pub items_in : Val → List Val
 items_in v = list_of (vals_in v)
 
+-- a list goes on with these items; other values stay
+abbrev pub extended : Val → List Val → Val
+extended (list vs) more = list (vals_of (list_of vs ++ more))
+extended v more = v
+
 -- the whole number that a number or a truth value counts as
 abbrev pub whole_of : Bool → ℤ
 whole_of true = pos 1
@@ -99,18 +104,23 @@ whole_in (boolean b) = Some (whole_of b)
 whole_in (number z) = Some z
 whole_in _ = None
 
--- the number of values in a value: a measure
+-- what the bytes of a text add to the size of its value: 1 for each 16 of them
+abbrev pub text_size : List ℕ → ℕ
+text_size s = length s / 16
+
+-- the size of a value as an owned tree: 1 for itself, the size of each part and 1, and what a text
+-- adds; it bounds the steps of every walk over the value
 abbrev mutual
   pub val_size : Val → ℕ
   val_size (undefined s) = 1
   val_size none = 1
   val_size (boolean b) = 1
   val_size (number z) = 1
-  val_size (text s m) = 1
+  val_size (text s m) = text_size s + 1
   val_size (list vs) = vals_size vs + 1
   val_size (map ps) = pairs_size ps + 1
   val_size (keywords ps) = pairs_size ps + 1
-  val_size (exports ps s) = pairs_size ps + 1
+  val_size (exports ps s) = text_size s + (pairs_size ps + 1)
   val_size (function n) = 1
   val_size (macro m) = 1
   val_size (loop i n) = 1

@@ -3,7 +3,7 @@ use Rattle.std.specs.Prelude.{◌≡◌, ◌+◌}
 use Rattle.tm_values.specs.Map.{IsMap}
 use Rattle.tm_values.specs.Parts.{parts_of_vals, parts_of_pairs}
 use Rattle.tm_values.specs.Val.{Val, undefined, none, boolean, number, text, list, map, keywords, exports, function, macro, loop, namespace}
-use Rattle.tm_values.specs.Val.{vals_of, pairs_of, pairs_size}
+use Rattle.tm_values.specs.Val.{vals_of, pairs_of, pairs_size, text_size}
 use Rattle.tm_values.specs.declared.value.Node.{Node}
 use Rattle.tm_values.specs.declared.value.Node.TheVariants as node
 
@@ -31,5 +31,6 @@ IsWellMade (node.Map pairs parts) =
 IsWellMade (node.Keywords pairs parts) =
     IsMap pairs.value.items × (parts ≡ parts_of_pairs (pairs_of pairs.value.items))
 IsWellMade (node.Exports pairs content size) =
-    IsMap pairs.value.items × (size ≡ pairs_size (pairs_of pairs.value.items) + 1)
+    IsMap pairs.value.items
+    × (size ≡ text_size content + (pairs_size (pairs_of pairs.value.items) + 1))
 IsWellMade _ = Unit {0}

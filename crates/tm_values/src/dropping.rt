@@ -53,7 +53,7 @@ pub(crate) fn drop_owner(value: Value) {
     }
 }
 
-// Drops all items except the largest one that has parts.
+// Drops all items except the largest one.
 #[cycle(dropping)]
 #[tactic(auto, using(crate::proofs::Sizes::joined_sizes))]
 fn drop_items(mut items: Vec<Value>) -> Option<Value>
@@ -66,7 +66,7 @@ fn drop_items(mut items: Vec<Value>) -> Option<Value>
     largest
 }
 
-// Drops all keys and values except the largest one that has parts.
+// Drops all keys and values except the largest one.
 #[cycle(dropping)]
 #[tactic(auto, using(crate::proofs::Sizes::joined_sizes))]
 fn drop_pairs(mut pairs: Vec<(Value, Value)>) -> Option<Value>
@@ -80,7 +80,7 @@ fn drop_pairs(mut pairs: Vec<(Value, Value)>) -> Option<Value>
     largest
 }
 
-// Keeps the larger of two values and drops the other. A value without parts isn't kept.
+// Keeps the larger of two values and drops the other. A value of size 1 has no parts and isn't kept.
 #[inline(always)]
 #[cycle(dropping)]
 fn keep_larger(value: Value, largest: &mut Option<Value>)
@@ -93,9 +93,9 @@ fn keep_larger(value: Value, largest: &mut Option<Value>)
     }
 }
 
-// The size of the kept value, or 1, the size of a value without parts.
+// The size of the kept value, or 1.
 #[inline(always)]
-fn size_of(largest: &Option<Value>) -> u32
+fn size_of(largest: &Option<Value>) -> u64
     ensures { kept_size largest.now ≤ result + 1 }
 {
     match largest {

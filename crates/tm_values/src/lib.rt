@@ -24,7 +24,7 @@ pub use escape::AutoEscape;
 pub use macros::MacroValue;
 pub use map::{ValueMap, put_law};
 pub use order::{order_law, same_items};
-pub use parts::Parts;
+pub use parts::{Parts, longest_text};
 pub use records::{LoopPosition, NoRecords, Records, find_loop, find_namespace};
 pub use shared_text::SharedText;
 pub use sharing::share_all;

@@ -6,7 +6,7 @@ ghost use Rattle.tm_values.specs.Order.{val_cmp};
 ghost use Rattle.tm_values.specs.Val.{Val, text, map, keywords, exports, pairs_of, entries_in};
 
 use crate::error::{Error, ErrorKind};
-use crate::parts::Parts;
+use crate::parts::{Parts, with_content};
 use crate::shared_text::SharedText;
 use crate::value::{Node, Value};
 use std::alloc::Global;
@@ -170,6 +170,7 @@ impl Value {
             writable: _writable,
             size,
         } = Parts::of_pairs(&pairs)?;
+        let size = with_content(size, &content)?;
         Ok(Value {
             node: Node::Exports(Rc::new(alloc, pairs)?, content, size),
         })

@@ -55,6 +55,11 @@ impl SharedText {
         Ok(SharedText { content })
     }
 
+    /// Whether both share the same bytes in memory.
+    pub(crate) fn shares_with(&self, other: &SharedText) -> bool {
+        Rc::ptr_eq(&self.content, &other.content)
+    }
+
     /// Empties the text and keeps its capacity, if it has no other owner. Otherwise returns false
     /// and changes nothing.
     pub fn clear(&mut self) -> bool

@@ -6,13 +6,14 @@ ghost use Rattle.tm_values.specs.Answer.{OkOrOutOfMemory, IsLent};
 ghost use Rattle.tm_values.specs.Held.{held_size};
 ghost use Rattle.tm_values.specs.declared.error.ErrorKind.{ErrorKind};
 ghost use Rattle.tm_values.specs.Val.{Val, undefined, none, boolean, number, text, list, function, macro, loop, namespace, val_size};
-ghost use Rattle.tm_values.specs.Val.{vals_of, text_in, list_in, entries_in, items_in, whole_in};
+ghost use Rattle.tm_values.specs.Val.{vals_of, text_in, list_in, entries_in, items_in, whole_in, extended};
 
 use crate::dropping::{Held, drop_owner};
 use crate::error::Error;
 use crate::macros::MacroValue;
 use crate::parts::Parts;
 use crate::shared_text::SharedText;
+use crate::sharing::append_shared;
 use std::alloc::Global;
 use std::marker::Model;
 use std::rc::Rc;
@@ -281,6 +282,41 @@ impl Value {
         match node {
             Node::Text(content, safe) => Ok((content, safe)),
             node => Err(Value { node }),
+        }
+    }
+
+    /// The list of its items and then of `more`, if the value is a list; otherwise the value
+    /// itself. It shares the items of `more`, and appends them in place if the list has no other
+    /// owner. Returns the value as it was if memory runs out or the size doesn't fit a `u32`.
+    pub fn extended(self, alloc: Global, more: &[Value]) -> Result<Value, Value>
+        ensures { MatchResult result (λ v. v ≡ extended self more.now) (λ v. v ≡ self) }
+    {
+        let Value { node } = self;
+        match node {
+            Node::List(items, parts) => match parts.extended(more) {
+                Ok(all) => match append_shared(alloc, items, more) {
+                    Ok(items) => Ok(Value {
+                        node: Node::List(items, all),
+                    }),
+                    Err(items) => Err(Value {
+                        node: Node::List(items, parts),
+                    }),
+                },
+                Err(_) => Err(Value {
+                    node: Node::List(items, parts),
+                }),
+            },
+            node => Ok(Value { node }),
+        }
+    }
+
+    /// Whether both share the items of one list or the bytes of one text. It says nothing of what
+    /// the values are, only of memory.
+    pub fn shares_with(&self, other: &Value) -> bool {
+        match (&self.node, &other.node) {
+            (Node::List(items, _), Node::List(of_other, _)) => Rc::ptr_eq(items, of_other),
+            (Node::Text(content, _), Node::Text(of_other, _)) => content.shares_with(of_other),
+            _ => false,
         }
     }
 

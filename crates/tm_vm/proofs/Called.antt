@@ -49,6 +49,7 @@ opens_after p n old new before (Ok flow.GoOn) kept stays h = record {
   same_stream = h.same_stream;
 }
 opens_after p n old new before (Ok flow.Done) kept stays h = absurd h.did
+opens_after p n old new before (Ok flow.Ahead) kept stays h = absurd h.did
 opens_after p n old new before (Ok flow.Called) kept stays h = absurd h.did
 opens_after p n old new before (Ok flow.Restart) kept stays h = absurd h.did
 opens_after p n old new before (Ok (flow.Enter e)) kept stays h = absurd h.did
@@ -160,6 +161,7 @@ pub run_goes_on : (p : Program) (e : Box NestedRun) (count : ℕ) (old new : Con
     EntersAsValue e.value count result old new → GoesOnWith p (outcome.Run e) count old new result
 run_goes_on p e count old new (Ok flow.GoOn) h q before needs leaves = absurd h
 run_goes_on p e count old new (Ok flow.Done) h q before needs leaves = absurd h
+run_goes_on p e count old new (Ok flow.Ahead) h q before needs leaves = absurd h
 run_goes_on p e count old new (Ok flow.Called) h q before needs leaves = absurd h
 run_goes_on p e count old new (Ok flow.Restart) h q before needs leaves = absurd h
 run_goes_on p e count old new (Ok (flow.Enter b)) h q before needs leaves =

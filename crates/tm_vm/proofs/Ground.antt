@@ -1,13 +1,14 @@
 -- The scopes that a run leaves as they were.
-use Rattle.std.proofs.Common.{◌≡◌, ◌≤◌, ◌<◌, ◌+◌, ◌-◌, ℕ, zero, suc, List, [], ◌∷◌, Option, None, Bool, true, false, length, drop, refl, sym, ap, ◌∙◌, subst, arith}
+use Rattle.std.proofs.Common.{◌≡◌, ◌≤◌, ◌<◌, ◌+◌, ◌-◌, ℕ, zero, suc, List, [], ◌∷◌, Option, None, Some, Bool, true, false, length, drop, refl, sym, ap, ◌∙◌, subst, arith}
 use Rattle.std.proofs.lemmas.List.{length-drop}
 use Rattle.std.proofs.Math.Seq.{drop-nil}
 use Rattle.tm_values.specs.Val.{Val, undefined}
 use Rattle.tm_trees.specs.Instructions.{LoopFlags}
-use Rattle.tm_meaning.specs.World.{Scope, Scopes, World, loop_scope, owning, plain_scope, pop, without_first}
+use Rattle.tm_meaning.specs.World.{Scope, Scopes, World, leave_loop, leaving_of, loop_scope, owning, plain_scope, pop, top_mark, without_first}
+use Rattle.tm_meaning.specs.declared.mark.LoopMark.{LoopMark}
 use Rattle.tm_meaning.specs.Calls.{include_frames, outermost}
 use Rattle.tm_meaning.specs.declared.base.Base.{Base}
-use Rattle.tm_state.specs.Answers.{StaysInPlace}
+use Rattle.tm_state.specs.Answers.{KeepsFixedAndNames, StaysInPlace}
 use Rattle.tm_state.specs.State.{with_open_loop}
 use Rattle.tm_vm.specs.Answers.{KeepsBaseScopes, KeepsGround, NoFewer, SameStanding}
 
@@ -181,6 +182,22 @@ stays_popped f old new opened is = λ h.
     let one = left_one f.scopes old.scopes.frames opened in
     subst (λ (w : World). (f.scopes ≤ length w.scopes.frames) × KeepsGround f.scopes old w) (sym is)
     (one.0, (one.1, refl, refl))
+
+-- a loop is left, whose record forgets its items
+leaving_stays : (f : Base) (m : Option LoopMark) (w : World) → f.scopes < length w.scopes.frames → KeepsBaseScopes f w (pop (leaving_of m w))
+leaving_stays f None w opened = stays_popped f w (pop w) opened refl
+leaving_stays f (Some m) w opened = stays_popped f w (pop w) opened refl
+
+pub stays_left : (f : Base) (old new : World) → f.scopes < length old.scopes.frames → new ≡ leave_loop old → KeepsBaseScopes f old new
+stays_left f old new opened is =
+    subst (λ w. KeepsBaseScopes f old w) (sym is) (leaving_stays f (top_mark old.scopes.frames) old opened)
+
+leaving_keeps : (m : Option LoopMark) (w : World) → KeepsFixedAndNames w (pop (leaving_of m w))
+leaving_keeps None w = record { same_id = refl; same_fuel_set = refl; no_more_fuel = omega arith; same_loaded = refl }
+leaving_keeps (Some m) w = record { same_id = refl; same_fuel_set = refl; no_more_fuel = omega arith; same_loaded = refl }
+
+pub left_keeps : (old new : World) → new ≡ leave_loop old → KeepsFixedAndNames old new
+left_keeps old new is = subst (λ w. KeepsFixedAndNames old w) (sym is) (leaving_keeps (top_mark old.scopes.frames) old)
 
 pub base_then : (f : Base) (a b c : World) → KeepsBaseScopes f a b → SameStanding b c → KeepsBaseScopes f a c
 base_then f a b c h same = λ above.

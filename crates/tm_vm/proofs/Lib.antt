@@ -11,3 +11,5 @@ pub mod Called
 pub mod Returned
 pub mod StepsAtOnce
 pub mod Exported
+pub mod Within
+pub mod Summed

@@ -27,7 +27,7 @@ use Rattle.tm_parts.specs.declared.halt.Halt.TheVariants as halt
 use Rattle.tm_records.specs.declared.nested.NestedRun.{NestedRun}
 use Rattle.tm_vm.specs.declared.flow.Flow.{Flow}
 use Rattle.tm_vm.specs.declared.flow.Flow.TheVariants as flow
-use Rattle.tm_vm.specs.Answers.{BeginsRun, ComesTo, Did, Enters, HaltsAs, KeepsGround, NoFewer, ReachesEnd, KeepsBaseScopes, SameStanding}
+use Rattle.tm_vm.specs.Answers.{BeginsRun, ComesTo, Did, Enters, HaltsAs, KeepsGround, NoFewer, ReachesEnd, KeepsBaseScopes, SameStanding, Steps}
 use Rattle.tm_runs.specs.Runs.{finished_at}
 use Rattle.tm_vm.specs.Answers.{output}
 use Rattle.tm_vm.proofs.Ground.{below_first, below_include, below_owning, ground_then, include_long, outermost_long, outermost_twice, owning_long, standing}
@@ -86,6 +86,32 @@ stands_next {p = p} {f = f} {c = c} {told = told} {now = now} d new s did =
       appended = appends_then told now new s.text t s.appended did.1;
       onward = λ o r. s.onward o (more did.0 r);
       back = λ o r. more_only did.0 (s.back o r);
+    }
+
+-- and some more
+module _ {p : Program} {f : Base} {t : List ℕ} {o : Final} where
+  leads_on : (count : ℕ) (c d : Config) → Steps p count c d → Leads p f t (step p f d) o → Leads p f t (step p f c) o
+  leads_on zero c d same l = subst (λ x. Leads p f t (step p f x) o) same l
+  leads_on (suc count) c d s l =
+      more (s.1 f) (subst (λ u. Leads p f u (step p f s.0) o) (sym (append-nil t)) (leads_on count s.0 d s.2 l))
+
+  leads_back : (count : ℕ) (c d : Config) → Steps p count c d → Leads p f t (step p f c) o → Leads p f t (step p f d) o
+  leads_back zero c d same l = subst (λ x. Leads p f t (step p f x) o) (sym same) l
+  leads_back (suc count) c d s l =
+      leads_back count s.0 d s.2 (subst (λ u. Leads p f u (step p f s.0) o) (append-nil t) (more_only (s.1 f) l))
+
+pub stands_ahead : {p : Program} {f : Base} {a c : Config} {told now : Option (List ℕ)} (d : Config) (new : Option (List ℕ)) →
+    RunsUpTo p f a told now c →
+    Did p (Ok flow.Ahead) now new d (step p f c) → RunsUpTo p f a told new d
+stands_ahead {p = p} {f = f} {told = told} d new s did =
+    let ahead = did.0 in
+    record {
+      text = s.text;
+      appended = subst (λ t. Appends told t s.text) (sym did.1) s.appended;
+      onward = λ o r. s.onward o (more ahead.first (subst (λ t. Leads p f t (step p f ahead.between) o) (sym (append-nil s.text))
+          (leads_on ahead.count ahead.between d ahead.then r)));
+      back = λ o r. leads_back ahead.count ahead.between d ahead.then
+          (subst (λ t. Leads p f t (step p f ahead.between) o) (append-nil s.text) (more_only ahead.first (s.back o r)));
     }
 
 -- a run that restarts goes on as it began there

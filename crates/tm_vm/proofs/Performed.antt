@@ -30,7 +30,7 @@ use Rattle.tm_records.specs.declared.saved.Saved.{Saved}
 use Rattle.tm_records.specs.declared.saved.Saved.TheVariants as saved
 use Rattle.tm_records.specs.declared.nested.RunOf.TheVariants as run_of
 use Rattle.tm_vm.specs.Answers.{Depths, Did, Enters, entered, Performs, WritesNext, Silently, Opens, Shifts, Needs, Loads, Finishes}
-use Rattle.tm_vm.specs.Answers.{KeepsBaseScopes, Names, output}
+use Rattle.tm_vm.specs.Answers.{KeepsBaseScopes, Names, Quietly, QuietlyAhead, SilentlyAhead, StaysIn, output}
 use Rattle.tm_runs.proofs.Paid.{chosen, pays_nothing, pays_one}
 use Rattle.tm_runs.specs.Attempts.{attempt_of, captured_of, free_attempt_of, written_of}
 use Rattle.tm_vm.specs.AtOnce.{Attempted, IsAtOnce, IsCharged, IsFree, IsPaid, paid}
@@ -64,6 +64,7 @@ silent {p = p} {f = f} {n = n} {old = old} {new = new} {told = told} (Ok flow.Go
       same_stream = s.same_stream;
     }
 silent {p = p} (Ok flow.Done) s = absurd s.did
+silent {p = p} (Ok flow.Ahead) s = absurd s.did
 silent {p = p} (Ok flow.Called) s = absurd s.did
 silent {p = p} (Ok flow.Restart) s = absurd s.did
 silent {p = p} (Ok (flow.Enter e)) s = absurd s.did
@@ -103,6 +104,7 @@ opened {p = p} {f = f} {n = n} {old = old} {new = new} {told = told} (Ok flow.Go
       same_stream = s.same_stream;
     }
 opened {p = p} (Ok flow.Done) s = absurd s.did
+opened {p = p} (Ok flow.Ahead) s = absurd s.did
 opened {p = p} (Ok flow.Called) s = absurd s.did
 opened {p = p} (Ok flow.Restart) s = absurd s.did
 opened {p = p} (Ok (flow.Enter e)) s = absurd s.did
@@ -137,6 +139,7 @@ shifted {p = p} {n = n} {told = told} (Ok flow.GoOn) s =
       same_stream = s.same_stream;
     }
 shifted {p = p} (Ok flow.Done) s = absurd s.did
+shifted {p = p} (Ok flow.Ahead) s = absurd s.did
 shifted {p = p} (Ok flow.Called) s = absurd s.did
 shifted {p = p} (Ok flow.Restart) s = absurd s.did
 shifted {p = p} (Ok (flow.Enter e)) s = absurd s.did
@@ -172,6 +175,7 @@ wrote {p = p} {f = f} {old = old} {new = new}
       same_stream = s.same_stream;
     }
 wrote {p = p} (Ok flow.Done) s = absurd s.did
+wrote {p = p} (Ok flow.Ahead) s = absurd s.did
 wrote {p = p} (Ok flow.Called) s = absurd s.did
 wrote {p = p} (Ok flow.Restart) s = absurd s.did
 wrote {p = p} (Ok (flow.Enter e)) s = absurd s.did
@@ -197,6 +201,7 @@ needed {p = p} {f = f} {old = old} {new = new} {told = told} (Ok flow.GoOn) s =
       depths = stays_over f old.world new.world s.deepens;
       same_stream = s.same_stream;
     }
+needed {p = p} (Ok flow.Ahead) s = absurd s.did
 needed {p = p} (Ok flow.Done) s = absurd s.did
 needed {p = p} {f = f} {old = old} {new = new} (Ok flow.Called) s = record {
   did = (s.did, refl);
@@ -229,6 +234,32 @@ needed {p = p} {f = f} {n = n} {old = old} {new = new} {told = told} (Err (halt.
       same_stream = s.same_stream;
     }
 
+-- one that may be done with the next one
+as_silent : {p : Program} {n : Next} {old new : Config} (result : Result Flow Halt) → (QuietlyAhead p result new n → Quietly result new n) →
+    (StaysIn result old.run new.run → new.run.stream ≡ old.run.stream) → SilentlyAhead p n old new result → Silently n old new result
+as_silent result quiet stream s =
+    record { did = quiet s.did; kept = s.kept; same_standing = s.same_standing; same_stream = stream s.same_run }
+
+pub gone_ahead : {p : Program} {f : Base} {n : Next} {old new : Config} {told : Told} (result : Result Flow Halt) →
+    SilentlyAhead p n old new result
+    → Performs p f n old new told told result
+gone_ahead {p = p} {f = f} {old = old} {new = new} (Ok flow.Ahead) s = record {
+  did = (s.did, refl);
+  counted = refl;
+  kept = fixed_of s.kept;
+  names = (same_names p.host s.kept, s.pays);
+  depths = stays f old.world new.world s.same_standing;
+  same_stream = s.same_run;
+}
+gone_ahead (Ok flow.GoOn) s = silent (Ok flow.GoOn) (as_silent (Ok flow.GoOn) (λ d. d) (λ e. e) s)
+gone_ahead (Ok flow.Done) s = absurd s.did
+gone_ahead (Ok flow.Called) s = absurd s.did
+gone_ahead (Ok flow.Restart) s = absurd s.did
+gone_ahead (Ok (flow.Enter e)) s = absurd s.did
+gone_ahead (Err halt.Writer) s = absurd s.did
+gone_ahead (Err halt.Stuck) s = silent (Err halt.Stuck) (as_silent (Err halt.Stuck) (λ d. d) (λ e. e) s)
+gone_ahead (Err (halt.Fault chain)) s = silent (Err (halt.Fault chain)) (as_silent (Err (halt.Fault chain)) (λ d. d) (λ e. e) s)
+
 -- one that may load a template
 pub loads : {p : Program} {f : Base} {n : Next} {old new : Config} {told : Told} (result : Result Flow Halt) →
     Loads p.host n old new result
@@ -242,6 +273,7 @@ loads {f = f} {n = n} {old = old} {new = new} {told = told} (Ok flow.GoOn) s = r
   same_stream = s.same_stream;
 }
 loads (Ok flow.Done) s = absurd s.did
+loads (Ok flow.Ahead) s = absurd s.did
 loads (Ok flow.Called) s = absurd s.did
 loads (Ok flow.Restart) s = absurd s.did
 loads (Ok (flow.Enter e)) s = absurd s.did
@@ -380,6 +412,7 @@ finished {p = p} {f = f} {old = old} {new = new} (Ok flow.Restart) s =
       same_stream = tt;
     }
 finished (Ok flow.GoOn) s = absurd s
+finished (Ok flow.Ahead) s = absurd s
 finished (Ok flow.Called) s = absurd s
 finished (Ok (flow.Enter e)) s = absurd s
 finished (Err halt.Writer) s = absurd s
@@ -402,7 +435,7 @@ finished {p = p} {f = f} {n = n} {old = old} {new = new} {told = told} (Err (hal
       same_stream = refl;
     })
 
-pub ruleset kinds = (silent, opened, shifted, wrote, needed, loads, finished)
+pub ruleset kinds = (silent, opened, shifted, wrote, needed, gone_ahead, loads, finished)
 
 -- ---------------------------------------------------------------- after a charge
 deep_paid : (limit : ℕ) (s : Saved) (left : ℕ) (old new : World) → OneDeeper limit s (record old { fuel = left }) new →
@@ -415,20 +448,22 @@ deep_paid limit (saved.Include s) left old new h = h
 depths_paid : (limit : ℕ) (f : Base) (result : Result Flow Halt) (left : ℕ) (old new : World) →
     Depths limit f result (record old { fuel = left }) new → Depths limit f result old new
 depths_paid limit f (Ok flow.GoOn) left old new h = h
+depths_paid limit f (Ok flow.Ahead) left old new h = h
 depths_paid limit f (Ok flow.Called) left old new h = h
 depths_paid limit f (Ok flow.Done) left old new h = h
 depths_paid limit f (Ok flow.Restart) left old new h = h
 depths_paid limit f (Ok (flow.Enter e)) left old new h = deep_paid limit e.value.saved left old new h
 depths_paid limit f (Err why) left old new h = h
 
-names_paid : (host : HostValue) (result : Result Flow Halt) (left : ℕ) (old new : World) →
+names_paid : (host : HostValue) (result : Result Flow Halt) (left : ℕ) (old new : World) → left ≤ old.fuel →
     Names host result (record old { fuel = left }) new → Names host result old new
-names_paid host (Ok flow.GoOn) left old new h = h
-names_paid host (Ok flow.Called) left old new h = h
-names_paid host (Ok flow.Done) left old new h = h
-names_paid host (Ok flow.Restart) left old new h = h
-names_paid host (Ok (flow.Enter e)) left old new h = h
-names_paid host (Err why) left old new h = h
+names_paid host (Ok flow.GoOn) left old new no_more h = h
+names_paid host (Ok flow.Ahead) left old new no_more h = let less = h.1 in (h.0, omega (arith, less, no_more))
+names_paid host (Ok flow.Called) left old new no_more h = h
+names_paid host (Ok flow.Done) left old new no_more h = h
+names_paid host (Ok flow.Restart) left old new no_more h = h
+names_paid host (Ok (flow.Enter e)) left old new no_more h = h
+names_paid host (Err why) left old new no_more h = h
 
 abbrev paid_for : Config → ℕ → Config
 paid_for c left = record c { world = record c.world { fuel = left } }
@@ -446,7 +481,7 @@ step_paid {told = told} {now = now} p f x old new result left found paid kept h 
       did = subst (λ n. Did p result told.bytes now.bytes new n) (sym same) h.did;
       counted = h.counted;
       kept = fixed_then (fixed_of kept) h.kept;
-      names = names_paid p.host result left old.world new.world h.names;
+      names = names_paid p.host result left old.world new.world kept.no_more_fuel h.names;
       depths = depths_paid p.host.limit f result left old.world new.world h.depths;
       same_stream = h.same_stream;
     }

@@ -558,6 +558,14 @@ paid_for {f = f} size p x old mid new (Ok flow.GoOn) paid same names within did 
   went_on size (charge_of x) p f x old mid new _ refl paid same within did.kept.no_more_fuel did.did.0,
   no_more_parents p.host old mid new same names did.names (subst (λ n. Adds p.host (charge_of x) mid n) did.did.0 (adds p f x mid)).1,
 )
+paid_for size p x old mid new (Ok flow.Ahead) paid same names within did =
+    let less = did.names.1 in
+    let loops : pending new.run.loops ≡ pending old.run.loops =
+    ap pending did.same_stream.1 ∙ ap (λ (r : Activation). pending r.loops) same in
+    let wait : waits mid.run ≡ waits old.run = ap waits same in (
+      less_returns size old new (omega (arith, paid, less, loops)),
+      parents_after p.host old mid new (omega (arith, wait)) names did.names.0 did.same_stream,
+    )
 paid_for {f = f} size p x old mid new (Ok (flow.Enter e)) paid same names within did = λ first there.
     let enters = did.did.0 in
     let back : Back = record { run = new.run; call = call_of e.value enters.0; value = e.value.value } in
@@ -585,6 +593,7 @@ restart_paid f n p size old new (Ok flow.Restart) s =
     let following : parents_left p.host new ≡ 0 + names_left p.host old.world = ap (parents_left p.host) s.1.3 in
     omega (arith, before, following)
 restart_paid f n p size old new (Ok flow.GoOn) s = absurd s
+restart_paid f n p size old new (Ok flow.Ahead) s = absurd s
 restart_paid f n p size old new (Ok flow.Called) s = absurd s
 restart_paid f n p size old new (Ok (flow.Enter e)) s = absurd s
 restart_paid f n p size old new (Ok flow.Done) s = tt

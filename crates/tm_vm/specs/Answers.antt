@@ -1,5 +1,5 @@
 -- What the machine's functions answer, beyond the definitions.
-use Rattle.std.specs.Prelude.{◌≡◌, ◌+◌, ◌<◌, ◌≤◌, ◌-◌, ◌*◌, ℕ, List, [], ◌∷◌, length, Option, None, Some, Result, Ok, Err, Bool, true}
+use Rattle.std.specs.Prelude.{◌≡◌, ◌+◌, ◌<◌, ◌≤◌, ◌-◌, ◌*◌, ℕ, zero, suc, List, [], ◌∷◌, length, Option, None, Some, Result, Ok, Err, Bool, true}
 use Rattle.std.specs.Prelude.{false, drop}
 use Rattle.std.specs.Io.KnownBytes.{Appends}
 use Rattle.tm_meaning.specs.Memory.{is_want_of_memory}
@@ -74,11 +74,25 @@ pub record Ran (p : Program) (n : Next) (c : Config) : Type 0 where
   pub leads : Leads p base [] (step p base first) (final [] end)
   pub goes : back_to back end ≡ More [] c
 
--- A step was done, and the writer received its text; or the run restarts; or the step first needs a
--- run of its own, which is finished or still to come; or the run is over; or it halted, and the
--- writer received a prefix of the text.
+-- So many steps lead from one configuration to another and write nothing, whatever the run's base
+-- is.
+abbrev pub Steps : Program → ℕ → Config → Config → Type 0
+Steps p zero c d = d ≡ c
+Steps p (suc count) c d = (m : Config) × ((f : Base) → step p f c ≡ More [] m) × Steps p count m d
+
+-- A step wrote nothing, and some more were done with it.
+pub record IsAhead (p : Program) (n : Next) (c : Config) : Type 0 where
+  pub between : Config
+  pub first : n ≡ More [] between
+  pub count : ℕ
+  pub then : Steps p count between c
+
+-- A step was done, and the writer received its text; or some more were done with it; or the run
+-- restarts; or the step first needs a run of its own, which is finished or still to come; or the run
+-- is over; or it halted, and the writer received a prefix of the text.
 abbrev pub Did : Program → Result Flow Halt → Option (List ℕ) → Option (List ℕ) → Config → Next → Type 0
 Did p (Ok flow.GoOn) told now c n = (n ≡ More (output n) c) × Appends told now (output n)
+Did p (Ok flow.Ahead) told now c n = IsAhead p n c × (now ≡ told)
 Did p (Ok flow.Done) told now c n = (n ≡ Over (finished_at c)) × (now ≡ told)
 Did p (Ok flow.Restart) told now c n = (n ≡ Restart c) × (now ≡ told)
 Did p (Ok flow.Called) told now c n = Ran p n c × (now ≡ told)
@@ -110,25 +124,29 @@ KeepsBaseScopes f old new =
 -- limit, if a run of its own is needed; and a finished run has closed what it opened.
 abbrev pub Depths : ℕ → Base → Result Flow Halt → World → World → Type 0
 Depths limit f (Ok flow.GoOn) old new = KeepsBaseScopes f old new
+Depths limit f (Ok flow.Ahead) old new = KeepsBaseScopes f old new
 Depths limit f (Ok flow.Called) old new = KeepsBaseScopes f old new
 Depths limit f (Ok flow.Restart) old new = KeepsBaseScopes f old new
 Depths limit f (Ok flow.Done) old new = KeepsBaseScopes f old new × (f.scopes ≡ length new.scopes.frames)
 Depths limit f (Ok (flow.Enter e)) old new = OneDeeper limit e.value.saved old new
 Depths limit f (Err why) old new = KeepsBaseScopes f old new
 
--- The number of names that can still be loaded doesn't grow; before a run of its own it stays.
+-- The number of names that can still be loaded doesn't grow; before a run of its own it stays. Steps
+-- that were done with another one are charged.
 abbrev pub Names : HostValue → Result Flow Halt → World → World → Type 0
 Names host (Ok (flow.Enter e)) old new = new.loaded ≡ old.loaded
+Names host (Ok flow.Ahead) old new = (names_left host new ≤ names_left host old) × (new.fuel < old.fuel)
 Names host _ old new = names_left host new ≤ names_left host old
-
--- The stream is the same, except after a restart.
-abbrev pub StaysIn : Result Flow Halt → Activation → Activation → Type 0
-StaysIn (Ok flow.Restart) old new = Unit {0}
-StaysIn _ old new = new.stream ≡ old.stream
 
 -- The stream, the loops and the waiting parent are the same.
 abbrev pub StaysRun : Activation → Activation → Type 0
 StaysRun old new = (new.stream ≡ old.stream) × (new.loops ≡ old.loops) × (new.parent ≡ old.parent)
+
+-- The stream is the same, except after a restart; and after several steps the loops and the parent too.
+abbrev pub StaysIn : Result Flow Halt → Activation → Activation → Type 0
+StaysIn (Ok flow.Restart) old new = Unit {0}
+StaysIn (Ok flow.Ahead) old new = StaysRun old new
+StaysIn _ old new = new.stream ≡ old.stream
 
 -- An instruction, or a step, did what its definition says: by its answer, with the writer that was `told` before and is `now`.
 pub record Performs (p : Program) (f : Base) (n : Next) (old new : Config) (told now : Told)
@@ -174,6 +192,7 @@ parents_left host c = waits c.run + names_left host c.world
 -- run of its own a step is charged, if that run can begin.
 abbrev pub Paid : Program → ℕ → Result Flow Halt → Config → Config → Type 0
 Paid p size (Ok flow.GoOn) old new = (weight size new < weight size old) × (parents_left p.host new ≤ parents_left p.host old)
+Paid p size (Ok flow.Ahead) old new = (weight size new < weight size old) × (parents_left p.host new ≤ parents_left p.host old)
 Paid p size (Ok flow.Called) old new = (weight size new < weight size old) × (parents_left p.host new ≤ parents_left p.host old)
 Paid p size (Ok flow.Restart) old new = parents_left p.host new < parents_left p.host old
 Paid p size (Ok (flow.Enter e)) old new =
@@ -185,6 +204,7 @@ Paid p size _ old new = Unit {0}
 abbrev pub Wrote : Result Flow Halt → Option (List ℕ) → Option (List ℕ) → Config → Next → Type 0
 Wrote (Ok flow.GoOn) told now c n = (n ≡ More (output n) c) × Appends told now (output n)
 Wrote (Ok flow.Done) told now c n = ⊥
+Wrote (Ok flow.Ahead) told now c n = ⊥
 Wrote (Ok flow.Called) told now c n = ⊥
 Wrote (Ok flow.Restart) told now c n = ⊥
 Wrote (Ok (flow.Enter e)) told now c n = ⊥
@@ -201,6 +221,7 @@ pub record WritesNext (n : Next) (old new : Config) (told now : Told) (result : 
 abbrev pub Quietly : Result Flow Halt → Config → Next → Type 0
 Quietly (Ok flow.GoOn) c n = n ≡ More [] c
 Quietly (Ok flow.Done) c n = ⊥
+Quietly (Ok flow.Ahead) c n = ⊥
 Quietly (Ok flow.Called) c n = ⊥
 Quietly (Ok flow.Restart) c n = ⊥
 Quietly (Ok (flow.Enter e)) c n = ⊥
@@ -213,6 +234,22 @@ pub record Silently (n : Next) (old new : Config) (result : Result Flow Halt) : 
   pub kept : KeepsFixedAndNames old.world new.world
   pub same_standing : SameStanding old.world new.world
   pub same_stream : new.run.stream ≡ old.run.stream
+
+-- And for one with which some of the next ones may be done.
+abbrev pub QuietlyAhead : Program → Result Flow Halt → Config → Next → Type 0
+QuietlyAhead p (Ok flow.Ahead) c n = IsAhead p n c
+QuietlyAhead p result c n = Quietly result c n
+
+abbrev pub PaysAhead : Result Flow Halt → World → World → Type 0
+PaysAhead (Ok flow.Ahead) old new = new.fuel < old.fuel
+PaysAhead _ old new = Unit {0}
+
+pub record SilentlyAhead (p : Program) (n : Next) (old new : Config) (result : Result Flow Halt) : Type 0 where
+  pub did : QuietlyAhead p result new n
+  pub kept : KeepsFixedAndNames old.world new.world
+  pub pays : PaysAhead result old.world new.world
+  pub same_standing : SameStanding old.world new.world
+  pub same_run : StaysIn result old.run new.run
 
 -- And for one that may open a scope, and drops none.
 pub record Opens (n : Next) (old new : Config) (result : Result Flow Halt) : Type 0 where
@@ -239,6 +276,7 @@ pub record Loads (host : HostValue) (n : Next) (old new : Config) (result : Resu
 -- And for one that may need a run of its own.
 abbrev pub Needed : Program → Result Flow Halt → Config → Next → Type 0
 Needed p (Ok flow.GoOn) c n = n ≡ More [] c
+Needed p (Ok flow.Ahead) c n = ⊥
 Needed p (Ok flow.Done) c n = ⊥
 Needed p (Ok flow.Called) c n = Ran p n c
 Needed p (Ok flow.Restart) c n = ⊥

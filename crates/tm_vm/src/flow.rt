@@ -6,6 +6,8 @@ use tm_state::NestedRun;
 pub enum Flow {
     /// At its place.
     GoOn,
+    /// At its place, after this instruction and some of those that come next.
+    Ahead,
     /// After a run that had to come first and is finished.
     Called,
     /// After a run that must come first. Boxed because this result is passed on at every step.

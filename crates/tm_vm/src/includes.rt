@@ -48,9 +48,7 @@ impl Machine {
         requires { CanGoOn self.old.run }
         ensures { Silently (export_locals_of self.old) self.old self.new result }
     {
-        let Some(value) = self.run.pop() else {
-            return Err(Halt::Stuck);
-        };
+        let value = self.run.popped()?;
         let module = self.state.module(alloc, value)?;
         self.push_next(module)
     }

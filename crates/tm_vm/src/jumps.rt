@@ -24,9 +24,7 @@ impl Machine {
         ensures { Silently (jump_if_false_of (H.program host.now).host place self.old)
             self.old self.new result }
     {
-        let Some(value) = self.run.pop() else {
-            return Err(Halt::Stuck);
-        };
+        let value = self.run.popped()?;
         match truth(&value, host.undefined_behavior())? {
             true => self.run.advance(),
             false => self.run.jump(place),

@@ -16,6 +16,7 @@ mod operands;
 mod output;
 mod scopes;
 mod steps;
+mod sums;
 
 pub use flow::Flow;
 pub use machine::Machine;

@@ -35,7 +35,8 @@ impl Machine {
     {
         let number = code.loop_number(self.run.place());
         let value = self.run.popped()?;
-        let items = iterate(alloc, &value, &self.state, host.undefined_behavior())?;
+        let most = host.value_limit();
+        let items = iterate(alloc, &value, &self.state, host.undefined_behavior(), most)?;
         self.run.begin_loop()?;
         self.state
             .open_loop(alloc, items, flags, number, host.recursion_limit())?;
@@ -87,9 +88,14 @@ impl Machine {
         self.push_next(Value::boolean(none))
     }
 
-    /// Leaves the innermost loop and returns to its call, if it was called. Stuck as in
-    /// `do_iterate`.
-    pub(crate) fn do_pop_loop_frame(&mut self, alloc: Global, base: &Base) -> Result<Flow, Halt>
+    /// Leaves the innermost loop, whose record forgets its items, and returns to its call, if it was
+    /// called. Stuck as in `do_iterate`.
+    pub(crate) fn do_pop_loop_frame<H: Host>(
+        &mut self,
+        alloc: Global,
+        host: &H,
+        base: &Base,
+    ) -> Result<Flow, Halt>
         requires { CanGoOn self.old.run }
         ensures { Shifts base.now (pop_loop_frame_of base.now self.old) self.old self.new result }
     {
@@ -99,19 +105,20 @@ impl Machine {
         let Some(pending) = self.run.end_loop() else {
             return Err(Halt::Stuck);
         };
-        self.state.pop_scope();
+        self.state.leave_loop()?;
         match pending {
             None => {
                 self.run.advance();
                 Ok(Flow::GoOn)
             }
-            Some(pending) => self.return_to(alloc, pending),
+            Some(pending) => self.return_to(alloc, host, pending),
         }
     }
 
     /// Returns to where a loop was called, and pushes the loop's text if it becomes a value.
+    /// OutOfMemory also if that is larger than `host` allows.
     #[tactic(auto, using(crate::proofs::Returned::with_its_text))]
-    fn return_to(&mut self, alloc: Global, pending: Return) -> Result<Flow, Halt>
+    fn return_to<H: Host>(&mut self, alloc: Global, host: &H, pending: Return) -> Result<Flow, Halt>
         ensures { Silently (returns pending pending.value
             (record self.old { run = resumed pending self.old.run })) self.old self.new result }
     {
@@ -121,7 +128,7 @@ impl Machine {
             return Ok(Flow::GoOn);
         }
         self.run.wait_for(parent);
-        self.push_captured(alloc, RunText::Captured)?;
+        self.push_captured(alloc, host, RunText::Captured)?;
         Ok(Flow::GoOn)
     }
 }

@@ -4,6 +4,7 @@ ghost use Rattle.tm_meaning.specs.Inheritance.{names_left};
 ghost use Rattle.tm_meaning.specs.Machine.{audible, base_of, first_run, run_from, running};
 ghost use Rattle.tm_meaning.specs.Steps.{step};
 ghost use Rattle.tm_parts.specs.Halts.{failures_after};
+ghost use Rattle.tm_vm.specs.Limits.{size_on_top};
 ghost use Rattle.tm_vm.specs.Answers.{BeginsRun, EndsAs, IsAtFirst, ReachesEnd, NoFewer, SameStanding, StaysRun};
 ghost use Rattle.tm_state.specs.Answers.{KeepsFixed};
 ghost use Rattle.tm_state.specs.State.{callee_of, put_back};
@@ -14,6 +15,7 @@ use std::alloc::Global;
 use std::marker::Model;
 use std::mem;
 use tm_meaning::{Base, RunText, StreamId, TemplateId, Wrapping};
+use tm_operations::within;
 use tm_parts::{Captures, Halt, Sink};
 use tm_runs::{Activation, Leaf, run_value};
 use tm_shapes::Verified;
@@ -204,25 +206,32 @@ impl Machine {
             return Err(wrapped(alloc, wrap, halt));
         }
         if value {
-            return self.push_captured(alloc, text);
+            return self.push_captured(alloc, host, text);
         }
         Ok(())
     }
 
     /// Pushes the innermost capture's text as a value of the form `kind`. Stuck if no capture is
-    /// open.
+    /// open; OutOfMemory also if the value is larger than `host` allows.
     #[inline(always)]
-    pub(crate) fn push_captured(&mut self, alloc: Global, kind: RunText) -> Result<(), Halt>
+    pub(crate) fn push_captured<H: Host>(
+        &mut self,
+        alloc: Global,
+        host: &H,
+        kind: RunText,
+    ) -> Result<(), Halt>
         ensures captured { IsCaptured kind result self.old self.new }
         ensures same_world { self.new.world ≡ self.old.world }
         ensures same_run { StaysRun self.old.run self.new.run }
+        ensures within { OnOk result (size_on_top self.new.run.operands ≤ H.largest host.now) }
     {
         let Some((_mode, text)) = self.captures.end() else {
             return Err(Halt::Stuck);
         };
         let value = run_value(alloc, kind, text.as_str(), self.state.escape());
         self.captures.keep_room(text);
-        self.run.push(value?)?;
+        let value = within(value?, host.value_limit() as u64)?;
+        self.run.push(value)?;
         Ok(())
     }
 
@@ -321,6 +330,7 @@ impl Machine {
             'steps: loop {
                 match self.step(alloc, host, &base, code, writer) {
                     Ok(Flow::GoOn) => {}
+                    Ok(Flow::Ahead) => {}
                     Ok(Flow::Called) => {}
                     Ok(Flow::Enter(entry)) => {
                         if let Err(halt) = self.run_nested(alloc, host, entry, writer) {

@@ -99,7 +99,8 @@ impl Machine {
         let right = self.run.popped()?;
         let left = self.run.popped()?;
         let behavior = host.undefined_behavior();
-        let given = binary(alloc, operator, left, &right, &self.state, behavior)?;
+        let most = host.value_limit();
+        let given = binary(alloc, operator, left, &right, most, &self.state, behavior)?;
         self.push_next(given)
     }
 
@@ -117,7 +118,8 @@ impl Machine {
         let right = self.run.popped()?;
         let left = self.run.popped()?;
         let undefined = host.undefined_behavior();
-        let given = binary(alloc, operator, left, &right, &self.state, undefined)?;
+        let most = host.value_limit();
+        let given = binary(alloc, operator, left, &right, most, &self.state, undefined)?;
         self.run.push(right)?;
         self.push_next(given)
     }
@@ -174,18 +176,10 @@ impl Machine {
         ensures { Silently (slice_instruction_of (H.program host.now).host self.old)
             self.old self.new result }
     {
-        let Some(by) = self.run.pop() else {
-            return Err(Halt::Stuck);
-        };
-        let Some(stop) = self.run.pop() else {
-            return Err(Halt::Stuck);
-        };
-        let Some(start) = self.run.pop() else {
-            return Err(Halt::Stuck);
-        };
-        let Some(value) = self.run.pop() else {
-            return Err(Halt::Stuck);
-        };
+        let by = self.run.popped()?;
+        let stop = self.run.popped()?;
+        let start = self.run.popped()?;
+        let value = self.run.popped()?;
         let undefined = host.undefined_behavior();
         let part = slice(alloc, &value, &start, &stop, &by, undefined)?;
         self.push_next(part)
@@ -258,7 +252,8 @@ impl Machine {
         let Some(maps) = self.run.args(count) else {
             return Err(Halt::Stuck);
         };
-        let pairs = merge_maps(alloc, maps, &self.state, host.undefined_behavior())?;
+        let most = host.value_limit();
+        let pairs = merge_maps(alloc, maps, &self.state, host.undefined_behavior(), most)?;
         let keywords = Value::keywords(alloc, pairs)?;
         self.replace(count, keywords)
     }
@@ -279,7 +274,8 @@ impl Machine {
         let Some(lists) = self.run.args(count) else {
             return Err(Halt::Stuck);
         };
-        let items = spread_items(alloc, lists, &self.state, host.undefined_behavior())?;
+        let most = host.value_limit();
+        let items = spread_items(alloc, lists, &self.state, host.undefined_behavior(), most)?;
         let number = Value::number(items.len() as i128);
         self.run.drop_operands(count);
         self.run.append(items)?;

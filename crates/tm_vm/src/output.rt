@@ -82,9 +82,7 @@ impl Machine {
         if host.objects().has_formatter() {
             return self.emit_formatted(alloc, host, base, writer);
         }
-        let Some(value) = self.run.pop() else {
-            return Err(Halt::Stuck);
-        };
+        let value = self.run.popped()?;
         self.state.check_value(alloc, host, &value)?;
         self.run.advance();
         self.write_value(base, &value, writer)
@@ -104,9 +102,7 @@ impl Machine {
         ensures { WritesNext (emit_of (H.program host.now).host base.now self.old) self.old self.new
             (W.told writer.old) (W.told writer.new) result }
     {
-        let Some(value) = self.run.pop() else {
-            return Err(Halt::Stuck);
-        };
+        let value = self.run.popped()?;
         let formatted = self.state.format(alloc, host, &value)?;
         self.run.advance();
         self.write_text(base, formatted.as_str(), writer)

@@ -1,11 +1,12 @@
 //! A step: an instruction is charged and performed.
-ghost use Rattle.std.specs.Prelude.{◌≡◌, ◌+◌, [], ◌∷◌, OnOk, OnErr, length};
+ghost use Rattle.std.specs.Prelude.{◌≡◌, ◌≤◌, ◌+◌, [], ◌∷◌, IsFalse, OnOk, OnErr, length, true};
 ghost use Rattle.tm_values.specs.declared.error.ErrorKind.TheVariants.{OutOfFuel};
 ghost use Rattle.tm_meaning.specs.World.{Good, Bad};
 ghost use Rattle.tm_meaning.specs.Steps.{charge_of, closed, pay, effect, finish, return_of, step};
 ghost use Rattle.tm_runs.specs.Runs.{CanGoOn};
 ghost use Rattle.tm_vm.specs.Answers.{Performs, Finishes, Paid};
-ghost use Rattle.tm_vm.specs.AtOnce.{StepAttempted};
+ghost use Rattle.tm_vm.specs.AtOnce.{StepAttempted, no_memory};
+ghost use Rattle.tm_vm.specs.Limits.{MakesWithin, makes, size_on_top};
 ghost use Rattle.tm_state.specs.Answers.{KeepsFixedAndNames};
 
 use crate::flow::Flow;
@@ -18,6 +19,40 @@ use tm_shapes::Verified;
 use tm_syntax::{Application, BinaryOperator, Instruction, UnaryOperator};
 use tm_tables::{Exhausted, Host, NO_PLACE};
 use tm_values::{Error, ErrorKind};
+
+/// Whether the value that `instruction` leaves on top is one that it, or what it calls, made.
+#[inline(always)]
+fn makes(instruction: &Instruction) -> bool
+    ensures { result ≡ makes instruction.now }
+{
+    match instruction {
+        Instruction::Slice
+        | Instruction::BuildList(_)
+        | Instruction::BuildTuple(_)
+        | Instruction::BuildMap(_)
+        | Instruction::BuildKwargs(_)
+        | Instruction::MergeKwargs(_)
+        | Instruction::Add
+        | Instruction::StringConcat
+        | Instruction::CallFunction(_, _)
+        | Instruction::CallMethod(_, _)
+        | Instruction::CallObject(_)
+        | Instruction::ApplyFilter(_, _, _)
+        | Instruction::PerformTest(_, _, _)
+        | Instruction::ExportLocals
+        | Instruction::EndCapture => true,
+        _ => false,
+    }
+}
+
+// The halt for a value that is larger than the host allows.
+#[cold]
+#[inline(never)]
+fn too_large() -> Halt
+    ensures { result ≡ no_memory }
+{
+    Halt::Fault(Error::from(ErrorKind::OutOfMemory))
+}
 
 impl Machine {
     /// Performs an instruction that was charged.
@@ -64,9 +99,11 @@ impl Machine {
             Instruction::CompareAndPreserve(operator) => {
                 self.do_compare_and_preserve(alloc, host, *operator)
             }
-            Instruction::Add => self.do_binary(alloc, host, BinaryOperator::Add),
+            Instruction::Add => self.do_sum(alloc, host, code, BinaryOperator::Add),
             Instruction::Sub => self.do_binary(alloc, host, BinaryOperator::Subtract),
-            Instruction::StringConcat => self.do_binary(alloc, host, BinaryOperator::Concatenate),
+            Instruction::StringConcat => {
+                self.do_sum(alloc, host, code, BinaryOperator::Concatenate)
+            }
             Instruction::Mul => self.do_binary(alloc, host, BinaryOperator::Multiply),
             Instruction::Div => self.do_binary(alloc, host, BinaryOperator::Divide),
             Instruction::IntDiv => self.do_binary(alloc, host, BinaryOperator::FloorDivide),
@@ -124,11 +161,54 @@ impl Machine {
             Instruction::PushLoop(flags) => self.do_push_loop(alloc, host, code, *flags),
             Instruction::Iterate(place) => self.do_iterate(*place),
             Instruction::PushDidNotIterate => self.do_push_did_not_iterate(),
-            Instruction::PopLoopFrame => self.do_pop_loop_frame(alloc, base),
+            Instruction::PopLoopFrame => self.do_pop_loop_frame(alloc, host, base),
             Instruction::BeginCapture(mode) => self.do_begin_capture(alloc, *mode),
             Instruction::EndCapture => self.do_end_capture(alloc),
             Instruction::PushAutoEscape => self.do_push_auto_escape(base),
             Instruction::PopAutoEscape => self.do_pop_auto_escape(),
+        }
+    }
+
+    /// Performs an instruction that was charged. OutOfMemory also if a value that it made is larger
+    /// than `host` allows.
+    #[inline(always)]
+    #[tactic(auto, using(crate::proofs::Within::no_memory_after))]
+    fn perform_within<H: Host, W: Sink>(
+        &mut self,
+        alloc: Global,
+        host: &H,
+        base: &Base,
+        code: &Verified,
+        instruction: &Instruction,
+        writer: &mut W,
+    ) -> Result<Flow, Halt>
+        requires in_place { CanGoOn self.old.run }
+        requires its_code { code.now ≡ (H.program host.now).code self.old.run.stream }
+        ensures performs { Performs (H.program host.now) base.now
+            (effect (H.program host.now) base.now instruction.now self.old)
+            self.old self.new (W.told writer.old) (W.told writer.new) result }
+        ensures within { MakesWithin (H.largest host.now) instruction.now result
+            self.new.run.operands }
+    {
+        match self.perform(alloc, host, base, code, instruction, writer)? {
+            Flow::GoOn if self.exceeds(host, instruction) => Err(too_large()),
+            Flow::Called if self.exceeds(host, instruction) => Err(too_large()),
+            flow => Ok(flow),
+        }
+    }
+
+    /// Whether `instruction` made the value on top, and that is larger than `host` allows.
+    #[inline(always)]
+    fn exceeds<H: Host>(&self, host: &H, instruction: &Instruction) -> bool
+        ensures { IsFalse result → makes instruction.now ≡ true →
+            size_on_top self.now.run.operands ≤ H.largest host.now }
+    {
+        if !makes(instruction) {
+            return false;
+        }
+        match self.run.top() {
+            Some(value) => value.size() > host.value_limit() as u64,
+            None => false,
         }
     }
 
@@ -230,7 +310,7 @@ impl Machine {
         if let Err(_exhausted) = self.charge(instruction) {
             return Err(Halt::Fault(Error::from(ErrorKind::OutOfFuel)));
         }
-        self.perform(alloc, host, base, code, instruction, writer)
+        self.perform_within(alloc, host, base, code, instruction, writer)
     }
 
     /// Charges and performs the instruction at the place, if there is one and it can be done at

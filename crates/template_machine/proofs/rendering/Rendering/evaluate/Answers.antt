@@ -15,7 +15,7 @@ returns-in_err-result-clause-evaluated g c = λ of.
     let stated = g.O.Parties.stated in
     let t = c.args.self.now in
     let old = c.args.state.now in
-    let ks = c.new.result in
+    let ks = c.within-captures.result in
     let left : Config = c.run-result.new.self in
     let why = c.in_err-result.field-0.0 in
     let stream_is : c.in_ok-stream.stream ≡ old.stream = search rules in
@@ -25,7 +25,7 @@ returns-in_err-result-clause-evaluated g c = λ of.
     ∙ ap (λ w. running (run_from old.stream (length ks)) ks w) world_is in
     passed c.from_residual-in_err-result.result (Evaluated (value_meant stated t old)) (error_of why) c.from_residual-in_err-result.ensures.1
     (evaluated_failed (meaning_from stated t old) left.world ks why
-    (over_halted stated t ks left.captures old left.world untold untold c.new-machine.result begins (inl c.new.ensures) of why left.world (λ own. refl)
+    (over_halted stated t ks left.captures old left.world untold untold c.new-machine.result begins (inl c.within-captures.ensures) of why left.world (λ own. refl)
     c.in_err-result.ensures.ended c.in_err-result.ensures.beginning c.in_err-result.ensures.failures))
 
 pub returns-in-Some-clause-evaluated : goal.returns-in-Some-clause-evaluated
@@ -33,7 +33,7 @@ returns-in-Some-clause-evaluated g c = λ of.
     let stated = g.O.Parties.stated in
     let t = c.args.self.now in
     let old = c.args.state.now in
-    let ks = c.new.result in
+    let ks = c.within-captures.result in
     let left : Config = c.run-result.new.self in
     let us = left.run.operands in
     let v = c.in-Some.value in
@@ -48,17 +48,17 @@ returns-in-Some-clause-evaluated g c = λ of.
     let ended = c.in_ok-result.ensures.ended in
     let m = meaning_from stated t old in
     evaluated_one m put us v c.with_maps.result
-    (over_answers stated t ks left.captures old left.world untold untold c.new-machine.result begins (inl c.new.ensures) of us ended
+    (over_answers stated t ks left.captures old left.world untold untold c.new-machine.result begins (inl c.within-captures.ensures) of us ended
     ∙ ap (λ w. Ok w) (sym c.into_value-value.ensures.state))
-    (over_leaves stated t ks left.captures old left.world untold untold c.new-machine.result begins (inl c.new.ensures) of us ended)
-    one c.with_maps.ensures
+    (over_leaves stated t ks left.captures old left.world untold untold c.new-machine.result begins (inl c.within-captures.ensures) of us ended)
+    one c.with_maps.ensures.answer
 
 pub returns-in-None-clause-evaluated : goal.returns-in-None-clause-evaluated
 returns-in-None-clause-evaluated g c = λ of.
     let stated = g.O.Parties.stated in
     let t = c.args.self.now in
     let old = c.args.state.now in
-    let ks = c.new.result in
+    let ks = c.within-captures.result in
     let left : Config = c.run-result.new.self in
     let us = left.run.operands in
     let stream_is : c.in_ok-stream.stream ≡ old.stream = search rules in
@@ -71,8 +71,8 @@ returns-in-None-clause-evaluated g c = λ of.
     let ended = c.in_ok-result.ensures.ended in
     subst (λ chain. Evaluated (value_meant stated t old) (Err chain)) (sym c.from.ensures)
     (evaluated_none (meaning_from stated t old) left.world us
-    (over_answers stated t ks left.captures old left.world untold untold c.new-machine.result begins (inl c.new.ensures) of us ended)
-    (over_leaves stated t ks left.captures old left.world untold untold c.new-machine.result begins (inl c.new.ensures) of us ended) many)
+    (over_answers stated t ks left.captures old left.world untold untold c.new-machine.result begins (inl c.within-captures.ensures) of us ended)
+    (over_leaves stated t ks left.captures old left.world untold untold c.new-machine.result begins (inl c.within-captures.ensures) of us ended) many)
 
 -- ---------------------------------------------------------------- of streams
 pub returns-in_err-result-clause-streams : goal.returns-in_err-result-clause-streams
@@ -80,7 +80,7 @@ returns-in_err-result-clause-streams g c = λ sound.
     let stated = g.O.Parties.stated in
     let t = c.args.self.now in
     let old = c.args.state.now in
-    let ks = c.new.result in
+    let ks = c.within-captures.result in
     let left : Config = c.run-result.new.self in
     let why = c.in_err-result.field-0.0 in
     let stream_is : c.in_ok-stream.stream ≡ old.stream = search rules in
@@ -89,7 +89,7 @@ returns-in_err-result-clause-streams g c = λ sound.
     c.new-machine.ensures ∙ ap (λ s. running (run_from s (length ks)) ks c.take.result) stream_is
     ∙ ap (λ w. running (run_from old.stream (length ks)) ks w) world_is in
     passed c.from_residual-in_err-result.result (StreamValue stated t old) (error_of why) c.from_residual-in_err-result.ensures.1
-    (value_failed stated t old left.world ks c.new.ensures why
+    (value_failed stated t old left.world ks c.within-captures.ensures why
     (streams_halted stated t c.accepted.ensures ks old left.world sound untold untold c.new-machine.result begins left.world why (λ own. refl)
     c.in_err-result.ensures.ended c.in_err-result.ensures.beginning c.in_err-result.ensures.failures))
 
@@ -98,7 +98,7 @@ returns-in-Some-clause-streams g c = λ sound.
     let stated = g.O.Parties.stated in
     let t = c.args.self.now in
     let old = c.args.state.now in
-    let ks = c.new.result in
+    let ks = c.within-captures.result in
     let left : Config = c.run-result.new.self in
     let us = left.run.operands in
     let v = c.in-Some.value in
@@ -112,7 +112,7 @@ returns-in-Some-clause-streams g c = λ sound.
     subst (λ o. MatchOption o (length us ≡ 1 → ⊥) (λ x. us ≡ x ∷ [])) c.in-Some.is c.into_value-value.ensures.value in
     let end = streams_end stated t c.accepted.ensures ks old left.world sound untold untold c.new-machine.result begins us left.captures
     c.in_ok-result.ensures.ended in
-    value_one stated t old put ks c.new.ensures us left.captures v c.with_maps.result one c.with_maps.ensures
+    value_one stated t old put ks c.within-captures.ensures us left.captures v c.with_maps.result one c.with_maps.ensures.answer
     (end.0, subst (λ x. StreamEnds stated t ks old end.0 (Finished us left.captures x)) (sym c.into_value-value.ensures.state) end.1)
 
 pub returns-in-None-clause-streams : goal.returns-in-None-clause-streams
@@ -120,7 +120,7 @@ returns-in-None-clause-streams g c = λ sound.
     let stated = g.O.Parties.stated in
     let t = c.args.self.now in
     let old = c.args.state.now in
-    let ks = c.new.result in
+    let ks = c.within-captures.result in
     let left : Config = c.run-result.new.self in
     let us = left.run.operands in
     let stream_is : c.in_ok-stream.stream ≡ old.stream = search rules in
@@ -131,6 +131,6 @@ returns-in-None-clause-streams g c = λ sound.
     let many : length us ≡ 1 → ⊥ =
     subst (λ o. MatchOption o (length us ≡ 1 → ⊥) (λ x. us ≡ x ∷ [])) c.in-None.is c.into_value-value.ensures.value in
     subst (λ chain. StreamValue stated t old (Err chain)) (sym c.from.ensures)
-    (value_none stated t old left.world ks c.new.ensures us left.captures many
+    (value_none stated t old left.world ks c.within-captures.ensures us left.captures many
     (streams_end stated t c.accepted.ensures ks old left.world sound untold untold c.new-machine.result begins us left.captures
     c.in_ok-result.ensures.ended))

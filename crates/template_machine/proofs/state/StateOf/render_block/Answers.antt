@@ -29,14 +29,14 @@ returns-in_err-captures-clause-streams g c =
     let s = c.args.self.now in
     let why = c.in_err-captures.field-0.0 in
     let new = c.run_block.new.self.world in
-    let one : c.begin.new.self ≡ new_capture true ∷ [] = search rules in
+    let one : c.limit_texts.new.self ≡ new_capture true ∷ [] = search rules in
     passed c.from_residual-in_err-captures.result (λ r. BlockText g.O.Parties.stated s c.args.name.now r new) (error_of why)
     c.from_residual-in_err-captures.ensures.1
-    (block_text_failed g.O.Parties.stated s c.args.name.now new c.begin.new.self one why c.in_err-captures.ensures.streams)
+    (block_text_failed g.O.Parties.stated s c.args.name.now new c.limit_texts.new.self one why c.in_err-captures.ensures.streams)
 
 pub returns-clause-streams : goal.returns-clause-streams
 returns-clause-streams g c =
-    let one : c.begin.new.self ≡ new_capture true ∷ [] = search rules in
-    block_text_done g.O.Parties.stated c.args.self.now c.args.name.now c.run_block.new.self.world c.begin.new.self one
+    let one : c.limit_texts.new.self ≡ new_capture true ∷ [] = search rules in
+    block_text_done g.O.Parties.stated c.args.self.now c.args.name.now c.run_block.new.self.world c.limit_texts.new.self one
     c.in_ok-captures.captures c.end.new.self (is_heard c.in-Some._mode) c.in-Some.text (c.in_ok-captures.ensures.closed ∙ ap length one)
     c.in-Some.ensures c.in_ok-captures.ensures.streams

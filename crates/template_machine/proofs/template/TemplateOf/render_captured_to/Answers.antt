@@ -18,7 +18,7 @@ returns-in_err-_captures-clause-rendered g c = λ h of.
     λ r w. Rendered t (meaning_from g.O.Parties.stated t w) r told now in
     let came : Came c.from_residual-in_err-_captures.result c.in_ok-first.first =
     passed c.from_residual-in_err-_captures.result (λ r. Came r c.in_ok-first.first) (error_of why) c.from_residual-in_err-_captures.ensures.1
-    (rendered_failed (meaning_from g.O.Parties.stated t c.in_ok-first.first) c.run_over.new.state c.new.result c.new.ensures told now t why (c.in_err-_captures.ensures.ran of)) in
+    (rendered_failed (meaning_from g.O.Parties.stated t c.in_ok-first.first) c.run_over.new.state c.within-captures.result c.within-captures.ensures told now t why (c.in_err-_captures.ensures.ran of)) in
     subst (Came c.from_residual-in_err-_captures.result) c.in_ok-first.ensures.state came
 
 pub returns-in_err-_captures-clause-streams : goal.returns-in_err-_captures-clause-streams
@@ -33,7 +33,7 @@ returns-in_err-_captures-clause-streams g c = λ h.
     subst (λ (w : World). SoundRecords t w) (sym c.in_ok-first.ensures.state) (λ shapes all. tt) in
     let came : Came c.from_residual-in_err-_captures.result c.in_ok-first.first =
     passed c.from_residual-in_err-_captures.result (λ r. Came r c.in_ok-first.first) (error_of why) c.from_residual-in_err-_captures.ensures.1
-    (into_failed g.O.Parties.stated t c.in_ok-first.first c.run_over.new.state c.new.result c.new.ensures told now
+    (into_failed g.O.Parties.stated t c.in_ok-first.first c.run_over.new.state c.within-captures.result c.within-captures.ensures told now
     (IsStreamEnd t) (λ chain Ends ends. (c.run_over.new.state, ends)) why (c.in_err-_captures.ensures.streams sound)) in
     subst (Came c.from_residual-in_err-_captures.result) c.in_ok-first.ensures.state came
 
@@ -45,15 +45,15 @@ returns-clause-streams g c = λ h.
     let Captured : Type 0 = CapturedValue (StateValue g.row.O.Denot) in
     let sound : SoundRecords t c.in_ok-first.first =
     subst (λ (w : World). SoundRecords t w) (sym c.in_ok-first.ensures.state) (λ shapes all. tt) in
-    subst (λ (w : World). Streamed g.O.Parties.stated t w (Ok c.new-4.result) (IsStreamEnd t (Ok c.new-4.result)) told now) c.in_ok-first.ensures.state
-    (into_done g.O.Parties.stated t c.in_ok-first.first c.run_over.new.state c.new.result c.new.ensures told now (IsStreamEnd t)
-    c.in_ok-_captures._captures c.new-4.result
-    (state_ended t c.rendering.result c.run_over.new.state c.in_ok-_captures._captures c.new-3.result c.new-4.result c.rendering.ensures.same
-    c.new-3.ensures (ap (λ (x : Captured). x.output) c.new-4.ensures ∙ c.new-2.ensures.bytes) (ap (λ (x : Captured). x.state) c.new-4.ensures))
+    subst (λ (w : World). Streamed g.O.Parties.stated t w (Ok c.new-3.result) (IsStreamEnd t (Ok c.new-3.result)) told now) c.in_ok-first.ensures.state
+    (into_done g.O.Parties.stated t c.in_ok-first.first c.run_over.new.state c.within-captures.result c.within-captures.ensures told now (IsStreamEnd t)
+    c.in_ok-_captures._captures c.new-3.result
+    (state_ended t c.rendering.result c.run_over.new.state c.in_ok-_captures._captures c.new-2.result c.new-3.result c.rendering.ensures.same
+    c.new-2.ensures (ap (λ (x : Captured). x.output) c.new-3.ensures ∙ c.new.ensures.bytes) (ap (λ (x : Captured). x.state) c.new-3.ensures))
     (c.in_ok-_captures.ensures.streams sound))
 
-pub new-requires-3 : goal.new-requires-3
-new-requires-3 g c =
+pub new-requires-2 : goal.new-requires-2
+new-requires-2 g c =
     let t = c.args.self.now in
     let sound : SoundRecords t c.in_ok-first.first =
     subst (λ (w : World). SoundRecords t w) (sym c.in_ok-first.ensures.state) (λ shapes all. tt) in

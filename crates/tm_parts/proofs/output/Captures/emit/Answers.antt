@@ -1,4 +1,4 @@
-use Rattle.std.proofs.Common.{◌≡◌, ◌∙◌, Bool, List, ℕ, [], ◌∷◌, ◌++◌, Option, ap, reverse, string_bytes, take, Err, subst, sym, rules}
+use Rattle.std.proofs.Common.{◌≡◌, ◌∙◌, Bool, List, ℕ, [], ◌∷◌, ◌++◌, Option, ap, reverse, take, Err, subst, sym, rules}
 use Rattle.std.proofs.lemmas.List.{append-nil, reverse-append}
 use Rattle.std.specs.Io.KnownBytes.{Appends}
 use Rattle.tm_meaning.specs.Instructions.{is_heard}
@@ -60,9 +60,9 @@ returns-clause-part g c =
     elim c.match-appended.branch [
       | in-Ok-appended w ↦ search rules
       | in-Err w ↦
-          let part = part_of string_bytes w.in-Err.field-0 _ _ _ w.in-Err.ensures in
+          let part = part_of (λ (bytes : List ℕ). bytes) w.in-Err.field-0 _ _ _ w.in-Err.ensures in
           let below : List Capture = c.pop.new.self.items in
-          let after : Capture = record { heard = is_heard c.innermost.inside.mode; text = string_bytes c.emit-appended.new.target } in
+          let after : Capture = record { heard = is_heard c.innermost.inside.mode; text = c.emit-appended.new.target } in
           let old_is : c.args.self.now ≡ c.in-Some.innermost ∷ reverse below =
           sym c.self.view_is ∙ ap reverse c.in-Some.ensures.items ∙ reverse-append below (c.in-Some.innermost ∷ []) in
           let now_is : reverse c.push_reserved.new.self.items ≡ after ∷ reverse below =

@@ -1,10 +1,11 @@
-use Rattle.std.proofs.Common.{subst, sym}
-use Rattle.tm_syntax.specs.Named.{Named}
-use Rattle.tm_scopes.proofs.Places.{ordered-none}
-use Rattle.tm_scopes.specs.Places.{AreOrdered}
-use Rattle.tm_templates.specs.Templates.{Compiled, EachAccepted}
+use Rattle.std.proofs.Common.{ap, subst, sym}
+use Rattle.tm_syntax.specs.Named.{named_of}
+use Rattle.tm_templates.specs.Templates.{ArePlacesOf, EachAccepted, placed}
+use Rattle.tm_templates.proofs.Placed.{places_of_none}
 use Rattle.tm_templates.proofs.templates.Templates.new.Goals as goal
 
 pub invariant_of-result : goal.invariant_of-result
 invariant_of-result c =
-    subst (λ (l : Named Compiled). AreOrdered l × EachAccepted l) (sym c.new.ensures.items) (ordered-none Compiled, tt)
+    let es = c.new-2.result.items in
+    subst (λ ps. ArePlacesOf ps es × EachAccepted (placed es ps)) (ap named_of (sym c.new.ensures.empty))
+    (places_of_none es c.new-2.ensures.items, tt)

@@ -6,7 +6,7 @@ use Rattle.tm_state.specs.State.{put_back}
 use Rattle.tm_parts.specs.Halts.{failures_after}
 use Rattle.tm_vm.specs.Answers.{HaltsAs}
 use Rattle.tm_vm.specs.declared.flow.Flow.TheVariants as flow
-use Rattle.tm_vm.proofs.Loop.{at_base, fixed_same, fixed_then, stands_first, stands_next, stands_again, stands_after, stands_called, beginning_at, beginning_in}
+use Rattle.tm_vm.proofs.Loop.{at_base, fixed_same, fixed_then, stands_first, stands_next, stands_again, stands_after, stands_called, stands_ahead, beginning_at, beginning_in}
 use Rattle.tm_parts.specs.declared.halt.Halt.TheVariants as halt
 use Rattle.tm_records.specs.declared.nested.NestedRun.{NestedRun}
 use Rattle.tm_vm.specs.Nested.{EndsNested, IsWrapped, RanNested, Went, WroteBeginning, base_in, begins_in}
@@ -64,6 +64,29 @@ run-steps-preserved-in-Ok-GoOn g t c =
       same_stream = step.same_stream ∙ c.steps.invariant.same_stream;
       parents = omega (arith, parents, c.steps.invariant.parents);
       stands = stands_next c.step.new.self new c.steps.invariant.stands did;
+    }
+
+pub run-steps-preserved-in-Ok-Ahead : goal.run-steps-preserved-in-Ok-Ahead
+run-steps-preserved-in-Ok-Ahead g t c =
+    let p = g.H.Host.program c.args.host.now in
+    let a = c.args.self.now in
+    let now = (g.W.Sink.told c.steps.writer).bytes in
+    let new = (g.W.Sink.told c.step.new.writer).bytes in
+    let step = rw c.in-Ok-Ahead.field-0-is at c.in-Ok-Ahead.ensures.performs in
+    let paid = rw c.in-Ok-Ahead.field-0-is at c.in-Ok-Ahead.ensures.paid in
+    let did = at_base p c.steps.self c.step.new.self now new (Ok flow.Ahead) c.base-base.result
+    (base_of c.args.heard a.captures a.world) c.base-base.ensures step.did in
+    let names = step.names.0 in
+    let parents = paid.1 in
+    record {
+      failures = step.counted ∙ c.steps.invariant.failures;
+      kept = fixed_then c.steps.invariant.kept step.kept;
+      names = omega (arith, names, c.steps.invariant.names);
+      no_fewer = above_base c.args.heard a.captures a.world c.base-base.result c.steps.self.world c.step.new.self.world
+          c.base-base.ensures c.steps.invariant.no_fewer step.depths;
+      same_stream = step.same_stream.0 ∙ c.steps.invariant.same_stream;
+      parents = omega (arith, parents, c.steps.invariant.parents);
+      stands = stands_ahead c.step.new.self new c.steps.invariant.stands did;
     }
 
 pub run-steps-preserved-in-Ok-Called : goal.run-steps-preserved-in-Ok-Called

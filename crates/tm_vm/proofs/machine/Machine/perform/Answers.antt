@@ -1,8 +1,8 @@
-use Rattle.tm_vm.proofs.Performed.{loads, needed, opened, silent, wrote}
+use Rattle.tm_vm.proofs.Performed.{gone_ahead, loads, needed, opened, silent, wrote}
 use Rattle.tm_vm.proofs.machine.Machine.perform.Goals as goal
 
 pub returns-in-Add : goal.returns-in-Add
-returns-in-Add g c = rw c.in-Add.is (silent c.do_binary-in-Add.result c.do_binary-in-Add.ensures)
+returns-in-Add g c = rw c.in-Add.is (gone_ahead c.do_sum.result c.do_sum.ensures)
 
 pub returns-in-ApplyFilter : goal.returns-in-ApplyFilter
 returns-in-ApplyFilter g c = rw c.in-ApplyFilter.is (needed c.do_apply_filter.result c.do_apply_filter.ensures)
@@ -175,7 +175,7 @@ pub returns-in-StoreLocal : goal.returns-in-StoreLocal
 returns-in-StoreLocal g c = rw c.in-StoreLocal.is (silent c.do_store_local.result c.do_store_local.ensures)
 
 pub returns-in-StringConcat : goal.returns-in-StringConcat
-returns-in-StringConcat g c = rw c.in-StringConcat.is (silent c.do_binary-in-StringConcat.result c.do_binary-in-StringConcat.ensures)
+returns-in-StringConcat g c = rw c.in-StringConcat.is (gone_ahead c.do_sum-in-StringConcat.result c.do_sum-in-StringConcat.ensures)
 
 pub returns-in-Sub : goal.returns-in-Sub
 returns-in-Sub g c = rw c.in-Sub.is (silent c.do_binary-in-Sub.result c.do_binary-in-Sub.ensures)

@@ -1,5 +1,5 @@
 use Rattle.std.proofs.Common.{◌≡◌, ◌++◌, take}
-use Rattle.tm_values.proofs.sharing.share_all.Given as goal
+use Rattle.tm_values.proofs.sharing.share_each.Given as goal
 
 -- what was shared so far stands after what was there
 abbrev pub invariant-loop-value : goal.invariant-loop-value

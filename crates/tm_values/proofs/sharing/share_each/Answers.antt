@@ -1,6 +1,6 @@
 use Rattle.std.proofs.lemmas.Grind.{common_steps}
 use Rattle.std.proofs.Common.{rules, arith}
-use Rattle.tm_values.proofs.sharing.share_all.Goals as goal
+use Rattle.tm_values.proofs.sharing.share_each.Goals as goal
 
 pub returns-in_err-reserve-clause-items : goal.returns-in_err-reserve-clause-items
 returns-in_err-reserve-clause-items c = search rules fits 100

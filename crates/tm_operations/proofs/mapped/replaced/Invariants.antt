@@ -1,7 +1,7 @@
 use Rattle.std.proofs.Common.{◌≡◌}
 use Rattle.tm_definitions.specs.Mapped.{with_maps}
 use Rattle.tm_operations.specs.Begun.{AllAscend, comes_to, left_to_make}
-use Rattle.tm_operations.proofs.mapped.with_maps.Given as goal
+use Rattle.tm_operations.proofs.mapped.replaced.Given as goal
 
 abbrev pub invariant-loop-next : goal.invariant-loop-next
 invariant-loop-next g l =

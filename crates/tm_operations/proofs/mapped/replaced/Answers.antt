@@ -2,7 +2,7 @@ use Rattle.std.proofs.Common.{rules, [], subst}
 use Rattle.tm_definitions.specs.Mapped.{with_maps}
 use Rattle.tm_operations.specs.Begun.{AllAscend}
 use Rattle.tm_operations.proofs.Making.{starts, part_fails, part_comes, part_shrinks, made_last, made_comes, made_shrinks, ascend_but_last}
-use Rattle.tm_operations.proofs.mapped.with_maps.Goals as goal
+use Rattle.tm_operations.proofs.mapped.replaced.Goals as goal
 
 pub loop-next-init : goal.loop-next-init
 loop-next-init g c =

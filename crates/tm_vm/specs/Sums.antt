@@ -1,0 +1,26 @@
+-- Operators that add two values up.
+use Rattle.std.specs.Prelude.{◌≡◌, ◌+◌, ℕ, List, [], ◌∷◌, Ok, Some, slice_get}
+use Rattle.tm_definitions.specs.Arithmetic.{added}
+use Rattle.tm_meaning.specs.Machine.{Config, Program}
+use Rattle.tm_meaning.specs.Operators.{result_of}
+use Rattle.tm_meaning.specs.World.{find_name, view_of}
+use Rattle.tm_syntax.specs.declared.tree.BinaryOperator.{BinaryOperator}
+use Rattle.tm_trees.specs.Instructions.instructions
+use Rattle.tm_values.specs.Records.{RecordData}
+use Rattle.tm_values.specs.Val.{Val}
+use Rattle.tm_values.specs.declared.undefined.UndefinedBehavior.{UndefinedBehavior}
+
+-- The operator's result is the sum of the two values.
+abbrev pub IsSumOf : BinaryOperator → Val → Val → Type 0
+IsSumOf op a b = (u : UndefinedBehavior) (r : RecordData) → result_of op u r a b ≡ added a b
+
+-- The same of the two operands on top, if there are two.
+abbrev pub AddsUp : BinaryOperator → List Val → Type 0
+AddsUp op (b ∷ a ∷ rest) = IsSumOf op a b
+AddsUp op _ = Unit {0}
+
+-- The next instruction looks a name up, and it is bound to this value.
+pub record IsFoundNext (p : Program) (c : Config) (v : Val) : Type 0 where
+  pub name : List ℕ
+  pub next : slice_get (p.code c.run.stream) (c.run.place + 1) ≡ Some (instructions.Lookup name)
+  pub found : find_name (view_of p.host c.world) name ≡ Ok (Some v)
