@@ -42,7 +42,9 @@ def is_kept(rtlib, crate):
 def take_proved(made, crates):
     """Gives these crates, lowest first, the libraries that `rt ci` proved on this machine from the same sources, in any checkout.
 
-    Returns the names of those that it hasn't. They go to where `rt check` looks for them, out/rlib."""
+    Returns the names of those that it hasn't. They go to where `rt check` looks for them, out/rlib. A kit that keeps no libraries has none."""
+    if not hasattr(made, "Kept"):
+        return [it.name for it in crates]
     made.Crate.allowed = made.handles_of(ROOT)
     held, missing = made.Kept(crates), []
     for crate in crates:
@@ -57,3 +59,20 @@ def take_proved(made, crates):
         else:
             missing.append(crate.name)
     return missing
+
+
+def take_from(checkout, crates):
+    """Has these crates read the libraries that `rt ci` left in another checkout, and returns the names of those whose files differ there.
+
+    The statements of these are taken as they are there, which is right as long as only bodies and proofs were changed."""
+    differ = []
+    for crate in crates:
+        there = f"{checkout}/crates/{os.path.basename(crate.folder)}"
+        crate.rlib = f"{there}/{os.path.relpath(crate.rlib, crate.folder)}"
+        if not os.path.isdir(crate.rlib):
+            sys.exit(f"{there} has no library that rt ci left")
+        parts = [f"{it}/{part}" for it in (crate.folder, there) for part in ("src", "specs", "proofs")]
+        own, others = ([p for p in parts if p.startswith(f"{it}/") and os.path.isdir(p)] for it in (crate.folder, there))
+        is_same = len(own) == len(others) and all(subprocess.run(["diff", "-rq", *it], capture_output=True).returncode == 0 for it in zip(own, others))
+        differ += [] if is_same else [crate.name]
+    return differ

@@ -111,6 +111,10 @@ pub(crate) const GROWTH: &str = r#"Texts and lists that grow.
 - {% set a = [1] %}{% macro m() %}{{ a }}{% endmacro %}{% set a = a + [2] %}{{ m() }}{{ a }} => [1, 2][1, 2] => ok
 - {% autoescape "html" %}{% set a %}<{% endset %}{% set a = a ~ "<" %}{{ a }}{% endautoescape %} => &lt;&lt; => ok
 - {% set n = namespace(s="") %}{% for i in range(3) %}{% set n.s = n.s ~ "ab" %}{% endfor %}{{ n.s }} => ababab => ok
+- {% set n = namespace(s="") %}{% for i in range(3) %}{% set n.s = n.s ~ i %}{% endfor %}{{ n.s }} => 012 => ok
+- {% set n = namespace(s="x") %}{% set t = n.s %}{% set n.s = n.s ~ -12 %}{{ t }}{{ n.s }} => xx-12 => ok
+- {% set n = namespace(s="x") %}{% set n.s = n.s ~ true %}{% set n.s = n.s ~ none %}{{ n.s }} => xtruenone => ok
+- {% set n = namespace(s="x") %}{% set n.s = n.s ~ 1 %}{% set n.s = n.s + 1 %} =>  => InvalidOperation
 - {% set n = namespace(v=[]) %}{% for i in range(3) %}{% set n.v = n.v + [i] %}{% endfor %}{{ n.v }} => [0, 1, 2] => ok
 - {% set n = namespace(v=[1]) %}{% set k = n.v %}{% set n.v = n.v + [2] %}{{ k }}{{ n.v }} => [1][1, 2] => ok
 - {% set n = namespace(v=[1], w=[2]) %}{% set n.w = n.v + [3] %}{{ n.v }}{{ n.w }} => [1][1, 3] => ok

@@ -191,6 +191,31 @@ impl Context {
         Ok(None)
     }
 
+    /// What `name` is bound to in the scopes, if that is a value which is found without closures and
+    /// records; an inner scope wins over an outer one. None if only `find` can tell.
+    #[inline(never)]
+    pub fn find_at_once(&self, name: &Name) -> Option<&Value>
+        ensures { IfSome result (λ v. (view : View) →
+            in_frames view name.now self.now.frames ≡ Ok (Some v.now)) }
+    {
+        let mut i = self.marks.len();
+        let mut end = self.pairs.len();
+        while i > 0 {
+            i -= 1;
+            let mark = &self.marks[i];
+            match mark.get(&self.pairs[mark.first..end], name) {
+                Some(own) => return Some(own),
+                None => {}
+            }
+            match mark.frame.member_at_once(name)? {
+                Some(member) => return Some(member),
+                None => {}
+            }
+            end = mark.first;
+        }
+        None
+    }
+
     /// The names that are bound in the scopes or among the globals, each once, in order.
     /// InvalidOperation if a context value is a namespace without a record; OutOfMemory.
     pub fn known_names<'a, R: Records>(

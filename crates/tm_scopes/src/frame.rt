@@ -1,9 +1,9 @@
 //! One scope, and what a lookup in scopes finds.
-ghost use Rattle.std.specs.Prelude.{ℕ, option_map, ◌≡◌, ◌||◌, [], ◌∷◌, None, false, OnOk, IfErr, IfOk, Some};
+ghost use Rattle.std.specs.Prelude.{ℕ, option_map, ◌≡◌, ◌||◌, [], ◌∷◌, None, false, OnOk, IfErr, IfOk, IfSome, Ok, Some};
 ghost use Rattle.tm_syntax.specs.Named.{texts_of};
 ghost use Rattle.tm_values.specs.Answer.{OkOrOutOfMemory};
 ghost use Rattle.tm_values.specs.Val.{loop, undefined};
-ghost use Rattle.tm_meaning.specs.World.{plain_scope, loop_scope, marked_loop, context_member, is_exported};
+ghost use Rattle.tm_meaning.specs.World.{View, in_frames, plain_scope, loop_scope, marked_loop, context_member, is_exported};
 ghost use Rattle.tm_scopes.specs.Found.{IsHeld, IsFoundIn, meant_by};
 ghost use Rattle.tm_scopes.specs.Known.{AddsFound, AreMembers, NamingFails, has_text, is_among};
 
@@ -167,6 +167,25 @@ impl Frame {
         match self.context_member(name.as_str(), records)? {
             Some(member) => Ok(Some(Found::Value(member))),
             None => Ok(None),
+        }
+    }
+
+    /// The member of the context value that `name` is bound to, if the scope binds it to nothing
+    /// else. None if only `get` can tell: if `name` means the scope's loop, or the scope reads a
+    /// closure, or its context value is neither a map nor undefined.
+    #[inline(always)]
+    pub(crate) fn member_at_once(&self, name: &Name) -> Option<Option<&Value>>
+        ensures { IfSome result (λ found. (view : View) →
+            IsHeld (Ok found) (in_frames view name.now (self.now ∷ []))) }
+    {
+        self.is_bare();
+        if self.reads.is_some() || self.named_loop(name.as_str()).is_some() {
+            return None;
+        }
+        match &self.context.node {
+            Node::Undefined(_) => Some(None),
+            Node::Map(_, _) => Some(self.context.member(name.as_str())),
+            _ => None,
         }
     }
 

@@ -151,6 +151,19 @@ impl StateData {
         self.context.local(name)
     }
 
+    /// What `name` is bound to in the scopes, if that is a value which is found without closures and
+    /// records. None if only `lookup` can tell.
+    #[inline(always)]
+    pub fn find_at_once(&self, name: &Name) -> Option<&Value>
+        ensures { IfSome result (λ v. (host : HostValue) →
+            find_name (view_of host self.now) name.now ≡ Ok (Some v.now)) }
+    {
+        match self.context.local(name) {
+            Some(own) => Some(own),
+            None => self.context.find_at_once(name),
+        }
+    }
+
     /// What an object of the caller sees of the state.
     pub fn view<'a, H: Host>(&'a self, host: &'a H) -> View<'a>
         ensures { result ≡ view_of (H.program host.now).host self.now }

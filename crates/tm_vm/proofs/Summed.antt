@@ -17,21 +17,21 @@ use Rattle.tm_state.specs.Growth.{SetsSum}
 use Rattle.tm_vm.proofs.Ground.{standing}
 use Rattle.tm_vm.specs.Answers.{IsAhead, SilentlyAhead}
 use Rattle.tm_vm.specs.declared.flow.Flow.TheVariants as flow
-use Rattle.tm_vm.specs.Sums.{AddsUp, IsFoundNext, IsSumOf}
+use Rattle.tm_vm.specs.Sums.{AddsUp, IsFoundNext, IsSumOf, summand_of}
 
 -- after the sum
 abbrev summed_at : Val → List Val → Config → Config
 summed_at sum rest c = record c { run = record c.run { operands = sum ∷ rest; place = c.run.place + 1 } }
 
 sums : (p : Program) (op : BinaryOperator) (b a sum : Val) (rest : List Val) (old : Config) → old.run.operands ≡ b ∷ a ∷ rest → IsSumOf op a b →
-    added a b ≡ Ok sum → binary_of p.host op old ≡ More [] (summed_at sum rest old)
+    added a (summand_of b) ≡ Ok sum → binary_of p.host op old ≡ More [] (summed_at sum rest old)
 sums p op b a sum rest old there adds_up is =
     ap (λ vs. on_top vs old.world (λ v us. on_top us old.world (λ w ts.
     after (answered (result_of op p.host.undefined (records_of old.world) w v) old.world) (λ y z. goes (y ∷ ts) z old)))) there
     ∙ ap (λ r. after (answered r old.world) (λ y z. goes (y ∷ rest) z old)) (adds_up p.host.undefined (records_of old.world) ∙ is)
 
 module _ (p : Program) (op : BinaryOperator) (x : List ℕ) (b a sum : Val) (rest : List Val) (old : Config)
-    (there : old.run.operands ≡ b ∷ a ∷ rest) (adds_up : IsSumOf op a b) (is : added a b ≡ Ok sum)
+    (there : old.run.operands ≡ b ∷ a ∷ rest) (adds_up : IsSumOf op a b) (is : added a (summand_of b) ≡ Ok sum)
     (stored : slice_get (p.code old.run.stream) (old.run.place + 1) ≡ Some (instructions.StoreLocal x)) (pays : CanPay 1 old.world.fuel) where
   -- after the store
   abbrev pub stored_at : Config
@@ -57,7 +57,7 @@ module _ (p : Program) (op : BinaryOperator) (x : List ℕ) (b a sum : Val) (res
   }
 
 module _ (p : Program) (op : BinaryOperator) (x : List ℕ) (b a sum object : Val) (rest : List Val) (old : Config) (w : World)
-    (there : old.run.operands ≡ b ∷ a ∷ rest) (adds_up : IsSumOf op a b) (is : added a b ≡ Ok sum) (found : IsFoundNext p old object)
+    (there : old.run.operands ≡ b ∷ a ∷ rest) (adds_up : IsSumOf op a b) (is : added a (summand_of b) ≡ Ok sum) (found : IsFoundNext p old object)
     (set : slice_get (p.code old.run.stream) (old.run.place + 2) ≡ Some (instructions.SetAttr x)) (pays : CanPay 2 old.world.fuel)
     (member : set_member x sum object (record old.world { fuel = old.world.fuel - 2 }) ≡ Good tt w) where
   -- after the look-up
@@ -107,7 +107,7 @@ module _ (p : Program) (op : BinaryOperator) (x : List ℕ) (b a sum object : Va
 module _ (p : Program) (op : BinaryOperator) (x : List ℕ) (object right left : Val) (most : ℕ) (old : Config)
     (first second last : Activation) (paid new : World) (popped : old.run ≡ record first { operands = right ∷ first.operands })
     (popped_again : first ≡ record second { operands = left ∷ second.operands })
-    (is_paid : paid ≡ record old.world { fuel = old.world.fuel - 2 }) (set_to : SetsSum x object left right most paid new)
+    (is_paid : paid ≡ record old.world { fuel = old.world.fuel - 2 }) (set_to : SetsSum x object left (summand_of right) most paid new)
     (rest : new ≡ record paid { namespaces = new.namespaces }) (moved : last ≡ record second { place = old.run.place + 3 })
     (found : IsFoundNext p old object)
     (set : slice_get (p.code old.run.stream) (old.run.place + 2) ≡ Some (instructions.SetAttr x)) (pays : CanPay 2 old.world.fuel)

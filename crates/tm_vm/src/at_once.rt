@@ -33,7 +33,7 @@ impl Machine {
         self.run.advance();
     }
 
-    /// Pushes the value that the innermost scope itself binds to `name`.
+    /// Pushes the value that a scope binds to `name`, if it is found at once.
     #[inline(always)]
     fn lookup_at_once(&mut self, name: &Name) -> bool
         requires in_place { CanGoOn self.old.run }
@@ -41,7 +41,7 @@ impl Machine {
         ensures { (host : HostValue) →
             IsAtOnce result (lookup_of host name.now) self.old self.new }
     {
-        let Some(value) = self.state.local(name) else {
+        let Some(value) = self.state.find_at_once(name) else {
             return false;
         };
         if !self.run.push_shared(value) {

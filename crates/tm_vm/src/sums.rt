@@ -5,18 +5,21 @@ ghost use Rattle.tm_meaning.specs.World.{CanPay, find_name, view_of};
 ghost use Rattle.tm_runs.specs.Runs.{CanGoOn};
 ghost use Rattle.tm_trees.specs.Instructions.instructions;
 ghost use Rattle.tm_vm.specs.Answers.{SilentlyAhead};
-ghost use Rattle.tm_vm.specs.Sums.{AddsUp, IsFoundNext, IsSumOf};
+ghost use Rattle.tm_values.specs.Answer.{IsAnswer};
+ghost use Rattle.tm_vm.specs.Sums.{AddsUp, IsFoundNext, IsSumOf, summand_of};
 
 use crate::flow::Flow;
 use crate::machine::Machine;
 use std::alloc::Global;
 use tm_parts::Halt;
+use tm_printing::concatenate;
 use tm_shapes::Verified;
 use tm_syntax::{BinaryOperator, Instruction, Name};
 use tm_tables::Host;
-use tm_values::{Node, Value};
+use tm_values::{Error, NoRecords, Node, UndefinedBehavior, Value};
 
-/// Whether `operator` adds these two values up: two texts, or two lists with `+`.
+/// Whether `operator` adds these two values up: two texts, a text and a number with `~`, or two lists
+/// with `+`.
 fn adds_up(operator: BinaryOperator, left: &Value, right: &Value) -> bool
     ensures { IsTrue result → IsSumOf operator left.now right.now }
 {
@@ -25,8 +28,23 @@ fn adds_up(operator: BinaryOperator, left: &Value, right: &Value) -> bool
             BinaryOperator::Add | BinaryOperator::Concatenate => true,
             _ => false,
         },
+        (Node::Text(_, _), Node::Number(_)) => operator == BinaryOperator::Concatenate,
         (Node::List(_, _), Node::List(_, _)) => operator == BinaryOperator::Add,
         _ => false,
+    }
+}
+
+/// What is added for `right`: the text of a number, else the value itself. OutOfMemory if memory runs
+/// out.
+fn summand(alloc: Global, right: Value) -> Result<Value, Error>
+    ensures { IsAnswer result (Ok (summand_of right)) }
+{
+    match &right.node {
+        Node::Number(_) => {
+            let none = Value::text(alloc, "")?;
+            concatenate(alloc, &none, &right, &NoRecords, UndefinedBehavior::Lenient)
+        }
+        _ => Ok(right),
     }
 }
 
@@ -135,7 +153,7 @@ impl Machine {
         ensures { SilentlyAhead (H.program host.now)
             (binary_of (H.program host.now).host operator self.old) self.old self.new result }
     {
-        let right = self.run.popped()?;
+        let right = summand(alloc, self.run.popped()?)?;
         let left = self.run.popped()?;
         self.state.pay_one();
         self.state
@@ -164,7 +182,7 @@ impl Machine {
         ensures { SilentlyAhead (H.program host.now)
             (binary_of (H.program host.now).host operator self.old) self.old self.new result }
     {
-        let right = self.run.popped()?;
+        let right = summand(alloc, self.run.popped()?)?;
         let left = self.run.popped()?;
         self.state.pay_down_to(self.state.fuel_left() - 2);
         let most = host.value_limit() as u64;
