@@ -1,11 +1,14 @@
 -- What a place in a map gives, and that `put` keeps the order.
-use Rattle.std.proofs.Common.{◌≡◌, ◌≤◌, ◌<◌, ◌-◌, ℕ, zero, suc, true, List, [], ◌∷◌, length, get_or, set, Some, None, MatchResult, Result}
+use Rattle.std.proofs.Common.{◌≡◌, ◌≤◌, ◌<◌, ◌-◌, ◌+◌, ◌⊎◌, inl, inr, ℕ, zero, suc, Bool, true, false, true≢false, nat_eq, List, [], ◌∷◌, length, get_or, set, Some, None, MatchResult, Result}
 use Rattle.std.proofs.Common.{Ok, Err, Ordering, Less, Equal, Greater, refl, sym, ap, ◌∙◌, arith}
+use Rattle.std.proofs.lemmas.Bool.Decides.{nat_tests}
 use Rattle.std.proofs.lemmas.Cmp.{alike_right}
+use Rattle.std.proofs.lemmas.Slice.Eq.{bytes_eq-Decides}
+use Rattle.std.specs.Str.{bytes_eq}
 use Rattle.std.specs.Bool.{◌==◌}
 use Rattle.std.specs.List.{insert}
 use Rattle.std.specs.List.Sorted.{IsSearchInRange, IsBinarySearchResult, IsNonDecreasingBy}
-use Rattle.std.specs.Ordering.{match_ordering, ordering_index, ordering_reverse}
+use Rattle.std.specs.Ordering.{is_eq, match_ordering, ordering_index, ordering_reverse}
 use Rattle.tm_values.specs.Total.{val_cmp_total}
 use Rattle.tm_values.specs.Map.{put, find, IsAbove, IsMap, IsThere, IsGapFor}
 use Rattle.tm_values.specs.Order.{val_cmp}
@@ -159,3 +162,63 @@ end-gap k ps x m e low = record {
   lower_before = λ j d h. below_last k ps (length ps - 1) j d x m (omega arith) (omega arith) (e d) low;
   higher_after = λ j d h l. absurd (omega arith);
 }
+
+-- a key that is none of them isn't found
+none_by : (k : Val) (p : Val × Val) (ps : List (Val × Val)) (o : Ordering) → val_cmp p.0 k ≡ o → is_eq (val_cmp p.0 k) ≡ false →
+    find k ps ≡ None → find k (p ∷ ps) ≡ None
+none_by k p ps Less e other h = rw (turned p.0 k Less e) h
+none_by k p ps Equal e other h = absurd (true≢false (sym (ap is_eq e) ∙ other))
+none_by k p ps Greater e other h = rw (turned p.0 k Greater e)
+
+pub find-none : (k : Val) (ps : List (Val × Val)) →
+    ((j : ℕ) (d : Val × Val) → j < length ps → is_eq (val_cmp (get_or ps j d).0 k) ≡ false) → find k ps ≡ None
+find-none k [] h = refl
+find-none k (p ∷ ps) h =
+    none_by k p ps (val_cmp p.0 k) refl (h 0 p (omega arith)) (find-none k ps (λ j d l. h (suc j) d (omega (arith, l))))
+
+-- texts of different lengths are not the same
+both_false : (a b : Bool) → (a ≡ true → ⊥) → (b ≡ true → ⊥) → a ≡ b
+both_false false false h k = refl
+both_false true b h k = absurd (h refl)
+both_false false true h k = absurd (k refl)
+
+equal_lengths : (a b : ℕ) → nat_eq a b ≡ true → a ≡ b
+equal_lengths a b e = grind (arith, nat_tests, e)
+
+pub unlike : (xs ys : List ℕ) → (length xs ≡ length ys → ⊥) → nat_eq (length xs) (length ys) ≡ bytes_eq xs ys
+unlike xs ys differ =
+    both_false (nat_eq (length xs) (length ys)) (bytes_eq xs ys) (λ e. differ (equal_lengths (length xs) (length ys) e))
+    (λ e. differ (ap length ((bytes_eq-Decides xs ys).0 e)))
+
+-- what is found by a scan
+get_same : (ps : List (Val × Val)) (i : ℕ) (d e : Val × Val) → i < length ps → get_or ps i d ≡ get_or ps i e
+get_same [] i d e h = absurd (omega arith)
+get_same (p ∷ ps) zero d e h = refl
+get_same (p ∷ ps) (suc i) d e h = get_same ps i d e (omega (arith, h))
+
+equal_by : (o : Ordering) → is_eq o ≡ true → o ≡ Equal
+equal_by Less e = absurd (true≢false (sym e))
+equal_by Equal e = refl
+equal_by Greater e = absurd (true≢false (sym e))
+
+pub scanned-there : (k : Val) (ps : List (Val × Val)) (i : ℕ) (x : Val × Val) → i < length ps → x ≡ get_or ps i x →
+    is_eq (val_cmp x.0 k) ≡ true → IsThere k ps i
+scanned-there k ps i x h is same = record {
+  in_range = h;
+  same_key = λ d. ap (λ (p : Val × Val). val_cmp p.0 k) (get_same ps i d x h ∙ sym is) ∙ equal_by (val_cmp x.0 k) same;
+}
+
+-- and what a scan has passed
+abbrev pub Passed : Val → List (Val × Val) → ℕ → Type 0
+Passed k ps i = (j : ℕ) (d : Val × Val) → j < i → is_eq (val_cmp (get_or ps j d).0 k) ≡ false
+
+one_more : (i j : ℕ) → j < i + 1 → (j < i) ⊎ (j ≡ i)
+one_more i j h = grind (arith, h)
+
+pub scanned-on : (k : Val) (ps : List (Val × Val)) (i : ℕ) (x : Val × Val) → i < length ps → x ≡ get_or ps i x →
+    is_eq (val_cmp x.0 k) ≡ false → Passed k ps i → Passed k ps (i + 1)
+scanned-on k ps i x h is other passed j d less = at (one_more i j less) where
+  at : (j < i) ⊎ (j ≡ i) → is_eq (val_cmp (get_or ps j d).0 k) ≡ false
+  at (inl before) = passed j d before
+  at (inr here) = ap (λ n. is_eq (val_cmp (get_or ps n d).0 k)) here
+      ∙ ap (λ (p : Val × Val). is_eq (val_cmp p.0 k)) (get_same ps i d x h ∙ sym is) ∙ other

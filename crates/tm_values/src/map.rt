@@ -112,10 +112,7 @@ impl ValueMap {
     pub fn member(&self, name: &str) -> Option<&Value>
         ensures { IsLent result (find (text name.now false) self.now) }
     {
-        match place_of_text(&self.pairs, name) {
-            Ok(at) => Some(&self.pairs[at].1),
-            Err(_) => None,
-        }
+        value_at_text(&self.pairs, name)
     }
 }
 
@@ -181,11 +178,7 @@ impl Value {
     pub fn member(&self, name: &str) -> Option<&Value>
         ensures { IsLent result (member name.now self.now) }
     {
-        let pairs = self.pairs();
-        match place_of_text(pairs, name) {
-            Ok(at) => Some(&pairs[at].1),
-            Err(_) => None,
-        }
+        value_at_text(self.pairs(), name)
     }
 
     /// The value at `key` in a map, a keyword map or a module. None for other values.
@@ -283,7 +276,32 @@ fn place(pairs: &[(Value, Value)], key: &Value) -> Result<usize, usize>
     )
 }
 
-// The same for a text, without making a value of it.
+// How many pairs are scanned for a text, and not searched: the lengths tell most of few keys apart.
+const SCANNED: usize = 8;
+
+// The value at the text `name`, if there is one.
+fn value_at_text<'a>(pairs: &'a [(Value, Value)], name: &str) -> Option<&'a Value>
+    requires { IsMap pairs.now }
+    ensures { IsLent result (find (text name.now false) pairs.now) }
+{
+    if pairs.len() > SCANNED {
+        return match place_of_text(pairs, name) {
+            Ok(at) => Some(&pairs[at].1),
+            Err(_) => None,
+        };
+    }
+    let mut at = 0;
+    while at < pairs.len() {
+        let pair = &pairs[at];
+        if pair.0.is_text(name) {
+            return Some(&pair.1);
+        }
+        at += 1;
+    }
+    None
+}
+
+// `place` for a text, without making a value of it.
 fn place_of_text(pairs: &[(Value, Value)], name: &str) -> Result<usize, usize>
     requires { IsMap pairs.now }
     ensures { MatchResult result (IsThere (text name.now false) pairs.now)

@@ -68,6 +68,20 @@ impl Value {
         }
     }
 
+    // Whether this value is the text `content`, whether marked safe or not.
+    #[inline(always)]
+    pub(crate) fn is_text(&self, content: &str) -> bool
+        ensures { result ≡ is_eq (val_cmp self.now (text content.now false)) }
+    {
+        match &self.node {
+            Node::Text(own, _) => {
+                let own = own.as_str();
+                own.len() == content.len() && own == content
+            }
+            _ => false,
+        }
+    }
+
     // Compares this loop or namespace with another one.
     pub(crate) fn compare_record(&self, other: &Value) -> Ordering
         ensures { result ≡ record_cmp self.now other.now }
