@@ -17,7 +17,8 @@ use Rattle.tm_state.specs.Growth.{SetsSum}
 use Rattle.tm_vm.proofs.Ground.{standing}
 use Rattle.tm_vm.specs.Answers.{IsAhead, SilentlyAhead}
 use Rattle.tm_vm.specs.declared.flow.Flow.TheVariants as flow
-use Rattle.tm_vm.specs.Sums.{AddsUp, IsFoundNext, IsSumOf, summand_of}
+use Rattle.tm_runs.specs.Sums.{AddsUp, IsSumOf, summand_of}
+use Rattle.tm_vm.specs.Sums.{IsFoundNext}
 
 -- after the sum
 abbrev summed_at : Val → List Val → Config → Config

@@ -1,36 +1,11 @@
--- Values that a run makes, and how large they may be.
-use Rattle.std.specs.Prelude.{◌≡◌, ℕ, ◌≤◌, Bool, true, false, List, [], ◌∷◌, Result, Ok, Err}
+-- How large the values that a run makes may be.
+use Rattle.std.specs.Prelude.{◌≡◌, ℕ, ◌≤◌, true, List, Result, Ok}
 use Rattle.tm_parts.specs.declared.halt.Halt.{Halt}
+use Rattle.tm_runs.specs.Making.{makes, size_on_top}
 use Rattle.tm_trees.specs.Instructions.{Instruction}
-use Rattle.tm_trees.specs.Instructions.instructions
-use Rattle.tm_values.specs.Val.{Val, val_size}
+use Rattle.tm_values.specs.Val.{Val}
 use Rattle.tm_vm.specs.declared.flow.Flow.{Flow}
 use Rattle.tm_vm.specs.declared.flow.Flow.TheVariants as flow
-
--- Whether the value that the instruction leaves on top is one that it, or what it calls, made.
--- Other instructions push what there is already, a part of that, or a value of size 1.
-abbrev pub makes : Instruction → Bool
-makes instructions.Slice = true
-makes (instructions.BuildList count) = true
-makes (instructions.BuildTuple count) = true
-makes (instructions.BuildMap count) = true
-makes (instructions.BuildKwargs count) = true
-makes (instructions.MergeKwargs count) = true
-makes instructions.Add = true
-makes instructions.StringConcat = true
-makes (instructions.CallFunction name count) = true
-makes (instructions.CallMethod name count) = true
-makes (instructions.CallObject count) = true
-makes (instructions.ApplyFilter name count cache) = true
-makes (instructions.PerformTest name count cache) = true
-makes instructions.ExportLocals = true
-makes instructions.EndCapture = true
-makes _ = false
-
--- the size of the value on top, 0 if there is none
-abbrev pub size_on_top : List Val → ℕ
-size_on_top [] = 0
-size_on_top (v ∷ vs) = val_size v
 
 -- If the run goes on, a value that the instruction made is no larger than `most`.
 abbrev pub MakesWithin : ℕ → Instruction → Result Flow Halt → List Val → Type 0

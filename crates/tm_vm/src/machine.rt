@@ -4,7 +4,7 @@ ghost use Rattle.tm_meaning.specs.Inheritance.{names_left};
 ghost use Rattle.tm_meaning.specs.Machine.{audible, base_of, first_run, run_from, running};
 ghost use Rattle.tm_meaning.specs.Steps.{step};
 ghost use Rattle.tm_parts.specs.Halts.{failures_after};
-ghost use Rattle.tm_vm.specs.Limits.{size_on_top};
+ghost use Rattle.tm_runs.specs.Making.{size_on_top};
 ghost use Rattle.tm_vm.specs.Answers.{BeginsRun, EndsAs, IsAtFirst, ReachesEnd, NoFewer, SameStanding, StaysRun};
 ghost use Rattle.tm_state.specs.Answers.{KeepsFixed};
 ghost use Rattle.tm_state.specs.State.{callee_of, put_back};

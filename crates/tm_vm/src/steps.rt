@@ -5,8 +5,9 @@ ghost use Rattle.tm_meaning.specs.World.{Good, Bad};
 ghost use Rattle.tm_meaning.specs.Steps.{charge_of, closed, pay, effect, finish, return_of, step};
 ghost use Rattle.tm_runs.specs.Runs.{CanGoOn};
 ghost use Rattle.tm_vm.specs.Answers.{Performs, Finishes, Paid};
-ghost use Rattle.tm_vm.specs.AtOnce.{StepAttempted, no_memory};
-ghost use Rattle.tm_vm.specs.Limits.{MakesWithin, makes, size_on_top};
+ghost use Rattle.tm_vm.specs.AtOnce.{StepAttempted};
+ghost use Rattle.tm_runs.specs.Making.{makes, size_on_top};
+ghost use Rattle.tm_vm.specs.Limits.{MakesWithin};
 ghost use Rattle.tm_state.specs.Answers.{KeepsFixedAndNames};
 
 use crate::flow::Flow;
@@ -14,45 +15,11 @@ use crate::machine::Machine;
 use std::alloc::Global;
 use tm_meaning::Base;
 use tm_parts::{Halt, Sink};
-use tm_runs::{Activation, Attempt};
+use tm_runs::{Activation, Attempt, makes, too_large};
 use tm_shapes::Verified;
 use tm_syntax::{Application, BinaryOperator, Instruction, UnaryOperator};
 use tm_tables::{Exhausted, Host, NO_PLACE};
 use tm_values::{Error, ErrorKind};
-
-/// Whether the value that `instruction` leaves on top is one that it, or what it calls, made.
-#[inline(always)]
-fn makes(instruction: &Instruction) -> bool
-    ensures { result ≡ makes instruction.now }
-{
-    match instruction {
-        Instruction::Slice
-        | Instruction::BuildList(_)
-        | Instruction::BuildTuple(_)
-        | Instruction::BuildMap(_)
-        | Instruction::BuildKwargs(_)
-        | Instruction::MergeKwargs(_)
-        | Instruction::Add
-        | Instruction::StringConcat
-        | Instruction::CallFunction(_, _)
-        | Instruction::CallMethod(_, _)
-        | Instruction::CallObject(_)
-        | Instruction::ApplyFilter(_, _, _)
-        | Instruction::PerformTest(_, _, _)
-        | Instruction::ExportLocals
-        | Instruction::EndCapture => true,
-        _ => false,
-    }
-}
-
-// The halt for a value that is larger than the host allows.
-#[cold]
-#[inline(never)]
-fn too_large() -> Halt
-    ensures { result ≡ no_memory }
-{
-    Halt::Fault(Error::from(ErrorKind::OutOfMemory))
-}
 
 impl Machine {
     /// Performs an instruction that was charged.

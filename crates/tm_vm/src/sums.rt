@@ -3,50 +3,20 @@ ghost use Rattle.std.specs.Prelude.{◌≡◌, ◌+◌, IfSome, IsTrue, Ok, Some
 ghost use Rattle.tm_meaning.specs.Instructions.{binary_of};
 ghost use Rattle.tm_meaning.specs.World.{CanPay, find_name, view_of};
 ghost use Rattle.tm_runs.specs.Runs.{CanGoOn};
+ghost use Rattle.tm_runs.specs.Sums.{AddsUp};
 ghost use Rattle.tm_trees.specs.Instructions.instructions;
 ghost use Rattle.tm_vm.specs.Answers.{SilentlyAhead};
-ghost use Rattle.tm_values.specs.Answer.{IsAnswer};
-ghost use Rattle.tm_vm.specs.Sums.{AddsUp, IsFoundNext, IsSumOf, summand_of};
+ghost use Rattle.tm_vm.specs.Sums.{IsFoundNext};
 
 use crate::flow::Flow;
 use crate::machine::Machine;
 use std::alloc::Global;
 use tm_parts::Halt;
-use tm_printing::concatenate;
+use tm_runs::{adds_up, summand};
 use tm_shapes::Verified;
 use tm_syntax::{BinaryOperator, Instruction, Name};
 use tm_tables::Host;
-use tm_values::{Error, NoRecords, Node, UndefinedBehavior, Value};
-
-/// Whether `operator` adds these two values up: two texts, a text and a number with `~`, or two lists
-/// with `+`.
-fn adds_up(operator: BinaryOperator, left: &Value, right: &Value) -> bool
-    ensures { IsTrue result → IsSumOf operator left.now right.now }
-{
-    match (&left.node, &right.node) {
-        (Node::Text(_, _), Node::Text(_, _)) => match operator {
-            BinaryOperator::Add | BinaryOperator::Concatenate => true,
-            _ => false,
-        },
-        (Node::Text(_, _), Node::Number(_)) => operator == BinaryOperator::Concatenate,
-        (Node::List(_, _), Node::List(_, _)) => operator == BinaryOperator::Add,
-        _ => false,
-    }
-}
-
-/// What is added for `right`: the text of a number, else the value itself. OutOfMemory if memory runs
-/// out.
-fn summand(alloc: Global, right: Value) -> Result<Value, Error>
-    ensures { IsAnswer result (Ok (summand_of right)) }
-{
-    match &right.node {
-        Node::Number(_) => {
-            let none = Value::text(alloc, "")?;
-            concatenate(alloc, &none, &right, &NoRecords, UndefinedBehavior::Lenient)
-        }
-        _ => Ok(right),
-    }
-}
+use tm_values::Value;
 
 impl Machine {
     /// Replaces two values by the result of a binary operator. If the next instructions store it

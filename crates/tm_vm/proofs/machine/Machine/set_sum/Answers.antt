@@ -4,7 +4,8 @@ use Rattle.tm_meaning.specs.Machine.{Config}
 use Rattle.tm_meaning.specs.World.{CanPay}
 use Rattle.tm_trees.specs.Instructions.instructions
 use Rattle.tm_vm.specs.Answers.{SilentlyAhead}
-use Rattle.tm_vm.specs.Sums.{AddsUp, IsFoundNext}
+use Rattle.tm_runs.specs.Sums.{AddsUp}
+use Rattle.tm_vm.specs.Sums.{IsFoundNext}
 use Rattle.tm_vm.specs.contracts.machine.Machine.{the_view}
 use Rattle.tm_vm.specs.declared.flow.Flow.TheVariants as flow
 use Rattle.tm_vm.proofs.Summed.{set_ahead}
