@@ -123,8 +123,9 @@ impl Machine {
         ensures { SilentlyAhead (H.program host.now)
             (binary_of (H.program host.now).host operator self.old) self.old self.new result }
     {
-        let right = summand(alloc, self.run.popped()?)?;
+        let right = self.run.popped()?;
         let left = self.run.popped()?;
+        let right = summand(alloc, right)?;
         self.state.pay_one();
         self.state
             .store_sum(alloc, name, left, &right, host.value_limit() as u64)?;
@@ -152,8 +153,9 @@ impl Machine {
         ensures { SilentlyAhead (H.program host.now)
             (binary_of (H.program host.now).host operator self.old) self.old self.new result }
     {
-        let right = summand(alloc, self.run.popped()?)?;
+        let right = self.run.popped()?;
         let left = self.run.popped()?;
+        let right = summand(alloc, right)?;
         self.state.pay_down_to(self.state.fuel_left() - 2);
         let most = host.value_limit() as u64;
         self.state
