@@ -21,6 +21,16 @@ use tm_values::{Error, ErrorKind, MacroValue, Node, Value};
 /// How much deeper than its call a macro's outer scope is.
 const MACRO_DEPTH: usize = 4;
 
+/// The macro that `value` is, if it is one.
+fn macro_in(value: &Value) -> Option<&MacroValue>
+    ensures { IfSome result (λ m. value.now ≡ macro m.now) }
+{
+    match &value.node {
+        Node::Macro(declared) => Some(declared.as_ref()),
+        _ => None,
+    }
+}
+
 impl StateData {
     /// The number of the closure that was made in the innermost scope, if any.
     pub fn own_closure(&self) -> Option<usize>
@@ -220,12 +230,12 @@ impl StateData {
     {
         // An early exit, since most calls are of functions, in states without macros.
         let _made = self.streams.get(0)?;
-        match self.context.find(name, &self.closures, self) {
-            Ok(Some(Found::Value(value))) => match &value.node {
-                Node::Macro(declared) => Some(declared.as_ref()),
+        match self.find_at_once(name) {
+            Some(value) => macro_in(value),
+            None => match self.context.find(name, &self.closures, self) {
+                Ok(Some(Found::Value(value))) => macro_in(value),
                 _ => None,
             },
-            _ => None,
         }
     }
 
