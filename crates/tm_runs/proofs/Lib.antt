@@ -4,3 +4,4 @@ pub mod Left
 pub mod Paid
 pub mod Texts
 pub mod Used
+pub mod Defined

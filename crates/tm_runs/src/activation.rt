@@ -1,9 +1,10 @@
 //! The data of a run.
-ghost use Rattle.std.specs.Prelude.{◌≡◌, ◌+◌, ◌++◌, ◌-◌, ◌^◌, ◌<◌, length, List, [], ◌∷◌, Some, None, OnOk, IfOk, IfErr, MatchOption, not, MatchResult, drop};
+ghost use Rattle.std.specs.Prelude.{◌≡◌, ◌+◌, ◌++◌, ◌-◌, ◌^◌, ◌<◌, length, List, [], ◌∷◌, Ok, Some, None, OnOk, IfOk, IfErr, IfSome, MatchOption, not, MatchResult, drop};
 ghost use Rattle.std.specs.Prelude.{option_map};
 ghost use Rattle.tm_meaning.specs.World.{root_of};
 ghost use Rattle.tm_values.specs.Answer.{OrStays};
 ghost use Rattle.tm_values.specs.Val.{Val, boolean};
+ghost use Rattle.tm_values.specs.declared.undefined.UndefinedBehavior.{UndefinedBehavior};
 ghost use Rattle.tm_parts.specs.declared.halt.Halt.TheVariants.{Stuck};
 ghost use Rattle.tm_parts.specs.Operate.{Doubles, Operates, TakesMember, TestsUndefined};
 ghost use Rattle.tm_meaning.specs.Meaning.{none_waits};
@@ -435,6 +436,19 @@ impl Activation {
             (λ v. (rest : List Val) × (self.now.operands ≡ v.now ∷ rest)) }
     {
         self.operands.peek()
+    }
+
+    /// The truth of the top operand, if there is one and it isn't undefined.
+    pub fn defined_truth(&self) -> Option<bool>
+        ensures { IfSome result (λ truth. (v : Val) × (rest : List Val)
+            × (self.now.operands ≡ v ∷ rest)
+            × ((u : UndefinedBehavior) → truth_of u v ≡ Ok truth)) }
+    {
+        let value = self.operands.peek()?;
+        if value.is_undefined() {
+            return None;
+        }
+        Some(value.is_true())
     }
 
     /// The truth of the top operand, if there is one, or the error if it is undefined and has no

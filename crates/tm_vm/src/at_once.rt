@@ -7,6 +7,7 @@ ghost use Rattle.tm_meaning.specs.Instructions.{binary_of, discard_top_of, dup_t
 ghost use Rattle.tm_meaning.specs.Instructions.{is_undefined_of, load_const_of, lookup_of, store_local_of};
 ghost use Rattle.tm_meaning.specs.Steps.{effect};
 ghost use Rattle.tm_runs.specs.Runs.{CanGoOn};
+ghost use Rattle.tm_vm.specs.Answers.{jump_or_pop_of};
 ghost use Rattle.tm_vm.specs.AtOnce.{Attempted, AttemptedUntold, IsAtOnce, IsCharged, IsFree, IsPaid, paid};
 
 use crate::machine::Machine;
@@ -106,7 +107,47 @@ impl Machine {
         match self.run.take_boolean() {
             Some(true) => self.run.advance(),
             Some(false) => self.run.jump(place),
+            None => return self.test_at_once(place),
+        }
+        self.state.pay_one();
+        true
+    }
+
+    /// `jump_if_false_at_once` for a value of another kind, if it isn't undefined.
+    #[inline(never)]
+    fn test_at_once(&mut self, place: usize) -> bool
+        requires in_place { CanGoOn self.old.run }
+        requires can_pay { CanPay 1 self.old.world.fuel }
+        ensures { (host : HostValue) →
+            IsAtOnce result (jump_if_false_of host place) self.old self.new }
+    {
+        match self.run.defined_truth() {
+            Some(true) => self.run.advance(),
+            Some(false) => self.run.jump(place),
             None => return false,
+        }
+        self.run.drop_top();
+        self.state.pay_one();
+        true
+    }
+
+    /// Jumps to `place` if the truth of the top value is `jumps`, and leaves the value there;
+    /// otherwise pops it. Only if it isn't undefined.
+    #[inline(never)]
+    fn jump_or_pop_at_once(&mut self, place: usize, jumps: bool) -> bool
+        requires in_place { CanGoOn self.old.run }
+        requires can_pay { CanPay 1 self.old.world.fuel }
+        ensures { (host : HostValue) →
+            IsAtOnce result (jump_or_pop_of host jumps place) self.old self.new }
+    {
+        let Some(truth) = self.run.defined_truth() else {
+            return false;
+        };
+        if truth == jumps {
+            self.run.jump(place);
+        } else {
+            self.run.advance();
+            self.run.drop_top();
         }
         self.state.pay_one();
         true
@@ -327,6 +368,12 @@ impl Machine {
                 Attempt::Done
             }
             Instruction::JumpIfFalse(place) => Attempt::of(self.jump_if_false_at_once(*place)),
+            Instruction::JumpIfFalseOrPop(place) => {
+                Attempt::of(self.jump_or_pop_at_once(*place, false))
+            }
+            Instruction::JumpIfTrueOrPop(place) => {
+                Attempt::of(self.jump_or_pop_at_once(*place, true))
+            }
             Instruction::StoreLocal(name) => Attempt::of(self.store_local_at_once(name)),
             Instruction::Iterate(_) => Attempt::of(self.iterate_at_once()),
             Instruction::IsUndefined => Attempt::of(self.is_undefined_at_once()),

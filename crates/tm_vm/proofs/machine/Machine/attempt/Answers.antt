@@ -61,3 +61,11 @@ returns-in-JumpIfFalse-clause-done g c =
 pub returns-in-Iterate-clause-done : goal.returns-in-Iterate-clause-done
 returns-in-Iterate-clause-done g c =
     rw (c.of-in-Iterate.ensures, c.in-Iterate.is) (at_once _ _ _ _ _ (c.iterate_at_once.ensures _))
+
+pub returns-in-JumpIfFalseOrPop-clause-done : goal.returns-in-JumpIfFalseOrPop-clause-done
+returns-in-JumpIfFalseOrPop-clause-done g c =
+    rw (c.of-in-JumpIfFalseOrPop.ensures, c.in-JumpIfFalseOrPop.is) (at_once _ _ _ _ _ (c.jump_or_pop_at_once.ensures (g.H.Host.program c.args.host.now).host))
+
+pub returns-in-JumpIfTrueOrPop-clause-done : goal.returns-in-JumpIfTrueOrPop-clause-done
+returns-in-JumpIfTrueOrPop-clause-done g c =
+    rw (c.of-in-JumpIfTrueOrPop.ensures, c.in-JumpIfTrueOrPop.is) (at_once _ _ _ _ _ (c.jump_or_pop_at_once-in-JumpIfTrueOrPop.ensures (g.H.Host.program c.args.host.now).host))
