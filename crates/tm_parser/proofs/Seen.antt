@@ -2,18 +2,17 @@
 use Rattle.std.proofs.Common.{◌≡◌, ℕ, ◌+◌, ◌<◌, ◌≤◌, Bool, true, false, cond, not, ◌||◌, ◌&&◌, List, [], ◌∷◌, length, drop, get_or, Bor}
 use Rattle.std.proofs.Common.{Ordering, refl, sym, ap, ◌∙◌, arith, drop-cons}
 use Rattle.std.proofs.lemmas.List.{drop_all}
-use Rattle.std.proofs.lemmas.Map.Text.{is_eq-slice_cmp}
 use Rattle.std.specs.BTreeMap.{is_at}
 use Rattle.std.specs.BTreeSet.{BTreeSet, contains, Updates}
-use Rattle.std.specs.Cmp.Lexicographic.{slice_cmp}
 use Rattle.std.specs.List.{list_any}
-use Rattle.std.specs.Ordering.{nat_cmp}
 use Rattle.std.specs.Str.{bytes_eq}
+use Rattle.tm_syntax.specs.Hashed.{hashed_cmp}
+use Rattle.tm_syntax.specs.HashedLaws.{hashed_ties}
 use Rattle.tm_parser.specs.Distinct.{are_distinct, texts}
 
--- the order of names after references
+-- the order of names behind references
 abbrev pub order : Bor (List ℕ) → Bor (List ℕ) → Ordering
-order x y = slice_cmp nat_cmp x.now y.now
+order x y = hashed_cmp x.now y.now
 
 -- Whether no name stands twice, and the set has none of them.
 abbrev pub are_new : BTreeSet (Bor (List ℕ)) → List (Bor (List ℕ)) → Bool
@@ -33,7 +32,7 @@ none_seen seen empty (x ∷ xs) =
     ∙ ap (λ b. not (list_any (bytes_eq x.now) (texts xs)) && b) (none_seen seen empty xs)
 
 same_name : (x y : Bor (List ℕ)) → is_at (order x) y ≡ bytes_eq x.now y.now
-same_name x y = is_eq-slice_cmp x.now y.now
+same_name x y = sym (hashed_ties x.now y.now)
 
 swapped : (same rest seen other more : Bool) →
     (not (same || rest) && (not (seen || other) && more)) ≡ (not (cond same true seen || other) && (not rest && more))
@@ -60,10 +59,10 @@ module _ (old new : BTreeSet (Bor (List ℕ))) (x : Bor (List ℕ)) (added : Upd
   one_seen : (xs : List (Bor (List ℕ))) → contains order old x ≡ false → are_new old (x ∷ xs) ≡ are_new new xs
   one_seen xs unseen = ap (λ b. not (b || list_any (bytes_eq x.now) (texts xs)) && are_new old xs) unseen ∙ larger xs
 
-at_name : (seen : BTreeSet (Bor (List ℕ))) (names : List (Bor (List ℕ))) (k : ℕ) (d : Bor (List ℕ)) → k < length names →
-    are_new seen (drop k names) ≡ are_new seen (get_or names k d ∷ drop (k + 1) names)
-at_name seen names k d lt =
-    let e : drop k names ≡ get_or names k d ∷ drop (k + 1) names = grind (arith, drop-cons names k d lt) in
+at_name : (seen : BTreeSet (Bor (List ℕ))) (names : List (Bor (List ℕ))) (k : ℕ) (x : Bor (List ℕ)) → k < length names →
+    x ≡ get_or names k x → are_new seen (drop k names) ≡ are_new seen (x ∷ drop (k + 1) names)
+at_name seen names k x lt is =
+    let e : drop k names ≡ x ∷ drop (k + 1) names = grind (arith, drop-cons names k x lt, is) in
     ap (are_new seen) e
 
 -- what the answer of the set says
@@ -76,14 +75,14 @@ was true h = refl
 was false h = sym h
 
 -- one turn of the loop over names
-pub turn : (whole : Bool) (old new : BTreeSet (Bor (List ℕ))) (names : List (Bor (List ℕ))) (k : ℕ) (d : Bor (List ℕ)) → k < length names →
-    not (contains order old (get_or names k d)) ≡ true → Updates order old new (get_or names k d) true →
+pub turn : (whole : Bool) (old new : BTreeSet (Bor (List ℕ))) (names : List (Bor (List ℕ))) (k : ℕ) (x : Bor (List ℕ)) → k < length names →
+    x ≡ get_or names k x → not (contains order old x) ≡ true → Updates order old new x true →
     are_new old (drop k names) ≡ whole → are_new new (drop (k + 1) names) ≡ whole
-turn whole old new names k d lt fresh added so =
-    sym (one_seen old new (get_or names k d) added (drop (k + 1) names) (was_not _ fresh)) ∙ sym (at_name old names k d lt) ∙ so
+turn whole old new names k x lt is fresh added so =
+    sym (one_seen old new x added (drop (k + 1) names) (was_not _ fresh)) ∙ sym (at_name old names k x lt is) ∙ so
 
-pub seen_before : (whole : Bool) (seen : BTreeSet (Bor (List ℕ))) (names : List (Bor (List ℕ))) (k : ℕ) (d : Bor (List ℕ)) →
-    k < length names → not (contains order seen (get_or names k d)) ≡ false → are_new seen (drop k names) ≡ whole → false ≡ whole
-seen_before whole seen names k d lt known so =
-    sym (ap (λ b. not (b || list_any (bytes_eq (get_or names k d).now) (texts (drop (k + 1) names))) && are_new seen (drop (k + 1) names))
-    (was _ known)) ∙ sym (at_name seen names k d lt) ∙ so
+pub seen_before : (whole : Bool) (seen : BTreeSet (Bor (List ℕ))) (names : List (Bor (List ℕ))) (k : ℕ) (x : Bor (List ℕ)) →
+    k < length names → x ≡ get_or names k x → not (contains order seen x) ≡ false → are_new seen (drop k names) ≡ whole → false ≡ whole
+seen_before whole seen names k x lt is known so =
+    sym (ap (λ b. not (b || list_any (bytes_eq x.now) (texts (drop (k + 1) names))) && are_new seen (drop (k + 1) names))
+    (was _ known)) ∙ sym (at_name seen names k x lt is) ∙ so

@@ -6,7 +6,7 @@ ghost use Rattle.tm_parser.specs.Template.{block_names, names_of};
 
 use crate::distinct::are_distinct;
 use std::alloc::{AllocError, Global};
-use tm_syntax::Stmt;
+use tm_syntax::{Name, Stmt};
 
 /// Whether all blocks in the statements have different names. AllocError if memory runs out.
 pub fn has_distinct_blocks(alloc: Global, statements: &[Stmt]) -> Result<bool, AllocError>
@@ -19,7 +19,7 @@ pub fn has_distinct_blocks(alloc: Global, statements: &[Stmt]) -> Result<bool, A
 
 /// Pushes the names of all blocks in the statements.
 #[cycle(names)]
-fn add_names<'t>(names: &mut Vec<&'t str>, statements: &'t [Stmt]) -> Result<(), AllocError>
+fn add_names<'t>(names: &mut Vec<&'t Name>, statements: &'t [Stmt]) -> Result<(), AllocError>
     ensures { OnOk result
         (texts names.new.items ≡ texts names.old.items ++ block_names statements.now) }
 {
@@ -32,7 +32,7 @@ fn add_names<'t>(names: &mut Vec<&'t str>, statements: &'t [Stmt]) -> Result<(),
 /// Pushes the names of all blocks in a statement, and its own name if it is a block.
 #[cycle(names)]
 #[tactic(auto, using(crate::proofs::Names::forms))]
-fn add_names_of<'t>(names: &mut Vec<&'t str>, statement: &'t Stmt) -> Result<(), AllocError>
+fn add_names_of<'t>(names: &mut Vec<&'t Name>, statement: &'t Stmt) -> Result<(), AllocError>
     ensures { OnOk result
         (texts names.new.items ≡ texts names.old.items ++ names_of statement.now) }
 {
@@ -51,7 +51,7 @@ fn add_names_of<'t>(names: &mut Vec<&'t str>, statement: &'t Stmt) -> Result<(),
         }
         Stmt::Block(name, _, body) => {
             add_names(names, body.as_slice())?;
-            names.push(name.as_str())?;
+            names.push(name)?;
             Ok(())
         }
         Stmt::CaptureBlock(_, _, body) => add_names(names, body.as_slice()),

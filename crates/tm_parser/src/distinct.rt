@@ -5,9 +5,11 @@ ghost use Rattle.tm_parser.specs.Distinct.{texts};
 
 use std::alloc::{AllocError, Global};
 use std::collections::BTreeSet;
+use tm_syntax::Name;
 
-/// Whether all names are different. AllocError if memory runs out.
-pub fn are_distinct(alloc: Global, names: &[&str]) -> Result<bool, AllocError>
+/// Whether all names are different. Compares their hashes, and texts only where hashes are equal.
+/// AllocError if memory runs out.
+pub fn are_distinct(alloc: Global, names: &[&Name]) -> Result<bool, AllocError>
     ensures { IfOk result (λ distinct. distinct ≡ spec.are_distinct (texts names.now)) }
 {
     let mut seen = BTreeSet::new(alloc);

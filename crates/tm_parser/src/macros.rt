@@ -319,7 +319,7 @@ fn has_distinct_names(alloc: Global, parameters: &[Parameter]) -> Result<bool, A
 {
     let mut names = Vec::new(alloc);
     for parameter in parameters {
-        names.push(parameter.name.as_str())?;
+        names.push(&parameter.name)?;
     }
     are_distinct(alloc, &names)
 }

@@ -1,7 +1,7 @@
 //! The operators.
 ghost use Rattle.std.specs.Prelude.{◌≡◌, IfErr, IfOk, IfSome, [], ◌∷◌};
 ghost use Rattle.tm_parts.specs.Operate.{Calculates};
-ghost use Rattle.tm_values.specs.Val.{number};
+ghost use Rattle.tm_values.specs.Val.{boolean, number};
 ghost use Rattle.tm_meaning.specs.Instructions as instructions;
 ghost use Rattle.tm_meaning.specs.Operators.{result_of, result_of_unary};
 ghost use Rattle.tm_values.specs.Answer.{IsAnswer};
@@ -87,6 +87,25 @@ pub(crate) fn binary_at_once(operator: BinaryOperator, left: &Value, right: &Val
         (Node::Number(left), Node::Number(right)) => of_numbers(operator, *left, *right),
         _ => None,
     }
+}
+
+/// The result of a comparison of two texts.
+pub(crate) fn compared_texts(operator: BinaryOperator, left: &Value, right: &Value) -> Option<bool>
+    ensures { IfSome result (λ b. Calculates operator left.now right.now (boolean b)) }
+{
+    let (Node::Text(_, _), Node::Text(_, _)) = (&left.node, &right.node) else {
+        return None;
+    };
+    let comparison = match operator {
+        BinaryOperator::Equal => ComparisonOperator::Equal,
+        BinaryOperator::NotEqual => ComparisonOperator::NotEqual,
+        BinaryOperator::Less => ComparisonOperator::Less,
+        BinaryOperator::LessOrEqual => ComparisonOperator::LessOrEqual,
+        BinaryOperator::Greater => ComparisonOperator::Greater,
+        BinaryOperator::GreaterOrEqual => ComparisonOperator::GreaterOrEqual,
+        _ => return None,
+    };
+    compare(comparison, left, right, UndefinedBehavior::Lenient).ok()
 }
 
 #[inline(always)]

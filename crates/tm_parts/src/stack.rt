@@ -3,10 +3,10 @@ ghost use Rattle.std.specs.Prelude.{◌++◌, ◌≡◌, [], ◌∷◌, List, So
 ghost use Rattle.std.specs.Prelude.{IfSome, MatchOption, MatchResult};
 ghost use Rattle.tm_values.specs.Val.{Val, boolean};
 ghost use Rattle.tm_values.specs.Answer.{OrStays};
-ghost use Rattle.tm_parts.specs.Operate.{Doubles, Has, Operates, TakesMember, TestsUndefined};
+ghost use Rattle.tm_parts.specs.Operate.{Doubles, Has, Negates, Operates, TakesMember, TestsUndefined};
 ghost use Rattle.tm_meaning.specs.Machine.{onto, taken};
 
-use crate::operators::binary_at_once;
+use crate::operators::{binary_at_once, compared_texts};
 use std::alloc::Global;
 use std::marker::Model;
 use tm_syntax::BinaryOperator;
@@ -160,6 +160,29 @@ impl Stack {
         }
     }
 
+    /// Replaces two texts on top by the result of a comparison. Otherwise returns false and changes
+    /// nothing.
+    pub fn compare_texts(&mut self, operator: BinaryOperator) -> bool
+        ensures { OrStays result self.old self.new (Operates operator self.old self.new) }
+    {
+        if self.values.len() < 2 {
+            return false;
+        }
+        let right = self.values.take_last();
+        let left = self.values.take_last();
+        match compared_texts(operator, &left, &right) {
+            Some(truth) => {
+                self.values.push_reserved(Value::boolean(truth));
+                true
+            }
+            None => {
+                self.values.push_reserved(left);
+                self.values.push_reserved(right);
+                false
+            }
+        }
+    }
+
     /// Replaces the map on top by its member at a name, if there is one. Otherwise returns false
     /// and changes nothing.
     #[inline(never)]
@@ -199,6 +222,23 @@ impl Stack {
                 None
             }
         }
+    }
+
+    /// Replaces the topmost value by the negation of its truth, if there is one and it isn't
+    /// undefined. Otherwise returns false and changes nothing.
+    pub fn negate(&mut self) -> bool
+        ensures { OrStays result self.old self.new (Negates self.old self.new) }
+    {
+        if self.values.is_empty() {
+            return false;
+        }
+        let top = self.values.take_last();
+        if top.is_undefined() {
+            self.values.push_reserved(top);
+            return false;
+        }
+        self.values.push_reserved(Value::boolean(!top.is_true()));
+        true
     }
 
     /// Replaces the topmost value by whether it is undefined. If the stack is empty, returns false

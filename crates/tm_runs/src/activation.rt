@@ -6,7 +6,7 @@ ghost use Rattle.tm_values.specs.Answer.{OrStays};
 ghost use Rattle.tm_values.specs.Val.{Val, boolean};
 ghost use Rattle.tm_values.specs.declared.undefined.UndefinedBehavior.{UndefinedBehavior};
 ghost use Rattle.tm_parts.specs.declared.halt.Halt.TheVariants.{Stuck};
-ghost use Rattle.tm_parts.specs.Operate.{Doubles, Operates, TakesMember, TestsUndefined};
+ghost use Rattle.tm_parts.specs.Operate.{Doubles, Negates, Operates, TakesMember, TestsUndefined};
 ghost use Rattle.tm_meaning.specs.Meaning.{none_waits};
 ghost use Rattle.tm_meaning.specs.Steps.{is_empty};
 ghost use Rattle.tm_meaning.specs.Instructions.{used};
@@ -385,6 +385,26 @@ impl Activation {
         ensures rest { self.new ≡ record self.old { operands = self.new.operands } }
     {
         self.operands.operate(operator)
+    }
+
+    /// Replaces the top two operands by the result of a comparison, if both are texts. Otherwise
+    /// nothing changes and the result is false.
+    pub fn compare_texts(&mut self, operator: BinaryOperator) -> bool
+        ensures operands { OrStays result self.old.operands self.new.operands
+            (Operates operator self.old.operands self.new.operands) }
+        ensures rest { self.new ≡ record self.old { operands = self.new.operands } }
+    {
+        self.operands.compare_texts(operator)
+    }
+
+    /// Replaces the top operand, if there is one that isn't undefined, by the negation of its truth.
+    /// Otherwise nothing changes and the result is false.
+    pub fn negate(&mut self) -> bool
+        ensures operands { OrStays result self.old.operands self.new.operands
+            (Negates self.old.operands self.new.operands) }
+        ensures rest { self.new ≡ record self.old { operands = self.new.operands } }
+    {
+        self.operands.negate()
     }
 
     /// Replaces the map on top by its member `name`, if it has one. Otherwise nothing changes and

@@ -4,7 +4,8 @@ ghost use Rattle.std.specs.Prelude.{◌≡◌, ◌+◌, ℕ, None, true};
 ghost use Rattle.tm_meaning.specs.World.{CanPay, HostValue};
 ghost use Rattle.tm_meaning.specs.Machine.{audible};
 ghost use Rattle.tm_meaning.specs.Instructions.{binary_of, discard_top_of, dup_top_of, emit_of, emit_raw_of, get_attr_of, iterate_of, jump_if_false_of};
-ghost use Rattle.tm_meaning.specs.Instructions.{is_undefined_of, load_const_of, lookup_of, store_local_of};
+ghost use Rattle.tm_meaning.specs.Instructions.{is_undefined_of, load_const_of, lookup_of, store_local_of, unary_of};
+ghost use Rattle.tm_trees.specs.Trees.{UnaryOperator};
 ghost use Rattle.tm_meaning.specs.Steps.{effect};
 ghost use Rattle.tm_runs.specs.Runs.{CanGoOn};
 ghost use Rattle.tm_vm.specs.Answers.{jump_or_pop_of};
@@ -90,6 +91,36 @@ impl Machine {
             IsAtOnce result (binary_of host operator) self.old self.new }
     {
         if !self.run.operate(operator) {
+            return self.compare_at_once(operator);
+        }
+        self.pay_and_advance();
+        true
+    }
+
+    /// Replaces two texts by the result of a comparison.
+    #[inline(never)]
+    fn compare_at_once(&mut self, operator: BinaryOperator) -> bool
+        requires in_place { CanGoOn self.old.run }
+        requires can_pay { CanPay 1 self.old.world.fuel }
+        ensures { (host : HostValue) →
+            IsAtOnce result (binary_of host operator) self.old self.new }
+    {
+        if !self.run.compare_texts(operator) {
+            return false;
+        }
+        self.pay_and_advance();
+        true
+    }
+
+    /// Replaces a value that isn't undefined by the negation of its truth.
+    #[inline(never)]
+    fn not_at_once(&mut self) -> bool
+        requires in_place { CanGoOn self.old.run }
+        requires can_pay { CanPay 1 self.old.world.fuel }
+        ensures { (host : HostValue) →
+            IsAtOnce result (unary_of host UnaryOperator.Not) self.old self.new }
+    {
+        if !self.run.negate() {
             return false;
         }
         self.pay_and_advance();
@@ -362,6 +393,7 @@ impl Machine {
             Instruction::Mul => Attempt::of(self.binary_at_once(BinaryOperator::Multiply)),
             Instruction::IntDiv => Attempt::of(self.binary_at_once(BinaryOperator::FloorDivide)),
             Instruction::Rem => Attempt::of(self.binary_at_once(BinaryOperator::Remainder)),
+            Instruction::Not => Attempt::of(self.not_at_once()),
             Instruction::Jump(place) => {
                 self.state.pay_one();
                 self.run.jump(*place);

@@ -7,12 +7,12 @@ loop-name-init c = none_seen c.new-seen.result c.new-seen.ensures.empty c.args.n
 
 pub loop-name-preserved : goal.loop-name-preserved
 loop-name-preserved c =
-    turn _ c.loop-name.seen c.insert.new.self c.args.names.now c.loop-name.name-index _ c.loop-name-test.true
+    turn _ c.loop-name.seen c.insert.new.self c.args.names.now c.loop-name.name-index c.name-item.result c.loop-name-test.true c.name-item.is
     (sym c.in_ok-insert.ensures.added ∙ c.if-not-branch.false) c.in_ok-insert.ensures.updates c.loop-name.invariant
 
 pub returns-then-not-branch : goal.returns-then-not-branch
 returns-then-not-branch c =
-    seen_before _ c.loop-name.seen c.args.names.now c.loop-name.name-index _ c.loop-name-test.true
+    seen_before _ c.loop-name.seen c.args.names.now c.loop-name.name-index c.name-item.result c.loop-name-test.true c.name-item.is
     (sym c.in_ok-insert.ensures.added ∙ c.if-not-branch.true) c.loop-name.invariant
 
 pub returns : goal.returns

@@ -69,3 +69,7 @@ returns-in-JumpIfFalseOrPop-clause-done g c =
 pub returns-in-JumpIfTrueOrPop-clause-done : goal.returns-in-JumpIfTrueOrPop-clause-done
 returns-in-JumpIfTrueOrPop-clause-done g c =
     rw (c.of-in-JumpIfTrueOrPop.ensures, c.in-JumpIfTrueOrPop.is) (at_once _ _ _ _ _ (c.jump_or_pop_at_once-in-JumpIfTrueOrPop.ensures (g.H.Host.program c.args.host.now).host))
+
+pub returns-in-Not-clause-done : goal.returns-in-Not-clause-done
+returns-in-Not-clause-done g c =
+    rw (c.of-in-Not.ensures, c.in-Not.is) (at_once _ _ _ _ _ (c.not_at_once.ensures (g.H.Host.program c.args.host.now).host))
