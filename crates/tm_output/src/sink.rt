@@ -1,8 +1,9 @@
 //! Writers that know what was written to them, and count their failures.
 ghost use Rattle.std.specs.Prelude.{◌≡◌, ◌<◌, ℕ, List, [], length, Option, None, Ok, IsOk, OnOk, OnErr};
+ghost use Rattle.std.specs.Bool.{OnTrue, OnFalse};
 ghost use Rattle.std.specs.Io.{WritesAtMost};
 ghost use Rattle.std.specs.Io.KnownBytes.{Keeps, WriteAppends, Appends};
-ghost use Rattle.tm_output.specs.Counts.{failure_count, told_of, untold, AppendsBeginning, NoFailure, OneFailure, Told};
+ghost use Rattle.tm_output.specs.Counts.{failure_count, saturating_increment, told_of, untold, AppendsBeginning, NoFailure, OneFailure, Told};
 
 use crate::target::TargetFailed;
 use std::io::{self, Write};
@@ -23,6 +24,27 @@ pub trait Sink {
         ensures bytes { WriteAppends (told self.old).bytes (told self.new).bytes result bytes.now }
         ensures failures { (told self.new).failures
             ≡ failure_count result (told self.old).failures };
+
+    /// Writes all of the bytes, of which there is at least one, each once. False if the writer fails
+    /// or accepts no bytes. Its error isn't returned, which is faster.
+    fn put(&mut self, bytes: &[u8]) -> bool
+        requires { 0 < length bytes.now }
+        ensures written { OnTrue result
+            (Appends (told self.old).bytes (told self.new).bytes bytes.now) }
+        ensures no_fault { OnTrue result (NoFailure (told self.old) (told self.new)) }
+        ensures beginning { AppendsBeginning (told self.old).bytes (told self.new).bytes
+            bytes.now }
+        ensures fault { OnFalse result (OneFailure (told self.old) (told self.new)) }
+    {
+        let mut done = 0;
+        while done < bytes.len() {
+            match self.write(&bytes[done..]) {
+                Ok(0) | Err(_) => return false,
+                Ok(taken) => done += taken,
+            }
+        }
+        true
+    }
 }
 
 /// Any writer, with a count of the calls that failed or accepted no bytes.
@@ -72,6 +94,30 @@ impl<W: Write + Drop> Counted<W> {
         self.inner.flush()
     }
 
+    /// Writes what a call has left of the bytes. False if the writer fails or accepts no bytes.
+    #[inline(never)]
+    fn put_rest(&mut self, bytes: &[u8]) -> bool
+        ensures written { OnTrue result
+            (Appends (W.contents self.old.writer) (W.contents self.new.writer) bytes.now) }
+        ensures no_fault { OnTrue result (self.new.failures ≡ self.old.failures) }
+        ensures beginning { AppendsBeginning (W.contents self.old.writer)
+            (W.contents self.new.writer) bytes.now }
+        ensures fault { OnFalse result
+            (self.new.failures ≡ saturating_increment self.old.failures) }
+    {
+        let mut done = 0;
+        while done < bytes.len() {
+            match self.inner.write(&bytes[done..]) {
+                Ok(0) | Err(_) => {
+                    self.failures = self.failures.saturating_add(1);
+                    return false;
+                }
+                Ok(taken) => done += taken,
+            }
+        }
+        true
+    }
+
     /// The number of calls that failed or accepted no bytes; it saturates at the largest u64.
     pub fn failures(&self) -> u64
         ensures { result ≡ self.now.failures }
@@ -90,6 +136,18 @@ impl<W: Write + Drop> Sink for Counted<W> {
             Ok(_) => {}
         }
         answer
+    }
+
+    /// The first call mostly accepts all of the bytes, so it alone is inlined.
+    #[inline(always)]
+    fn put(&mut self, bytes: &[u8]) -> bool {
+        match self.inner.write(bytes) {
+            Ok(0) | Err(_) => {
+                self.failures = self.failures.saturating_add(1);
+                false
+            }
+            Ok(taken) => taken == bytes.len() || self.put_rest(&bytes[taken..]),
+        }
     }
 }
 
@@ -133,19 +191,11 @@ pub fn put_text<W: Sink>(sink: &mut W, text: &[u8]) -> Result<(), TargetFailed>
     ensures fault { OnErr result (OneFailure (W.told sink.old) (W.told sink.new)) }
     ensures empty { text.now ≡ [] → IsOk result }
 {
-    let mut done = 0;
-    while done < text.len() {
-        match sink.write(&text[done..]) {
-            Ok(taken) => {
-                if taken == 0 {
-                    return Err(TargetFailed);
-                }
-                done += taken;
-            }
-            Err(_error) => return Err(TargetFailed),
-        }
+    if text.is_empty() || sink.put(text) {
+        Ok(())
+    } else {
+        Err(TargetFailed)
     }
-    Ok(())
 }
 
 /// Writes a whole text, each byte once. Returns the writer's error if it fails, or WriteZero if it

@@ -60,6 +60,7 @@ impl<S: Sink> Target for S {
         IsToldInPart (S.told old) text (S.told new) };
 
     /// TargetFailed if the writer fails or accepts no bytes. An empty text makes no call.
+    #[inline(always)]
     fn take_text(&mut self, text: &str) -> Result<(), TargetFailed> {
         put_text(self, text.as_bytes())
     }

@@ -1,8 +1,10 @@
 pub mod Begun
 pub mod Checks
+pub mod Decimals
 pub mod Marked
 pub mod Members
 pub mod Parts
+pub mod Plain
 pub mod Writable
 pub mod Runs
 pub mod Spelled

@@ -1,7 +1,8 @@
 -- A text that is spelled run by run: bytes wait from start on, until one comes that is spelled another way.
-use Rattle.std.proofs.Common.{◌≡◌, ◌≤◌, ◌<◌, ◌+◌, ◌-◌, ◌++◌, ℕ, List, [], ◌∷◌, length, get_or, take, drop, flat_map, length-drop}
+use Rattle.std.proofs.Common.{◌≡◌, ◌≤◌, ◌<◌, ◌+◌, ◌-◌, ◌++◌, ℕ, List, [], ◌∷◌, length, get_or, take, drop, flat_map, length-drop, zero, suc, subst}
 use Rattle.std.proofs.Common.{append-nil, append_assoc, take_all, sym, ap, ◌∙◌, arith}
 use Rattle.std.proofs.lemmas.List.{drop_all, drop_more, take_more, get_or-drop}
+use Rattle.tm_printing.specs.Plain.{PlainBetween}
 
 -- the bytes that wait
 abbrev pub run : List ℕ → ℕ → ℕ → List ℕ
@@ -35,6 +36,22 @@ module _ (spelled : ℕ → List ℕ) (bs : List ℕ) where
       ap (λ (l : List ℕ). run bs start i ++ l) same
       ∙ (sym (append_assoc (run bs start i) (get_or bs i 0 ∷ []) after)
       ∙ ap (λ (l : List ℕ). l ++ after) (sym (waits bs start i le h)))
+
+  -- and so do many
+  plain_more : (n start i : ℕ) → start ≤ i → i + n ≤ length bs → PlainBetween spelled bs i (i + n) →
+      left spelled bs start i ≡ left spelled bs start (i + n)
+  plain_more zero start i le room plain = ap (left spelled bs start) (omega arith)
+  plain_more (suc n) start i le room plain =
+      plain_step start i le (omega arith) (plain i (omega arith) (omega arith))
+      ∙ (plain_more n start (i + 1) (omega arith) (omega arith) (λ k from to. plain k (omega arith) (omega arith))
+      ∙ ap (left spelled bs start) (omega arith))
+
+  pub plain_steps : (start i j : ℕ) → start ≤ i → i ≤ j → j ≤ length bs → PlainBetween spelled bs i j →
+      left spelled bs start i ≡ left spelled bs start j
+  plain_steps start i j le low high plain =
+      let there : i + (j - i) ≡ j = omega arith in
+      let up_to : PlainBetween spelled bs i (i + (j - i)) = subst (PlainBetween spelled bs i) (sym there) plain in
+      plain_more (j - i) start i le (omega arith) up_to ∙ ap (left spelled bs start) there
 
   -- one that doesn't ends the run
   pub spelled_step : (start i : ℕ) → i < length bs →

@@ -10,10 +10,9 @@ ghost use Rattle.tm_definitions.specs.Emitted.{emission_verdict, emitted_text, m
 
 use crate::check::{check_json, check_print};
 use crate::compact::write_json;
+use crate::html::write_html_text;
 use crate::printing::{print, write_html};
 use crate::rest::Unwritten;
-use crate::spelling::Html;
-use crate::text::{write_number, write_spelled};
 use std::alloc::Global;
 use tm_output::{Target, TargetFailed};
 use tm_values::{AutoEscape, Error, ErrorKind, Node, Records, Value};
@@ -80,7 +79,7 @@ pub fn emit_at_once<T: Target>(
         Node::Text(content, true) => Some(target.take_text(content.as_str())),
         Node::Text(content, false) => match escape {
             AutoEscape::None => Some(target.take_text(content.as_str())),
-            AutoEscape::Html => Some(write_spelled::<Html, T>(content.as_str(), target)),
+            AutoEscape::Html => Some(write_html_text(content.as_str(), target)),
             AutoEscape::Json | AutoEscape::Custom(_) => None,
         },
         Node::Number(number) => emit_number_at_once(*number, escape, target),
@@ -99,11 +98,10 @@ fn emit_number_at_once<T: Target>(
         target.old target.new) }
 {
     match escape {
-        AutoEscape::None => {
+        AutoEscape::None | AutoEscape::Html => {
             let mut buffer = itoa::Buffer::new();
             Some(target.take_text(buffer.format(whole)))
         }
-        AutoEscape::Html => Some(write_number::<Html, T>(whole, target)),
         AutoEscape::Json | AutoEscape::Custom(_) => None,
     }
 }

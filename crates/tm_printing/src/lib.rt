@@ -5,6 +5,7 @@ mod check;
 mod compact;
 mod concatenation;
 mod emission;
+mod html;
 mod printing;
 mod rest;
 mod rows;

@@ -292,5 +292,5 @@ fn write_count<E: Escape, T: Target>(count: usize, target: &mut T) -> Result<(),
         (flat_map E.spelled (decimal count)) target.new }
 {
     let mut buffer = itoa::Buffer::new();
-    write_spelled::<E, T>(buffer.format(count), target)
+    target.take_text(buffer.format(count))
 }

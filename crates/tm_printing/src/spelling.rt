@@ -2,6 +2,7 @@
 ghost use Rattle.std.specs.Prelude.{◌≡◌, ◌<◌, ℕ, List, [], ◌∷◌, IfSome, MatchOption, flat_map, refl};
 ghost use Rattle.json.specs.Print.{escape_byte};
 ghost use Rattle.tm_definitions.specs.Texts.{as_is, as_is_quoted, in_html, within_quotes};
+ghost use Rattle.tm_printing.specs.Decimals.{KeepsDecimals, as_is_keeps_decimals, html_keeps_decimals};
 
 /// The spelling of each byte of a text.
 pub trait Spelling {
@@ -23,6 +24,9 @@ pub trait Escape: Spelling {
     // Within quotes a byte is quoted first, and the result is escaped.
     ghost quoted_first: { (b : ℕ) →
         Self.Within.spelled b ≡ flat_map Self.spelled (within_quotes b) };
+
+    // A decimal number is never escaped, so it is written without a look at its bytes.
+    ghost decimals_kept: { KeepsDecimals Self.spelled };
 }
 
 /// Each byte unchanged.
@@ -100,12 +104,16 @@ impl Escape for Verbatim {
     type Within = Quoted;
 
     ghost quoted_first = { as_is_quoted };
+
+    ghost decimals_kept = { as_is_keeps_decimals };
 }
 
 impl Escape for Html {
     type Within = HtmlQuoted;
 
     ghost quoted_first = { λ b. refl };
+
+    ghost decimals_kept = { html_keeps_decimals };
 }
 
 /// A JSON string, as `serde_json` writes it.

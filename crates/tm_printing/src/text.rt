@@ -43,11 +43,11 @@ pub fn write_json_text<T: Target>(text: &str, target: &mut T) -> Result<(), Targ
     target.take_text("\"")
 }
 
-/// Writes the number in decimal, escaped. TargetFailed if the target fails.
+/// Writes the number in decimal, escaped: no escape changes it. TargetFailed if the target fails.
 pub fn write_number<E: Escape, T: Target>(number: i128, target: &mut T) -> Result<(), TargetFailed>
     ensures { Takes T.took T.stopped result target.old
         (flat_map E.spelled (signed_decimal number)) target.new }
 {
     let mut buffer = itoa::Buffer::new();
-    write_spelled::<E, T>(buffer.format(number), target)
+    target.take_text(buffer.format(number))
 }
